@@ -1,0 +1,27 @@
+-- TP-Data-Coding-Scheme (TS 23.038 §4) and TP-User-Data-Length (TS 23.040 §9.2.3.16).
+use Prim.Native.Nat.{ℕ, _+_, _*_, _/_, _%_}
+use mathlib.Core.Bool.{Bool, true, false}
+use lib.Dec.{eqb, leb}
+use Rattle.octets.specs.Choice.{if_then_else_}
+use Rattle.coding.specs.declared.UserDataCoding.{UserDataCoding}
+use Rattle.coding.specs.declared.UserDataCoding.the-variants.{Gsm7Bit, EightBit, Ucs2, Compressed}
+
+-- the character set in bits 3 and 2: 01 8-bit, 10 UCS2, others 7-bit
+unfoldable pub characterSet : ℕ → UserDataCoding
+characterSet bits = if eqb bits 1 then EightBit else if eqb bits 2 then Ucs2 else Gsm7Bit
+
+-- by the high half: 0 to 7 compressed if bit 5 is set, else the character set; 8 to D 7-bit; E UCS2; F 8-bit if bit 2 is set, else 7-bit
+unfoldable pub codingOf : ℕ → UserDataCoding
+codingOf dcs =
+    if leb (dcs / 16) 7 then (if eqb (dcs / 32 % 2) 1 then Compressed else characterSet (dcs / 4 % 4))
+    else if leb (dcs / 16) 0xd then Gsm7Bit
+    else if eqb (dcs / 16) 0xe then Ucs2
+    else if eqb (dcs / 4 % 2) 1 then EightBit
+    else Gsm7Bit
+
+-- the octets that user data take: UDL counts septets in 7-bit coding, ceil(7 × UDL / 8) octets, and octets in the others
+unfoldable pub dataOctets : UserDataCoding → ℕ → ℕ
+dataOctets Gsm7Bit udl = (udl * 7 + 7) / 8
+dataOctets EightBit udl = udl
+dataOctets Ucs2 udl = udl
+dataOctets Compressed udl = udl

@@ -1,0 +1,48 @@
+// TP-Data-Coding-Scheme (TS 23.038 §4), and what TP-User-Data-Length counts.
+ghost use mathlib.Core.Path.{_≡_};
+ghost use Rattle.coding.specs.Coding.{codingOf, dataOctets};
+
+pub enum UserDataCoding {
+    Gsm7Bit,
+    EightBit,
+    Ucs2,
+    Compressed,
+}
+
+// The coding that a TP-DCS octet announces.
+pub fn user_data_coding(dcs: u8) -> UserDataCoding
+    ensures { λ r. ⌜ r ≡ codingOf dcs ⌝ }
+{
+    let high = dcs / 16;
+    match high {
+        0..=7 => {
+            if dcs / 32 % 2 == 1 {
+                return UserDataCoding::Compressed;
+            }
+            match dcs / 4 % 4 {
+                1 => UserDataCoding::EightBit,
+                2 => UserDataCoding::Ucs2,
+                _ => UserDataCoding::Gsm7Bit,
+            }
+        }
+        8..=0xD => UserDataCoding::Gsm7Bit,
+        0xE => UserDataCoding::Ucs2,
+        _ => {
+            if dcs / 4 % 2 == 1 {
+                UserDataCoding::EightBit
+            } else {
+                UserDataCoding::Gsm7Bit
+            }
+        }
+    }
+}
+
+// The octets of a TP-User-Data whose TP-User-Data-Length is `length`.
+pub fn user_data_octets(coding: UserDataCoding, length: u8) -> usize
+    ensures { λ r. ⌜ r ≡ dataOctets coding length ⌝ }
+{
+    match coding {
+        UserDataCoding::Gsm7Bit => (length as usize * 7 + 7) / 8,
+        _ => length as usize,
+    }
+}

@@ -1,0 +1,72 @@
+-- Arrays that are filled in order, and lent buffers.
+-- Assumes nothing.
+use Prim.Native.Nat.{ℕ, zero, suc, _+_, _-_, _<_, _≤_}
+use mathlib.Core.Path.{_≡_, refl, sym, ap, _∙_}
+use mathlib.Core.List.{List, [], _∷_, _++_}
+use native.Mathlib.Omega.{arith}
+use native.Mathlib.Nat.{add-zero, zero-add, sub-zero, zero-sub, suc-sub-suc, add-suc, suc-add}
+use native.Mathlib.Numerals.{add-one}
+use borrow.Author.Tests.{le-leb, lt-leb}
+use lib.ListN.{length, take, drop, getD, set, replicate, length-append, length-replicate, drop-of-length-le}
+use lib.Seq.{sets, sets-eq, drop-cons, take-at}
+use Rattle.octets.specs.declared.Refusal.{Refusal}
+use Rattle.octets.specs.declared.Refusal.the-variants.{OutputTooShort}
+use Rattle.octets.specs.Arrays.{pad}
+use Rattle.octets.specs.Lent.{Making, refused, made, lend, Wrote}
+
+-- ---- storing one list after the other
+
+pub sets-append : (xs ys l : List ℕ) (i : ℕ) → sets (sets l i xs) (i + length xs) ys ≡ sets l i (xs ++ ys)
+sets-append [] ys l i = rw add-zero
+sets-append (x ∷ xs) ys l i = rw (add-suc, ← suc-add) (sets-append xs ys (set l i x) (suc i))
+
+drop-zeros : (k n : ℕ) → drop {A = ℕ} k (replicate n 0) ≡ replicate (n - k) 0
+drop-zeros zero n = rw sub-zero
+drop-zeros (suc k) zero = rw zero-sub
+drop-zeros (suc k) (suc n) = rw suc-sub-suc (drop-zeros k n)
+
+-- from the start of a buffer that is long enough
+pub sets-start : (xs l : List ℕ) → length xs ≤ length l → sets l 0 xs ≡ xs ++ drop (length xs) l
+sets-start xs l h = let e : 0 + length xs ≤ length l = rw zero-add h in sets-eq xs l 0 e ∙ rw zero-add
+
+-- from the start of an array of zeros
+pub sets-zeros : (n : ℕ) (xs : List ℕ) → length xs ≤ n → sets (replicate n 0) 0 xs ≡ pad n xs
+unfolding pad
+sets-zeros n xs h = sets-start xs (replicate n 0) (rw length-replicate h) ∙ rw drop-zeros
+
+-- what lies before the length of a padded array
+pub take-pad : (n : ℕ) (xs : List ℕ) → take (length xs) (pad n xs) ≡ xs
+unfolding pad
+take-pad n xs = take-at xs _ (length xs) refl
+
+-- a loop that stores xs from `at` on: the rest, stored too, still gives the whole
+module _ (xs : List ℕ) (at i : ℕ) (whole l : List ℕ) (inv : sets l (at + i) (drop i xs) ≡ whole) where
+  pub store-next : i < length xs → sets (set l (at + i) (getD xs i 0)) (at + (i + 1)) (drop (i + 1) xs) ≡ whole
+  store-next h = let e : at + (i + 1) ≡ suc (at + i) = omega arith in rw (e, add-one) (rw (drop-cons xs i 0 h) at inv)
+
+  pub store-end : length xs ≤ i → l ≡ whole
+  store-end h = rw (drop-of-length-le xs h) at inv
+
+-- ---- parts of a writer, one after the other
+
+pub wrote-then : {at mid next : ℕ} {xs ys l m n : List ℕ} → Wrote at xs l mid m → Wrote mid ys m next n → Wrote at (xs ++ ys) l next n
+wrote-then {at} {mid} {next} {xs} {ys} {l} first second = record {
+  place = second .place ∙ rw (first .place, length-append) (omega arith);
+  list = second .list ∙ rw (first .list, first .place, sets-append xs ys l at);
+}
+
+-- ---- the three ways in which a writer ends
+
+module _ {A : Type 0} (blank : Refusal → A) {m : Making A} (l : List ℕ) where
+  pub lent-refused : (r : Refusal) → m ≡ refused r → _≡_ {A = A × List ℕ} (blank r, l) (lend blank m l)
+  unfolding lend
+  lent-refused r e = rw e
+
+  module _ {xs : List ℕ} {a : A} (e : m ≡ made xs a) where
+    pub lent-short : length l < length xs → _≡_ {A = A × List ℕ} (blank OutputTooShort, l) (lend blank m l)
+    unfolding lend
+    lent-short h = rw (e, lt-leb (length xs) (length l) h)
+
+    pub lent-done : {l′ : List ℕ} → length xs ≤ length l → l′ ≡ sets l 0 xs → _≡_ {A = A × List ℕ} (a, l′) (lend blank m l)
+    unfolding lend
+    lent-done h p = rw (e, le-leb (length xs) (length l) h, p, sets-start xs l h)

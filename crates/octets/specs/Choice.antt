@@ -1,0 +1,8 @@
+-- A choice by a test.
+use mathlib.Core.Bool.{Bool, true, false}
+
+infixr 5 if_then_else_
+-- the first where the test holds, else the second
+abbrev pub if_then_else_ {ℓ} : {A : Type ℓ} → Bool → A → A → A
+if true then a else b = a
+if false then a else b = b

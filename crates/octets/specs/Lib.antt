@@ -1,0 +1,4 @@
+pub mod Choice
+pub mod Refusals
+pub mod Arrays
+pub mod Lent

@@ -1,0 +1,52 @@
+-- The refusals, by the number that document 01 gives each ("Refused, by number").
+use Prim.Native.Nat.{ℕ}
+use Rattle.octets.specs.declared.Refusal.{Refusal}
+use Rattle.octets.specs.declared.Refusal.the-variants.{LengthTooLarge, OctetsEnd, WrongMessageType, UdhiTooLarge, ValidityFormatDisagrees, NoDestination, UserDataLengthDisagrees, UserDataTooLong, NumberTypeOrPlanTooLarge, NotInAlphabet, AddressTooLong, NotATime, IndicatorDisagrees, IndicatorExtended, UserDataWithoutLength, ParametersWithoutIndicator, HeaderNotWhole, HeaderPassesCount, TooFewOctets, CalendarOutOfRange, ZoneOutOfRange, TooManySeptets, OutputTooShort}
+
+abbrev pub refusalNumber : Refusal → ℕ
+-- a record's length field passes its array, or a text reader's count passes 255
+refusalNumber LengthTooLarge = 1
+-- the octets end inside a field
+refusalNumber OctetsEnd = 2
+-- TP-MTI isn't the kind's
+refusalNumber WrongMessageType = 3
+-- SUBMIT-REPORT's UDHI field passes 1
+refusalNumber UdhiTooLarge = 4
+-- VPF disagrees with the validity period held
+refusalNumber ValidityFormatDisagrees = 5
+-- SUBMIT has no destination
+refusalNumber NoDestination = 6
+-- user data length disagrees with UDL and DCS
+refusalNumber UserDataLengthDisagrees = 7
+-- user data pass 140 octets
+refusalNumber UserDataTooLong = 8
+-- type of number passes 7 or plan passes 15
+refusalNumber NumberTypeOrPlanTooLarge = 9
+-- a character isn't in the alphabet used, or isn't UTF-8
+refusalNumber NotInAlphabet = 10
+-- the address value passes 10 octets
+refusalNumber AddressTooLong = 11
+-- a time isn't 14 hexadecimal digits
+refusalNumber NotATime = 12
+-- indicator and parameters held disagree
+refusalNumber IndicatorDisagrees = 13
+-- indicator bit 7 is set in writing
+refusalNumber IndicatorExtended = 14
+-- user data are held without UDL
+refusalNumber UserDataWithoutLength = 15
+-- STATUS-REPORT holds parameters or user data without indicator
+refusalNumber ParametersWithoutIndicator = 16
+-- the header is empty, longer than the data, or, in packing, not as long as its first octet says
+refusalNumber HeaderNotWhole = 17
+-- the header takes more septets than counted
+refusalNumber HeaderPassesCount = 18
+-- octets are too few for fill bits and septets
+refusalNumber TooFewOctets = 19
+-- a calendar value is out of range
+refusalNumber CalendarOutOfRange = 20
+-- the zone passes 79 either way
+refusalNumber ZoneOutOfRange = 21
+-- header and text take more than 255 septets
+refusalNumber TooManySeptets = 22
+-- a lent output is too short
+refusalNumber OutputTooShort = 23

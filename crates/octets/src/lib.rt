@@ -1,0 +1,96 @@
+// What all parts of the codec share: the refusals, arrays with a length, and writing to a lent buffer.
+ghost use mathlib.Core.Path.{_≡_};
+ghost use Prim.Native.Nat.{_+_, _≤_};
+ghost use lib.ListN.{length};
+ghost use Rattle.octets.specs.Refusals.{refusalNumber};
+ghost use Rattle.octets.specs.Arrays.{pad};
+ghost use Rattle.octets.specs.Lent.{Wrote};
+
+// Why an input is not taken.
+pub enum Refusal {
+    LengthTooLarge,
+    OctetsEnd,
+    WrongMessageType,
+    UdhiTooLarge,
+    ValidityFormatDisagrees,
+    NoDestination,
+    UserDataLengthDisagrees,
+    UserDataTooLong,
+    NumberTypeOrPlanTooLarge,
+    NotInAlphabet,
+    AddressTooLong,
+    NotATime,
+    IndicatorDisagrees,
+    IndicatorExtended,
+    UserDataWithoutLength,
+    ParametersWithoutIndicator,
+    HeaderNotWhole,
+    HeaderPassesCount,
+    TooFewOctets,
+    CalendarOutOfRange,
+    ZoneOutOfRange,
+    TooManySeptets,
+    OutputTooShort,
+}
+
+impl Refusal {
+    // The number that a log line and a caller in another language see.
+    pub fn number(self) -> u8
+        ensures { λ r. ⌜ r ≡ refusalNumber self ⌝ }
+    {
+        match self {
+            Refusal::LengthTooLarge => 1,
+            Refusal::OctetsEnd => 2,
+            Refusal::WrongMessageType => 3,
+            Refusal::UdhiTooLarge => 4,
+            Refusal::ValidityFormatDisagrees => 5,
+            Refusal::NoDestination => 6,
+            Refusal::UserDataLengthDisagrees => 7,
+            Refusal::UserDataTooLong => 8,
+            Refusal::NumberTypeOrPlanTooLarge => 9,
+            Refusal::NotInAlphabet => 10,
+            Refusal::AddressTooLong => 11,
+            Refusal::NotATime => 12,
+            Refusal::IndicatorDisagrees => 13,
+            Refusal::IndicatorExtended => 14,
+            Refusal::UserDataWithoutLength => 15,
+            Refusal::ParametersWithoutIndicator => 16,
+            Refusal::HeaderNotWhole => 17,
+            Refusal::HeaderPassesCount => 18,
+            Refusal::TooFewOctets => 19,
+            Refusal::CalendarOutOfRange => 20,
+            Refusal::ZoneOutOfRange => 21,
+            Refusal::TooManySeptets => 22,
+            Refusal::OutputTooShort => 23,
+        }
+    }
+}
+
+// How a public function ended.
+pub enum Outcome {
+    Done,
+    Refused(Refusal),
+}
+
+// Writes octets from `at` on; the place behind them.
+pub fn put_octets(out: &mut [u8], at: usize, octets: &[u8]) -> usize
+    requires { ⌜ at + length (now octets) ≤ length (now out) ⌝ }
+    ensures { λ r. ⌜ Wrote at (now (octets .entry)) (now (out .entry)) r (now (out .exit)) ⌝ }
+{
+    let mut i = 0;
+    while i < octets.len() {
+        out[at + i] = octets[i];
+        i += 1;
+    }
+    at + octets.len()
+}
+
+// The octets in an array of user data or of a header, with zeros behind them.
+pub fn stored_octets(octets: &[u8]) -> [u8; 255]
+    requires { ⌜ length (now octets) ≤ 255 ⌝ }
+    ensures { λ r. ⌜ r ≡ pad 255 (now (octets .entry)) ⌝ }
+{
+    let mut array = [0u8; 255];
+    put_octets(&mut array, 0, octets);
+    array
+}
