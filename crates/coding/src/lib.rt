@@ -43,6 +43,8 @@ pub fn user_data_octets(coding: UserDataCoding, length: u8) -> usize
 {
     match coding {
         UserDataCoding::Gsm7Bit => (length as usize * 7 + 7) / 8,
-        _ => length as usize,
+        UserDataCoding::EightBit => length as usize,
+        UserDataCoding::Ucs2 => length as usize,
+        UserDataCoding::Compressed => length as usize,
     }
 }
