@@ -1,0 +1,45 @@
+-- `septets::septet_at` meets its contract: seven bits lie in the octet of the first one and the next.
+-- Assumes nothing.
+use Prim.Native.Nat.{ℕ, _+_, _*_, _/_, _<_}
+use mathlib.Core.Path.{_≡_, sym}
+use native.Mathlib.Omega.{arith}
+use borrow.Author.Needs.{needs}
+use denote.Ref.{now}
+use Rattle.septets.specs.Septets.{septetAt}
+use Rattle.septets.proofs.Number.{in-two}
+use Rattle.septets.proofs.septet_at.Statement.{statement}
+use Rattle.septets.proofs.septet_at.Tie as tie
+
+mul-pair : tie.Need-mul-pair
+mul-pair c =
+    let high : c .octet-or-zero2 .result < 256 = rw (c .octet-or-zero2 .ensures) (c .before .before .shared-slice-known .given _ .fits) in
+    omega arith
+
+add-pair : tie.Need-add-pair
+add-pair c =
+    let low : c .before .octet-or-zero .result < 256 = rw (c .before .octet-or-zero .ensures) (c .before .before .shared-slice-known .given _ .fits) in
+    let high : c .octet-or-zero2 .result < 256 = rw (c .octet-or-zero2 .ensures) (c .before .before .shared-slice-known .given _ .fits) in
+    omega arith
+
+returns : tie.Need-returns
+unfolding septetAt
+returns c =
+    let a = c .before .before .before .args in
+    rw (c .octet-or-zero2 .ensures, c .before .octet-or-zero .ensures)
+    (sym (in-two 8 7 (omega arith) (omega arith) (now (a .octets)) (λ i. c .before .before .shared-slice-known .given i .fits) (a .fill + a .index * 7)))
+
+pub septet-at-spec : {M : Type 1} → statement M
+septet-at-spec =
+    tie.close
+    (tie.spec
+    (λ c. search needs)
+    (λ c. search needs)
+    (λ c κs. tt)
+    (λ c. search needs)
+    (λ c κs. tt)
+    mul-pair
+    add-pair
+    (λ c. search needs)
+    (λ c. search needs)
+    (λ c. search needs)
+    returns)

@@ -1,0 +1,22 @@
+use denote.Ref.{now}
+use mathlib.Core.Path.{sym, _∙_}
+use Rattle.septets.proofs.Number.{getD-before}
+use borrow.Author.Needs.{needs}
+use Rattle.septets.proofs.septet_before.Statement.{statement}
+use Rattle.septets.proofs.septet_before.Tie as tie
+
+sub-octet-or-zero : tie.Need-sub-octet-or-zero
+sub-octet-or-zero c = search needs
+
+octet-or-zero-requires : tie.Need-octet-or-zero-requires
+octet-or-zero-requires c κs = search needs
+
+returns : tie.Need-returns
+returns c = search needs
+
+returns-2 : tie.Need-returns-2
+returns-2 c = c .octet-or-zero .ensures ∙ sym (getD-before (now (c .before .before .before .args .septets)) _ (c .before .if1 .left))
+
+pub septet-before-spec : {M : Type 1} → statement M
+septet-before-spec =
+    tie.close (tie.spec sub-octet-or-zero octet-or-zero-requires returns returns-2)

@@ -1,0 +1,87 @@
+// Septets in octets (TS 23.038 §6.1.2.1.1).
+ghost use mathlib.Core.Path.{_≡_};
+ghost use Prim.Native.Nat.{_+_, _*_, _/_, _%_, _^_, _<_, _≤_};
+ghost use mathlib.Core.List.{[], _∷_};
+ghost use lib.ListN.{length, getD};
+ghost use Rattle.octets.specs.Lent.{Wrote};
+ghost use Rattle.septets.specs.Septets.{Digits, septetAt, octetCount, packedSeptets, headerSeptets};
+
+// The octet at `at`, 0 behind the end.
+pub fn octet_or_zero(octets: &[u8], at: usize) -> u16
+    ensures { λ r. ⌜ r ≡ getD (now (octets .entry)) at 0 ⌝ }
+{
+    if at < octets.len() {
+        octets[at] as u16
+    } else {
+        0
+    }
+}
+
+// The septet at `index`, counting from `fill` bits into `octets`.
+pub fn septet_at(octets: &[u8], fill: usize, index: usize) -> u8
+    requires { ⌜ (fill < 8) × (index < 256) ⌝ }
+    ensures { λ r. ⌜ r ≡ septetAt (now (octets .entry)) fill index ⌝ }
+{
+    let bit = fill + index * 7;
+    let at = bit / 8;
+    let shift = bit % 8;
+    let low = octet_or_zero(octets, at);
+    let high = octet_or_zero(octets, at + 1);
+    let pair = high * 256 + low;
+    ((pair >> shift) % 128) as u8
+}
+
+// The septets that a user-data header of so many octets takes, fill bits included (TS 23.040 §9.2.3.24).
+pub fn header_septets(octets: usize) -> usize
+    requires { ⌜ octets ≤ 256 ⌝ }
+    ensures { λ r. ⌜ r ≡ headerSeptets octets ⌝ }
+{
+    (octets * 8 + 6) / 7
+}
+
+// The septet before place `at`: 0 at the start and behind the end.
+fn septet_before(septets: &[u8], at: usize) -> u16
+    ensures { λ r. ⌜ r ≡ getD (0 ∷ now (septets .entry)) at 0 ⌝ }
+{
+    if at == 0 {
+        0
+    } else {
+        octet_or_zero(septets, at - 1)
+    }
+}
+
+// Eight bits of two neighbouring septets, from bit `shift` on.
+fn eight_bits(low: u16, high: u16, shift: usize) -> u8
+    requires { ⌜ (low < 128) × (high < 128) × (shift < 7) ⌝ }
+    ensures { λ r. ⌜ r ≡ (high * 2 ^ 7 + low) / 2 ^ shift % 2 ^ 8 ⌝ }
+{
+    let pair = high * 128 + low;
+    ((pair >> shift) % 256) as u8
+}
+
+// Packs the septets behind `fill` zero bits, with zero bits to the octet, from `at` on; the place behind them.
+pub fn pack_octets(septets: &[u8], fill: usize, out: &mut [u8], at: usize) -> usize
+    requires { ⌜ (fill < 8) × (length (now septets) ≤ 255) × Digits 7 (now septets) × (at + octetCount fill (length (now septets)) ≤ length (now out)) ⌝ }
+    ensures { λ r. ⌜ Wrote at (packedSeptets fill (now (septets .entry))) (now (out .entry)) r (now (out .exit)) ⌝ }
+{
+    let n = (fill + septets.len() * 7 + 7) / 8;
+    let mut index = (7 - fill) / 7;
+    let mut shift = (7 - fill) % 7;
+    let mut low = septet_before(septets, index);
+    let mut j = 0;
+    while j < n {
+        let high = septet_before(septets, index + 1);
+        out[at + j] = eight_bits(low, high, shift);
+        j += 1;
+        if shift < 6 {
+            index += 1;
+            shift += 1;
+            low = high;
+        } else {
+            index += 2;
+            shift = 0;
+            low = septet_before(septets, index);
+        }
+    }
+    at + n
+}
