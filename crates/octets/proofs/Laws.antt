@@ -5,10 +5,9 @@ use mathlib.Core.Path.{_≡_, refl, sym, ap, _∙_}
 use mathlib.Core.List.{List, [], _∷_, _++_}
 use native.Mathlib.Omega.{arith}
 use native.Mathlib.Nat.{add-zero, zero-add, sub-zero, zero-sub, suc-sub-suc, add-suc, suc-add}
-use native.Mathlib.Numerals.{add-one}
 use borrow.Author.Tests.{le-leb, lt-leb}
-use lib.ListN.{length, take, drop, getD, set, replicate, length-append, length-replicate, drop-of-length-le}
-use lib.Seq.{sets, sets-eq, drop-cons, take-at}
+use lib.ListN.{length, take, drop, set, replicate, length-append, length-replicate}
+use lib.Seq.{sets, sets-eq, take-at}
 use Rattle.octets.specs.declared.Refusal.{Refusal}
 use Rattle.octets.specs.declared.Refusal.the-variants.{OutputTooShort}
 use Rattle.octets.specs.Arrays.{pad}
@@ -39,13 +38,28 @@ pub take-pad : (n : ℕ) (xs : List ℕ) → take (length xs) (pad n xs) ≡ xs
 unfolding pad
 take-pad n xs = take-at xs _ (length xs) refl
 
--- a loop that stores xs from `at` on: the rest, stored too, still gives the whole
-module _ (xs : List ℕ) (at i : ℕ) (whole l : List ℕ) (inv : sets l (at + i) (drop i xs) ≡ whole) where
-  pub store-next : i < length xs → sets (set l (at + i) (getD xs i 0)) (at + (i + 1)) (drop (i + 1) xs) ≡ whole
-  store-next h = let e : at + (i + 1) ≡ suc (at + i) = omega arith in rw (e, add-one) (rw (drop-cons xs i 0 h) at inv)
+-- ---- storing piece by piece: with `rest` stored from `at` on, the list is `whole`, and the place behind is `end`
 
-  pub store-end : length xs ≤ i → l ≡ whole
-  store-end h = rw (drop-of-length-le xs h) at inv
+pub record Left (whole : List ℕ) (end : ℕ) (l : List ℕ) (at : ℕ) (rest : List ℕ) : Type 0 where
+  pub place : at + length rest ≡ end
+  pub list : sets l at rest ≡ whole
+
+pub left-start : (l : List ℕ) (at : ℕ) (xs : List ℕ) → Left (sets l at xs) (at + length xs) l at xs
+left-start l at xs = record { place = refl; list = refl }
+
+pub left-step : {whole : List ℕ} {end : ℕ} {l : List ℕ} {at : ℕ} {rest xs : List ℕ} {next : ℕ} {after : List ℕ} (rest′ : List ℕ)
+    → Left whole end l at rest → Wrote at xs l next after → rest ≡ xs ++ rest′ → Left whole end after next rest′
+left-step {l = l} {at} {rest} {xs} rest′ left wrote e = record {
+  place = rw (wrote .place) (omega (arith, left .place, simp length-append at (ap length e)));
+  list = rw (wrote .place, wrote .list, sets-append xs rest′ l at, ← e) (left .list);
+}
+
+pub left-end : {whole : List ℕ} {end : ℕ} {l : List ℕ} {at : ℕ} {rest : List ℕ} → Left whole end l at rest → rest ≡ [] → (at ≡ end) × (l ≡ whole)
+left-end {l = l} {at} left e = (sym (add-zero at) ∙ rw e at (left .place), rw e at (left .list))
+
+-- one octet stored
+pub wrote-one : (at x : ℕ) (l : List ℕ) → Wrote at (x ∷ []) l (at + 1) (set l at x)
+wrote-one at x l = record { place = refl; list = refl }
 
 -- ---- parts of a writer, one after the other
 

@@ -1,19 +1,20 @@
--- `octets::put_octets` meets its contract: what is left of the octets, stored too, still gives the whole.
+-- `octets::put_octets` meets its contract: what is left of the octets is stored one by one.
 -- Assumes nothing.
 use Prim.Native.Nat.{_+_, _-_, _≤_}
+use mathlib.Core.Path.{_≡_, refl, sym}
 use native.Mathlib.Omega.{arith}
-use mathlib.Core.Path.{_≡_, refl}
-use borrow.Author.Needs.{needs}
+use native.Mathlib.Nat.{add-zero, add-assoc}
+use native.Mathlib.Numerals.{add-one}
 use denote.Ref.{now}
-use lib.ListN.{length, drop, length-set}
-use lib.Seq.{sets}
-use native.Mathlib.Nat.{add-zero}
-use Rattle.octets.proofs.Laws.{store-next, store-end}
+use lib.ListN.{length, drop, length-set, drop-of-length-le}
+use lib.Seq.{sets, drop-cons}
+use Rattle.octets.proofs.Laws.{Left, left-start, left-step, left-end, wrote-one}
 use Rattle.octets.proofs.put_octets.Statement.{statement}
 use Rattle.octets.proofs.put_octets.Tie as tie
 
 abbrev Inv-loop : tie.InvT-loop
-Inv-loop out₀ at octets i₀ out i = (i ≤ length octets) × (length out ≡ length out₀) × (sets out (at + i) (drop i octets) ≡ sets out₀ at octets)
+Inv-loop out₀ at octets i₀ out i =
+    (i ≤ length octets) × (length out ≡ length out₀) × Left (sets out₀ at octets) (at + length octets) out (at + i) (drop i octets)
 
 abbrev μ-loop : tie.MeasureT-loop
 μ-loop out₀ at octets i₀ out i = length octets - i
@@ -21,14 +22,10 @@ abbrev μ-loop : tie.MeasureT-loop
 loop-again : tie.Need-loop-again Inv-loop μ-loop
 loop-again c =
     let l = c .before .before .loop in
-    let a = c .before .before .before .args in
-    (omega arith, simp length-set (l .inv .1), store-next (now (a .octets)) (a .at) (l .i) _ (l .out) (l .inv .2) (c .before .loop-test .taken))
+    (omega arith, simp length-set (l .inv .1), rw (← add-assoc) (left-step _ (l .inv .2) (wrote-one _ _ _) (rw add-one (drop-cons _ (l .i) 0 (c .before .loop-test .taken)))))
 
 returns : tie.Need-returns Inv-loop μ-loop
-returns c =
-    let l = c .before .loop in
-    let a = c .before .before .args in
-    record { place = refl; list = store-end (now (a .octets)) (a .at) (l .i) _ (l .out) (l .inv .2) (c .loop-test .left) }
+returns c = record { place = refl; list = left-end (c .before .loop .inv .2) (drop-of-length-le _ (c .loop-test .left)) .1 }
 
 pub put-octets-spec : {M : Type 1} → statement M
 put-octets-spec =
@@ -36,7 +33,7 @@ put-octets-spec =
     (tie.spec
     Inv-loop
     μ-loop
-    (λ c. (omega arith, refl, rw add-zero))
+    (λ c. (omega arith, refl, rw add-zero (left-start _ _ _)))
     (λ c. omega arith)
     (λ c. omega arith)
     (λ c. omega arith)

@@ -4,13 +4,14 @@ use Prim.Native.Nat.{ℕ, suc, _+_, _*_, _-_, _/_, _%_, _^_, _<_, _≤_}
 use mathlib.Core.Path.{_≡_, refl, sym, _∙_}
 use mathlib.Core.List.{List, [], _∷_}
 use native.Mathlib.Omega.{arith}
-use native.Mathlib.Nat.{add-zero}
+use native.Mathlib.Nat.{add-zero, add-assoc}
 use native.Mathlib.Numerals.{add-one}
 use borrow.Author.Needs.{needs}
 use denote.Ref.{now}
 use lib.ListN.{length, getD, set, length-set}
 use lib.Seq.{sets}
-use Rattle.septets.specs.Septets.{Digits, packedSeptets, digitsOf, numberOf}
+use Rattle.octets.proofs.Laws.{Left, left-start, left-step, left-end, wrote-one}
+use Rattle.septets.specs.Septets.{packedSeptets, digitsOf, numberOf}
 use Rattle.septets.proofs.Number.{rest-start, rest-step, rest-end, digits-zero, octet-at}
 use Rattle.septets.proofs.Inverse.{length-packed}
 use Rattle.septets.proofs.pack_octets.Statement.{statement}
@@ -27,7 +28,7 @@ left ss f n j = digitsOf 8 (n - j) (numberOf 7 ss * 2 ^ f / 2 ^ (j * 8))
 abbrev Inv-loop : tie.InvT-loop
 Inv-loop septets fill out₀ at n index₀ shift₀ low₀ j₀ out index shift low j =
     (j ≤ n) × (length out ≡ length out₀) × (index * 7 + shift + fill ≡ j * 8 + 7) × (shift < 7) × (low ≡ getD (0 ∷ septets) index 0)
-    × (sets out (at + j) (left septets fill n j) ≡ sets out₀ at (digitsOf 8 n (numberOf 7 septets * 2 ^ fill)))
+    × Left (sets out₀ at (packedSeptets fill septets)) (at + length (packedSeptets fill septets)) out (at + j) (left septets fill n j)
 
 abbrev μ-loop : tie.MeasureT-loop
 μ-loop septets fill out₀ at n index₀ shift₀ low₀ j₀ out index shift low j = n - j
@@ -42,21 +43,20 @@ Place =
     Inv-loop
     μ-loop
 
--- it is the next of the packed ones
-stored : (c : Place) (n : ℕ) (whole : List ℕ) →
+-- it is the next of the packed ones, and is stored
+stored : (c : Place) (n : ℕ) {whole : List ℕ} {end : ℕ} →
     let a = c .before .before .before .before .before .before .before .args in
     let l = c .before .before .before .loop in
-    l .j < n → sets (l .out) (a .at + l .j) (left (now (a .septets)) (a .fill) n (l .j)) ≡ whole
-    → sets (set (l .out) (a .at + l .j) (c .eight-bits .result)) (a .at + (l .j + 1)) (left (now (a .septets)) (a .fill) n (l .j + 1)) ≡ whole
-stored c n whole h inv =
+    l .j < n → Left whole end (l .out) (a .at + l .j) (left (now (a .septets)) (a .fill) n (l .j))
+    → Left whole end (set (l .out) (a .at + l .j) (c .eight-bits .result)) (a .at + (l .j + 1)) (left (now (a .septets)) (a .fill) n (l .j + 1))
+stored c n h inv =
     let a = c .before .before .before .before .before .before .before .args in
     let p = c .before .before .before .before .before .before .before .pre in
     let l = c .before .before .before .loop in
     let x = numberOf 7 (now (a .septets)) * 2 ^ a .fill in
     let octet : c .eight-bits .result ≡ x / 2 ^ (l .j * 8) % 2 ^ 8 =
     c .eight-bits .ensures ∙ rw (c .before .septet-before2 .ensures, l .inv .4) (sym (octet-at (now (a .septets)) (p .2) (a .fill) (l .j) (l .index) (l .shift) (p .0) (l .inv .3) (l .inv .2))) in
-    let e : a .at + (l .j + 1) ≡ suc (a .at + l .j) = omega arith in
-    rw (e, add-one, octet) (rw (rest-step 8 n x (l .j) h) at inv)
+    rw (← add-assoc) (left-step _ inv (wrote-one _ _ _) (rw (octet, add-one) (rest-step 8 n x (l .j) h)))
 
 eight-bits-requires : tie.Need-eight-bits-requires Inv-loop μ-loop
 eight-bits-requires c κs =
@@ -67,22 +67,26 @@ eight-bits-requires c κs =
 loop-again : tie.Need-loop-again Inv-loop μ-loop
 loop-again c =
     let l = c .before .before .before .before .loop in
-    (omega arith, simp length-set (l .inv .1), omega arith, omega arith, c .before .before .septet-before2 .ensures, stored (c .before) _ _ (c .before .before .before .loop-test .taken) (l .inv .5))
+    (omega arith, simp length-set (l .inv .1), omega arith, omega arith, c .before .before .septet-before2 .ensures, stored (c .before) _ (c .before .before .before .loop-test .taken) (l .inv .5))
 
 loop-again-2 : tie.Need-loop-again-2 Inv-loop μ-loop
 loop-again-2 c =
     let l = c .before .before .before .before .before .loop in
-    (omega arith, simp length-set (l .inv .1), omega arith, omega arith, c .septet-before3 .ensures, stored (c .before .before) _ _ (c .before .before .before .before .loop-test .taken) (l .inv .5))
+    (omega arith, simp length-set (l .inv .1), omega arith, omega arith, c .septet-before3 .ensures, stored (c .before .before) _ (c .before .before .before .before .loop-test .taken) (l .inv .5))
 
 returns : tie.Need-returns Inv-loop μ-loop
-unfolding packedSeptets
 returns c =
     let a = c .before .before .before .before .before .args in
     let l = c .before .loop in
     record {
       place = rw (length-packed (a .fill) (now (a .septets)));
-      list = rw (rest-end 8 _ (numberOf 7 (now (a .septets)) * 2 ^ a .fill) (l .j) (c .loop-test .left)) at (l .inv .5);
+      list = left-end (l .inv .5) (rest-end 8 _ (numberOf 7 (now (a .septets)) * 2 ^ a .fill) (l .j) (c .loop-test .left)) .1;
     }
+
+holds : tie.Need-loop-holds Inv-loop μ-loop
+unfolding packedSeptets
+holds c =
+    (omega arith, refl, omega (arith, c .before .before .before .pre .0), omega arith, c .septet-before .ensures, rw (add-zero, rest-start) (left-start _ _ _))
 
 pub pack-octets-spec : {M : Type 1} → statement M
 pack-octets-spec =
@@ -96,7 +100,7 @@ pack-octets-spec =
     (λ c. search needs)
     (λ c. search needs)
     (λ c κs. tt)
-    (λ c. (omega arith, refl, omega (arith, c .before .before .before .pre .0), omega arith, c .septet-before .ensures, rw (add-zero, rest-start)))
+    holds
     (λ c. omega arith)
     (λ c κs. tt)
     eight-bits-requires
