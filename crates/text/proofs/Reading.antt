@@ -1,0 +1,95 @@
+-- The text of the septets that are left, one character at a time; and what reading gives, case by case.
+-- Assumes nothing.
+use Prim.Native.Nat.{ℕ, suc, _+_, _-_, _*_, _/_, _^_, _<_, _≤_}
+use mathlib.Core.Path.{_≡_, refl, sym, _∙_}
+use mathlib.Core.List.{List, [], _∷_, _++_}
+use native.Mathlib.Omega.{arith}
+use native.Mathlib.Nat.{sub-zero, add-zero}
+use native.Mathlib.Numerals.{add-one, add-two}
+use lib.ListN.{length, replicate}
+use lib.Seq.{sets}
+use borrow.Author.Tests.{lt-ltb, le-ltb, eq-eqb, ne-eqb}
+use Rattle.octets.specs.Arrays.{pad}
+use Rattle.octets.specs.declared.Refusal.the-variants.{LengthTooLarge, TooFewOctets}
+use Rattle.octets.specs.declared.Outcome.the-variants.{Done}
+use Rattle.octets.proofs.Laws.{sets-zeros}
+use Rattle.septets.specs.Septets.{numberOf, digitsOf, septetAt, septetsIn, octetCount}
+use Rattle.septets.proofs.Number.{digits-step}
+use Rattle.text.specs.declared.Unpacked.{Unpacked}
+use Rattle.text.specs.Alphabet.{character, escaped}
+use Rattle.text.specs.Reading.{utf8, textOf, afterEscape, shown, unread, unpacked}
+
+-- n septets, from septet k on
+septetsFrom : List ℕ → ℕ → ℕ → ℕ → List ℕ
+septetsFrom os f k n = digitsOf 7 n (numberOf 8 os / 2 ^ (f + k * 7))
+
+septets-step : (os : List ℕ) (f k n : ℕ) → septetsFrom os f k (suc n) ≡ septetAt os f k ∷ septetsFrom os f (suc k) n
+unfolding septetsFrom septetAt
+septets-step os f k n =
+    let e : f + k * 7 + 7 ≡ f + suc k * 7 = omega arith in
+    rw (digits-step, e)
+
+septets-none : (os : List ℕ) (f k : ℕ) → septetsFrom os f k 0 ≡ []
+unfolding septetsFrom digitsOf
+septets-none os f k = refl
+
+-- the text of septets i to n - 1
+pub rest : List ℕ → ℕ → ℕ → ℕ → List ℕ
+rest os f n i = textOf (septetsFrom os f i (n - i))
+
+module _ (os : List ℕ) (f n i : ℕ) where
+  pub rest-done : n ≤ i → rest os f n i ≡ []
+  unfolding rest textOf
+  rest-done h = let e : n - i ≡ 0 = omega arith in rw (e, septets-none)
+
+  pub rest-plain : i < n → (septetAt os f i ≡ 0x1b → ⊥) → rest os f n i ≡ utf8 (character (septetAt os f i)) ++ rest os f n (i + 1)
+  unfolding rest textOf
+  rest-plain h p =
+      let e : n - i ≡ suc (n - suc i) = omega arith in
+      rw (e, septets-step, ne-eqb (septetAt os f i) 0x1b p, add-one)
+
+  pub rest-escape : i + 1 < n → septetAt os f i ≡ 0x1b → rest os f n i ≡ utf8 (escaped (septetAt os f (i + 1))) ++ rest os f n (i + 2)
+  unfolding rest textOf afterEscape
+  rest-escape h p =
+      let e : n - i ≡ suc (suc (n - suc (suc i))) = omega arith in
+      rw (e, septets-step, septets-step, eq-eqb (septetAt os f i) 0x1b p, add-one, add-two)
+
+  pub rest-last : i + 1 ≡ n → septetAt os f i ≡ 0x1b → rest os f n i ≡ utf8 0x20
+  unfolding rest textOf afterEscape
+  rest-last h p =
+      let e : n - i ≡ 1 = omega arith in
+      rw (e, septets-step, septets-none, eq-eqb (septetAt os f i) 0x1b p)
+
+pub septet-small : (os : List ℕ) (f k : ℕ) → septetAt os f k < 128
+unfolding septetAt
+septet-small os f k = omega arith
+
+-- the rest at the start is the whole
+pub rest-start : (os : List ℕ) (f n : ℕ) → rest os f n 0 ≡ textOf (septetsIn os f n)
+unfolding rest septetsFrom septetsIn
+rest-start os f n = rw (sub-zero, add-zero)
+
+-- what reading gives, case by case
+module _ (os : List ℕ) (f n : ℕ) where
+  pub unpacked-long : 255 < n → unpacked os f n ≡ unread LengthTooLarge
+  unfolding unpacked
+  unpacked-long h = rw (lt-ltb 255 n h)
+
+  module _ (few : n ≤ 255) where
+    pub unpacked-few : length os < octetCount f n → unpacked os f n ≡ unread TooFewOctets
+    unfolding unpacked
+    unpacked-few h = rw (le-ltb 255 n few, lt-ltb _ _ h)
+
+    pub unpacked-done : octetCount f n ≤ length os → unpacked os f n ≡ shown (textOf (septetsIn os f n))
+    unfolding unpacked
+    unpacked-done h = rw (le-ltb 255 n few, le-ltb _ _ h)
+
+    -- a text stored from the start of the array
+    pub unpacked-whole : octetCount f n ≤ length os → (text : List ℕ) (length′ : ℕ) → length′ ≤ 510 → length′ ≡ 0 + length (textOf (septetsIn os f n))
+        → text ≡ sets (replicate 510 0) 0 (textOf (septetsIn os f n)) → _≡_ {A = Unpacked} (record { outcome = Done; text = text; «text_length» = length′ }) (unpacked os f n)
+    unfolding shown
+    unpacked-whole h text length′ l e p =
+        let whole = textOf (septetsIn os f n) in
+        let q : text ≡ pad 510 whole = p ∙ sets-zeros 510 whole (omega arith) in
+        let r : length′ ≡ length whole = omega arith in
+        rw (unpacked-done h, q, r)
