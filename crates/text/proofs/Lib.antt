@@ -7,3 +7,4 @@ pub mod Reading
 pub mod Scanning
 pub mod Adequate
 pub mod Packing
+pub mod Laws

@@ -2,11 +2,13 @@
 -- Assumes nothing.
 use Prim.Native.Nat.{ℕ, _+_, _-_, _*_, _<_, _≤_}
 use mathlib.Core.Path.{_≡_, refl, sym, _∙_, ap}
+use mathlib.Core.Bool.{Bool, true, false}
 use mathlib.Core.List.{List, [], _∷_, _++_}
 use mathlib.Core.Option.{Option, none, some}
 use native.Mathlib.Omega.{arith}
 use native.Mathlib.Nat.{zero-add}
-use borrow.Author.Tests.{lt-ltb, le-ltb}
+use borrow.Author.Tests.{lt-ltb, le-ltb, ltb-true, ltb-false}
+use lib.Dec.{ltb}
 use lib.ListN.{length, take, replicate, length-append}
 use lib.Seq.{sets}
 use Rattle.octets.specs.Lent.{refused, made, lend, Wrote}
@@ -18,7 +20,7 @@ use Rattle.septets.proofs.Inverse.{length-packed, octets-with-header}
 use Rattle.text.specs.declared.Scanned.{Scanned}
 use Rattle.text.specs.declared.Scanned.the-variants.{Counted, NotCoded}
 use Rattle.text.specs.declared.Packed.{Packed}
-use Rattle.text.specs.Writing.{septetsOf, notPacked, packedBehind, packing}
+use Rattle.text.specs.Writing.{septetsOf, notPacked, packedAs, packedBehind, packing}
 use Rattle.text.specs.Parts.{ScannedAs}
 
 -- what a scan's answer says of the septets
@@ -54,7 +56,7 @@ module _ (header text : List ℕ) where
     packing-many h = rw (e, lt-ltb _ _ h)
 
     pub packing-done : headerSeptets (length header) + length ss ≤ 255 → packing header text
-        ≡ made (octetsBehind header ss) (record { outcome = Done; octets = length (octetsBehind header ss); septets = headerSeptets (length header) + length ss })
+        ≡ made (octetsBehind header ss) (packedAs (octetsBehind header ss) (headerSeptets (length header) + length ss))
     unfolding packing packedBehind
     packing-done h = rw (e, le-ltb _ _ h)
 
@@ -65,3 +67,21 @@ module _ (header text : List ℕ) where
     packing-written few {out} h n room first second h-is taken-is n-is =
         let w = wrote-then first (rw (h-is, taken-is) at second) in
         rw (w .place, zero-add, h-is, n-is) (lent-done notPacked out (packing-done few) room (w .list))
+
+  -- and where it gives octets
+  abbrev pub Made : List ℕ → Packed → Type 0
+  Made xs a =
+      (ss : List ℕ) × (septetsOf text ≡ some ss) × (headerSeptets (length header) + length ss ≤ 255) × (xs ≡ octetsBehind header ss)
+      × (a ≡ packedAs (octetsBehind header ss) (headerSeptets (length header) + length ss))
+
+  pub packing-made : (xs : List ℕ) (a : Packed) → packing header text ≡ made xs a
+      → Made xs a
+  packing-made xs a p = by-septets (septetsOf text) refl
+    where
+      by-count : (ss : List ℕ) → septetsOf text ≡ some ss → (t : Bool) → ltb 255 (headerSeptets (length header) + length ss) ≡ t → Made xs a
+      by-count ss e true q = let r = packing-many ss e (ltb-true _ _ q) in let z : _≡_ {A = ℕ} 0 1 = cc in absurd (omega arith)
+      by-count ss e false q = let r = packing-done ss e (ltb-false _ _ q) in (ss, e, ltb-false _ _ q, (cc), (cc))
+
+      by-septets : (o : Option (List ℕ)) → septetsOf text ≡ o → Made xs a
+      by-septets none e = let r = packing-none e in let z : _≡_ {A = ℕ} 0 1 = cc in absurd (omega arith)
+      by-septets (some ss) e = by-count ss e (ltb 255 (headerSeptets (length header) + length ss)) refl

@@ -89,14 +89,18 @@ septetsOf text = scan text 0
 unfoldable pub notPacked : Refusal → Packed
 notPacked r = record { outcome = Refused r; octets = 0; septets = 0 }
 
--- septets behind a header's octets and its fill bits (TS 23.040 §9.2.3.24), with the numbers of octets and of septets
+-- octets packed: the numbers of octets and of septets
+abbrev pub packedAs : List ℕ → ℕ → Packed
+packedAs octets n = record { outcome = Done; octets = length octets; septets = n }
+
+-- septets behind a header's octets and its fill bits (TS 23.040 §9.2.3.24)
 unfoldable pub packedBehind : List ℕ → Option (List ℕ) → Making Packed
 packedBehind header none = refused NotInAlphabet
 packedBehind header (some ss) =
     let h = length header in
     let octets = header ++ packedSeptets (fillBits h) ss in
     if ltb 255 (headerSeptets h + length ss) then refused TooManySeptets
-    else made octets (record { outcome = Done; octets = length octets; septets = headerSeptets h + length ss })
+    else made octets (packedAs octets (headerSeptets h + length ss))
 
 -- a text packed behind a header, which has no octets where there is none
 unfoldable pub packing : List ℕ → List ℕ → Making Packed
