@@ -1,17 +1,20 @@
 -- The text of the septets that are left, one character at a time; and what reading gives, case by case.
 -- Assumes nothing.
 use Prim.Native.Nat.{ℕ, suc, _+_, _-_, _*_, _/_, _^_, _<_, _≤_}
-use mathlib.Core.Path.{_≡_, refl, sym, _∙_}
+use mathlib.Core.Path.{_≡_, refl, sym, ap, _∙_}
+use mathlib.Core.Bool.{Bool, true, false}
 use mathlib.Core.List.{List, [], _∷_, _++_}
 use native.Mathlib.Omega.{arith}
 use native.Mathlib.Nat.{sub-zero, add-zero}
 use native.Mathlib.Numerals.{add-one, add-two}
 use lib.ListN.{length, replicate}
 use lib.Seq.{sets}
-use borrow.Author.Tests.{lt-ltb, le-ltb, eq-eqb, ne-eqb}
+use lib.Dec.{ltb}
+use borrow.Author.Tests.{lt-ltb, le-ltb, eq-eqb, ne-eqb, ltb-true, ltb-false}
 use Rattle.octets.specs.Arrays.{pad}
+use Rattle.octets.specs.declared.Refusal.{Refusal}
 use Rattle.octets.specs.declared.Refusal.the-variants.{LengthTooLarge, TooFewOctets}
-use Rattle.octets.specs.declared.Outcome.the-variants.{Done}
+use Rattle.octets.specs.declared.Outcome.the-variants.{Done, Refused}
 use Rattle.octets.proofs.Laws.{sets-zeros}
 use Rattle.septets.specs.Septets.{numberOf, digitsOf, septetAt, septetsIn, octetCount}
 use Rattle.septets.proofs.Number.{digits-step}
@@ -83,6 +86,23 @@ module _ (os : List ℕ) (f n : ℕ) where
     pub unpacked-done : octetCount f n ≤ length os → unpacked os f n ≡ shown (textOf (septetsIn os f n))
     unfolding unpacked
     unpacked-done h = rw (le-ltb 255 n few, le-ltb _ _ h)
+
+    -- by the outcome
+    pub unpacked-reads : {u : Unpacked} → u ≡ unpacked os f n → u .outcome ≡ Done → (octetCount f n ≤ length os) × (u ≡ shown (textOf (septetsIn os f n)))
+    unfolding unread
+    unpacked-reads {u} e d = by-test (ltb (length os) (octetCount f n)) refl
+      where
+        by-test : (t : Bool) → ltb (length os) (octetCount f n) ≡ t → (octetCount f n ≤ length os) × (u ≡ shown (textOf (septetsIn os f n)))
+        by-test true p = let q = sym d ∙ ap (λ (v : Unpacked). v .outcome) (e ∙ unpacked-few (ltb-true _ _ p)) in let z : _≡_ {A = ℕ} 0 1 = cc in absurd (omega arith)
+        by-test false p = (ltb-false _ _ p, e ∙ unpacked-done (ltb-false _ _ p))
+
+    pub unpacked-ends : {u : Unpacked} → u ≡ unpacked os f n → (r : Refusal) → u .outcome ≡ Refused r → length os < octetCount f n
+    unfolding shown
+    unpacked-ends e r d = by-test (ltb (length os) (octetCount f n)) refl
+      where
+        by-test : (t : Bool) → ltb (length os) (octetCount f n) ≡ t → length os < octetCount f n
+        by-test true p = ltb-true _ _ p
+        by-test false p = let q = sym d ∙ ap (λ (v : Unpacked). v .outcome) (e ∙ unpacked-done (ltb-false _ _ p)) in let z : _≡_ {A = ℕ} 0 1 = cc in absurd (omega arith)
 
     -- a text stored from the start of the array
     pub unpacked-whole : octetCount f n ≤ length os → (text : List ℕ) (length′ : ℕ) → length′ ≤ 510 → length′ ≡ 0 + length (textOf (septetsIn os f n))

@@ -756,7 +756,7 @@ pub fn scan_text(text: &[u8], codes: &mut [u8; 255]) -> Scanned
     Scanned::Counted(count)
 }
 
-fn not_packed(r: Refusal) -> Packed
+pub fn not_packed(r: Refusal) -> Packed
     ensures { λ p. ⌜ p ≡ notPacked r ⌝ }
 {
     Packed {
