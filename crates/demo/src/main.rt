@@ -1,0 +1,211 @@
+// Shows the codec at work: known messages, every code of the alphabet there and back, and each refusal once.
+use libc::STDOUT_FILENO;
+use tpdu::Outcome;
+use tpdu::UserDataCoding;
+
+fn say(words: &[u8]) {
+    io::write_all(STDOUT_FILENO, words);
+}
+
+// The capital hexadecimal digit of the low half of an octet.
+fn digit(octet: u8) -> u8 {
+    let d = octet % 16;
+    if d < 10 { 48 + d } else { 55 + d }
+}
+
+fn say_octet(octet: u8) {
+    let word = [b' ', digit(octet / 16), digit(octet)];
+    say(&word);
+}
+
+// The first n octets, or all of them.
+fn say_first(octets: &[u8], n: usize) {
+    let mut i = 0;
+    while i < n {
+        if octets.len() <= i {
+            return;
+        }
+        say_octet(octets[i]);
+        i += 1;
+    }
+}
+
+// True where an input was taken; else the refusal's number is said.
+fn taken(outcome: Outcome) -> bool {
+    match outcome {
+        Outcome::Done => true,
+        Outcome::Refused(r) => {
+            say(b" refused ");
+            io::print_decimal(STDOUT_FILENO, r.number() as u64);
+            say(b"\n");
+            false
+        }
+    }
+}
+
+fn show_coding(dcs: u8) {
+    say(b"coding");
+    say_octet(dcs);
+    match tpdu::user_data_coding(dcs) {
+        UserDataCoding::Gsm7Bit => say(b": 7-bit\n"),
+        UserDataCoding::EightBit => say(b": 8-bit\n"),
+        UserDataCoding::Ucs2 => say(b": UCS2\n"),
+        UserDataCoding::Compressed => say(b": compressed\n"),
+    }
+}
+
+fn show_read(data: &[u8], septets: usize) {
+    say(b"read");
+    say_first(data, data.len());
+    say(b", count ");
+    io::print_decimal(STDOUT_FILENO, septets as u64);
+    say(b":");
+    let u = tpdu::unpack_gsm7(data, septets);
+    let outcome = u.outcome;
+    if taken(outcome) {
+        let text = u.text;
+        say(b" text");
+        say_first(&text, u.text_length);
+        say(b"\n");
+    }
+}
+
+fn show_read_with_header(data: &[u8], septets: usize) {
+    say(b"read with header");
+    say_first(data, data.len());
+    say(b", count ");
+    io::print_decimal(STDOUT_FILENO, septets as u64);
+    say(b":");
+    let u = tpdu::unpack_gsm7_with_header(data, septets);
+    let outcome = u.outcome;
+    if taken(outcome) {
+        let header = u.header;
+        say(b" header");
+        say_first(&header, u.header_length);
+        let text = u.text;
+        say(b" text");
+        say_first(&text, u.text_length);
+        say(b"\n");
+    }
+}
+
+fn show_packed(p: tpdu::Packed, out: &[u8]) {
+    let outcome = p.outcome;
+    if taken(outcome) {
+        say_first(out, p.octets);
+        say(b", ");
+        io::print_decimal(STDOUT_FILENO, p.septets as u64);
+        say(b" septets\n");
+    }
+}
+
+fn show_packing(text: &[u8]) {
+    let mut out = [0u8; 255];
+    say(b"pack:");
+    let p = tpdu::pack_gsm7(text, &mut out);
+    show_packed(p, &out);
+}
+
+// The same into eight octets.
+fn show_packing_short(text: &[u8]) {
+    let mut out = [0u8; 8];
+    say(b"pack into 8 octets:");
+    let p = tpdu::pack_gsm7(text, &mut out);
+    show_packed(p, &out);
+}
+
+fn show_packing_with_header(header: &[u8], text: &[u8]) {
+    let mut out = [0u8; 255];
+    say(b"pack with header:");
+    let p = tpdu::pack_gsm7_with_header(header, text, &mut out);
+    show_packed(p, &out);
+}
+
+// The first two octets of a text of n octets, packed.
+fn packed_again(text: &[u8], n: usize) -> [u8; 2] {
+    let mut out = [0u8; 2];
+    if n <= text.len() {
+        tpdu::pack_gsm7(&text[..n], &mut out);
+    }
+    out
+}
+
+// The text of septets: = if it packs as the same octets again, ~ if as others.
+fn show_code(octets: [u8; 2], septets: usize) {
+    let u = tpdu::unpack_gsm7(&octets, septets);
+    let text = u.text;
+    let n = u.text_length;
+    let out = packed_again(&text, n);
+    say(b"septets");
+    say_first(&octets, septets);
+    if out[0] == octets[0] && out[1] == octets[1] {
+        say(b" =");
+    } else {
+        say(b" ~");
+    }
+    say_first(&text, n);
+    say(b"\n");
+}
+
+// Each code of the default alphabet.
+fn show_alphabet() {
+    let mut code: u8 = 0;
+    while code < 128 {
+        show_code([code, 0], 1);
+        code += 1;
+    }
+}
+
+// Each code behind an escape.
+fn show_extension() {
+    let mut code: u8 = 0;
+    while code < 128 {
+        show_code([0x1B + code % 2 * 128, code / 2], 2);
+        code += 1;
+    }
+}
+
+// The known messages of these parts.
+fn show_known() {
+    show_coding(0x0C);
+    show_coding(0x48);
+    show_coding(0xC8);
+    show_coding(0xF4);
+    show_packing(b"\xE2\x82\xAC");
+    show_read(&[0x9B, 0x0D], 2);
+    show_read(&[0x9B, 0x20], 2);
+    show_packing_with_header(&[0x05, 0x00, 0x03, 0x01, 0x02, 0x01], b"A");
+    show_read_with_header(&[0x05, 0x00, 0x03, 0x01, 0x02, 0x01, 0x82], 8);
+    show_packing(b"hellohello");
+    show_read(&[0xE8, 0x32, 0x9B, 0xFD, 0x46, 0x97, 0xD9, 0xEC, 0x37], 10);
+}
+
+// Refusals of the readers: 1, 19, 17, 18, and 19 for the fill bits alone.
+fn show_reading_refused() {
+    show_read(&[0x9B, 0x0D], 256);
+    show_read(&[0x9B], 2);
+    show_read_with_header(&[0x05, 0x00, 0x03], 8);
+    show_read_with_header(&[0x00], 1);
+    show_read_with_header(&[0x00], 2);
+}
+
+// Refusals of the packers: 10, 22, 10 in a text that is also too long, 23, 17, and 22 with a header.
+fn show_packing_refused() {
+    let many = [b'a'; 256];
+    let mut last = [b'a'; 256];
+    last[255] = 0x1B;
+    show_packing(b"\xD0\xB6");
+    show_packing(&many);
+    show_packing(&last);
+    show_packing_short(b"hellohello");
+    show_packing_with_header(&[0x05, 0x00], b"A");
+    show_packing_with_header(&[0x05, 0x00, 0x03, 0x01, 0x02, 0x01], &many[..249]);
+}
+
+fn main() {
+    show_known();
+    show_reading_refused();
+    show_packing_refused();
+    show_alphabet();
+    show_extension();
+}

@@ -1,0 +1,15 @@
+-- Every row of the table holds of the definitions.
+-- Assumes nothing.
+use mathlib.Core.Path.{refl}
+use Rattle.octets.specs.Arrays.{pad}
+use Rattle.coding.specs.Coding.{codingOf, characterSet}
+use Rattle.septets.specs.Septets.{numberOf, digitsOf, septetsIn, packedSeptets}
+use Rattle.text.specs.Alphabet.{rowWith, indexOf, character, escaped}
+use Rattle.text.specs.Reading.{utf8, textOf, afterEscape, unpacked, shown as shownText}
+use Rattle.text.specs.Writing.{extendedCode, codeOf, same, twoOctets, threeOctets, firstCharacter, before, behind, scan, packedBehind, packing}
+use Rattle.header.specs.Header.{unpackedWithHeader, packingWithHeader, shown}
+use Rattle.known.specs.Rows.{Holds, All, none, _also_, rows}
+
+pub known : All rows
+unfolding Holds codingOf characterSet numberOf digitsOf septetsIn packedSeptets rowWith indexOf character escaped utf8 textOf afterEscape unpacked shownText extendedCode codeOf same twoOctets threeOctets firstCharacter before behind scan packedBehind packing unpackedWithHeader packingWithHeader shown
+known = refl also refl also refl also refl also refl also refl also refl also refl also refl also none
