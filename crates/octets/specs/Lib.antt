@@ -2,3 +2,4 @@ pub mod Choice
 pub mod Refusals
 pub mod Arrays
 pub mod Lent
+pub mod Places

@@ -1,10 +1,11 @@
-// What all parts of the codec share: the refusals, arrays with a length, and writing to a lent buffer.
+// What all parts of the codec share: the refusals, arrays with a length, writing to a lent buffer, and reading at a place.
 ghost use mathlib.Core.Path.{_≡_};
 ghost use Prim.Native.Nat.{_+_, _≤_};
 ghost use lib.ListN.{length};
 ghost use Rattle.octets.specs.Refusals.{refusalNumber};
 ghost use Rattle.octets.specs.Arrays.{pad};
 ghost use Rattle.octets.specs.Lent.{Wrote};
+ghost use Rattle.octets.specs.Places.{octetAt, spanAt};
 
 // Why an input is not taken.
 pub enum Refusal {
@@ -93,4 +94,48 @@ pub fn stored_octets(octets: &[u8]) -> [u8; 255]
     let mut array = [0u8; 255];
     put_octets(&mut array, 0, octets);
     array
+}
+
+// A place in a message; every read hands back the next one.
+pub struct Place {
+    pub at: usize,
+}
+
+// The octet at a place, and the place behind it.
+pub enum Octet {
+    Read(u8, Place),
+    Refused(Refusal),
+}
+
+// Octets that are all there: where they start, and the place behind them.
+pub enum Span {
+    There(usize, Place),
+    Refused(Refusal),
+}
+
+impl Place {
+    // One octet.
+    pub fn octet(self, data: &[u8]) -> Octet
+        ensures { λ r. ⌜ r ≡ octetAt (now («data» .entry)) self ⌝ }
+    {
+        let at = self.at;
+        if at < data.len() {
+            Octet::Read(data[at], Place { at: at + 1 })
+        } else {
+            Octet::Refused(Refusal::OctetsEnd)
+        }
+    }
+
+    // `n` octets; none are there at any place, also past the end.
+    pub fn span(self, data: &[u8], n: usize) -> Span
+        ensures { λ r. ⌜ r ≡ spanAt (now («data» .entry)) self n ⌝ }
+    {
+        let at = self.at;
+        let left = if at < data.len() { data.len() - at } else { 0 };
+        if n <= left {
+            Span::There(at, Place { at: at + n })
+        } else {
+            Span::Refused(Refusal::OctetsEnd)
+        }
+    }
 }

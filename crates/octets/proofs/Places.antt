@@ -1,0 +1,42 @@
+-- What an answer of a place's methods tells of the octets.
+-- Assumes nothing.
+use Prim.Native.Nat.{ℕ, _+_, _<_, _≤_}
+use mathlib.Core.Path.{_≡_}
+use mathlib.Core.List.{List}
+use mathlib.Core.Logic.{⊎-elim}
+use native.Mathlib.Omega.{arith}
+use borrow.Author.Tests.{ltb-true, ltb-false, leb-true, leb-false}
+use lib.Dec.{ltb, leb}
+use lib.ListN.{length, getD, drop}
+use Rattle.octets.specs.declared.Refusal.{Refusal}
+use Rattle.octets.specs.declared.Refusal.the-variants.{OctetsEnd}
+use Rattle.octets.specs.declared.Place.{Place}
+use Rattle.octets.specs.declared.Octet.{Octet}
+use Rattle.octets.specs.declared.Span.{Span}
+use Rattle.octets.specs.Places.{octetAt, spanAt}
+use Rattle.octets.proofs.Choice.{chosen}
+
+module _ (s : List ℕ) (p : Place) where
+  -- an octet that is read is there, and the next place is behind it
+  pub octet-read : {b : ℕ} {q : Place} → octetAt s p ≡ Octet.Read b q → (p .at < length s) × (b ≡ getD s (p .at) 0) × (q .at ≡ p .at + 1)
+  unfolding octetAt
+  octet-read e =
+      ⊎-elim (λ w. (ltb-true _ _ (w .0), cc, cc)) (λ w. let z : _≡_ {A = ℕ} 0 1 = cc in absurd (omega arith)) (chosen (ltb (p .at) (length s)) e)
+
+  -- a refusal says that the octets end
+  pub octet-refused : {r : Refusal} → octetAt s p ≡ Octet.Refused r → (length s ≤ p .at) × (r ≡ OctetsEnd)
+  unfolding octetAt
+  octet-refused e =
+      ⊎-elim (λ w. let z : _≡_ {A = ℕ} 0 1 = cc in absurd (omega arith)) (λ w. (ltb-false _ _ (w .0), cc)) (chosen (ltb (p .at) (length s)) e)
+
+  module _ (n : ℕ) where
+    -- octets that are there start at the place, and the next place is behind them
+    pub span-there : {a : ℕ} {q : Place} → spanAt s p n ≡ Span.There a q → (n ≤ length (drop (p .at) s)) × (a ≡ p .at) × (q .at ≡ p .at + n)
+    unfolding spanAt
+    span-there e =
+        ⊎-elim (λ w. (leb-true _ _ (w .0), cc, cc)) (λ w. let z : _≡_ {A = ℕ} 0 1 = cc in absurd (omega arith)) (chosen (leb n (length (drop (p .at) s))) e)
+
+    pub span-refused : {r : Refusal} → spanAt s p n ≡ Span.Refused r → (length (drop (p .at) s) < n) × (r ≡ OctetsEnd)
+    unfolding spanAt
+    span-refused e =
+        ⊎-elim (λ w. let z : _≡_ {A = ℕ} 0 1 = cc in absurd (omega arith)) (λ w. (leb-false _ _ (w .0), cc)) (chosen (leb n (length (drop (p .at) s))) e)
