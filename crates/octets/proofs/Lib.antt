@@ -2,3 +2,4 @@ pub mod Laws
 pub mod Table
 pub mod Choice
 pub mod Places
+pub mod Each

@@ -3,3 +3,5 @@ pub mod Refusals
 pub mod Arrays
 pub mod Lent
 pub mod Places
+pub mod Each
+pub mod Texts

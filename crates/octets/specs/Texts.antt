@@ -1,0 +1,10 @@
+-- Octets written as text.
+use Prim.Native.Nat.{ℕ}
+use Prim.Native.Char.{code}
+use Prim.Native.String.{String, [] as none, _∷_ as _then_}
+use mathlib.Core.List.{List, [], _∷_}
+
+-- the codes of a text's characters: their octets, where every code is below 80
+unfoldable pub codes : String → List ℕ
+codes none = []
+codes (character then text) = code character ∷ codes text

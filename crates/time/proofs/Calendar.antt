@@ -1,0 +1,87 @@
+-- A time from its parts: what the calendar asks, and the digits of the seven octets with two decimal digits each.
+-- Assumes nothing.
+use Prim.Native.Nat.{ℕ, _+_, _*_, _/_, _%_, _<_, _≤_}
+use mathlib.Core.Path.{_≡_, refl}
+use mathlib.Core.Bool.{Bool, true, false, not, _&&_}
+use mathlib.Core.List.{List, [], _∷_, _++_}
+use mathlib.Core.Logic.{_↔_}
+use native.Mathlib.Omega.{arith}
+use borrow.Author.Tests.{le-leb, leb-true, le-ltb, ltb-false}
+use lib.Dec.{leb, ltb}
+use lib.IntN.{ℤ, pos, negsuc, natAbs}
+use lib.Signed.{ltZ}
+use Rattle.octets.specs.Choice.{if_then_else_}
+use Rattle.octets.specs.Each.{each}
+use Rattle.octets.specs.declared.Outcome.{Outcome}
+use Rattle.octets.specs.declared.Refusal.the-variants.{CalendarOutOfRange, ZoneOutOfRange}
+use Rattle.octets.proofs.Choice.{and-true}
+use Rattle.time.proofs.Hex.{within-means}
+use Rattle.time.proofs.Laws.{pair-hex}
+use Rattle.time.specs.declared.TimestampDigits.{TimestampDigits}
+use Rattle.time.specs.Time.{hexDigit, isHex, timeDigits, inCalendar, isTime, twoDigits, zoneSign, zoneDigits, timestamp}
+
+-- the octet with a tens and a units digit, the tens in the low half
+octet-digits : (tens units : ℕ) (octets : List ℕ) → tens < 16 → timeDigits ((tens + 16 * units) ∷ octets) ≡ hexDigit tens ∷ hexDigit units ∷ timeDigits octets
+unfolding timeDigits
+octet-digits tens units octets h =
+    let low : (tens + 16 * units) % 16 ≡ tens = omega arith in
+    let high : (tens + 16 * units) / 16 ≡ units = omega arith in
+    rw (low, high)
+
+-- the octet with the two decimal digits of a value
+abbrev pub decimal : ℕ → ℕ
+decimal value = value / 10 + 16 * (value % 10)
+
+two : (value : ℕ) → value ≤ 99 → (octets : List ℕ) → timeDigits (decimal value ∷ octets) ≡ twoDigits value ++ timeDigits octets
+two value h octets = octet-digits (value / 10) (value % 10) octets (omega arith)
+
+two-hex : (value : ℕ) → value ≤ 99 → (digits : List ℕ) → each isHex (twoDigits value ++ digits) ≡ each isHex digits
+two-hex value h = pair-hex (value / 10) (value % 10) (omega arith) (omega arith)
+
+sign-small : (zone : ℤ) → zoneSign zone ≤ 8
+sign-small (pos n) = rw (le-ltb n 0 (omega arith)) (omega arith)
+sign-small (negsuc n) = omega arith
+
+module _ (year month day hour minute second : ℕ) where
+  -- the calendar's ranges
+  pub calendar-means : (inCalendar year month day hour minute second ≡ true)
+      ↔ ((year ≤ 99) × ((1 ≤ month) × (month ≤ 12)) × ((1 ≤ day) × (day ≤ 31)) × (hour ≤ 23) × (minute ≤ 59) × (second ≤ 59))
+  unfolding inCalendar
+  calendar-means = (
+    λ e.
+        let p₅ = and-true _ _ e in
+        let p₄ = and-true _ _ (p₅ .0) in
+        let p₃ = and-true _ _ (p₄ .0) in
+        let p₂ = and-true _ _ (p₃ .0) in
+        let p₁ = and-true _ _ (p₂ .0) in
+        (leb-true _ _ (p₁ .0), within-means _ _ _ .0 (p₁ .1), within-means _ _ _ .0 (p₂ .1), leb-true _ _ (p₃ .1), leb-true _ _ (p₄ .1), leb-true _ _ (p₅ .1)),
+    λ h.
+        rw (le-leb _ _ (h .0), le-leb _ _ (h .1 .0), le-leb _ _ (h .1 .1), le-leb _ _ (h .2 .0), le-leb _ _ (h .2 .1), le-leb _ _ (h .3), le-leb _ _ (h .4), le-leb _ _ (h .5)),
+  )
+
+  -- the digits of a time that is not refused are those of these octets
+  pub timestamp-octets : (zone : ℤ) → inCalendar year month day hour minute second ≡ true → natAbs zone ≤ 79
+      → timestamp year month day hour minute second zone
+      ≡ record { outcome = Outcome.Done; digits = timeDigits (decimal year ∷ decimal month ∷ decimal day ∷ decimal hour ∷ decimal minute ∷ decimal second ∷ (decimal (natAbs zone) + zoneSign zone) ∷ []) }
+  unfolding timestamp timeDigits
+  timestamp-octets zone e z =
+      let h = calendar-means .0 e in
+      let q = natAbs zone in
+      let d : decimal q + zoneSign zone ≡ (q / 10 + zoneSign zone) + 16 * (q % 10) = omega arith in
+      let s = sign-small zone in
+      rw (e, le-ltb 79 q z, two year (omega arith), two month (omega arith), two day (omega arith), two hour (omega arith), two minute (omega arith), two second (omega arith), d, octet-digits (q / 10 + zoneSign zone) (q % 10) [] (omega arith))
+
+  -- what is not refused is a time
+  pub timestamp-time : (zone : ℤ) → timestamp year month day hour minute second zone .outcome ≡ Outcome.Done
+      → isTime (timestamp year month day hour minute second zone .digits) ≡ true
+  unfolding timestamp isTime each
+  timestamp-time zone done = by (inCalendar year month day hour minute second) (ltb 79 (natAbs zone)) refl refl
+    where
+      by : (a b : Bool) → inCalendar year month day hour minute second ≡ a → ltb 79 (natAbs zone) ≡ b → isTime (timestamp year month day hour minute second zone .digits) ≡ true
+      by true false a b =
+          let h = calendar-means .0 a in
+          let q = ltb-false 79 (natAbs zone) b in
+          let s = sign-small zone in
+          rw (a, b, two-hex year (omega arith), two-hex month (omega arith), two-hex day (omega arith), two-hex hour (omega arith), two-hex minute (omega arith), two-hex second (omega arith), pair-hex (natAbs zone / 10 + zoneSign zone) (natAbs zone % 10) (omega arith) (omega arith))
+      by true true a b = let no : _≡_ {A = Outcome} (Outcome.Refused ZoneOutOfRange) Outcome.Done = rw (a, b) at done in let z : _≡_ {A = ℕ} 0 1 = cc in absurd (omega arith)
+      by false b a e = let no : _≡_ {A = Outcome} (Outcome.Refused CalendarOutOfRange) Outcome.Done = rw a at done in let z : _≡_ {A = ℕ} 0 1 = cc in absurd (omega arith)
