@@ -1,9 +1,12 @@
--- What the outcome of a choice by a test, and of two tests together, tells of the tests.
+-- What the outcome of a choice by a test, of two tests together, and of a test of a range tells.
 -- Assumes nothing.
+use Prim.Native.Nat.{ℕ, _≤_}
 use mathlib.Core.Path.{_≡_, refl}
 use mathlib.Core.Bool.{Bool, true, false, _&&_, _||_, false≢true}
 use mathlib.Core.Logic.{_⊎_, inl, inr, ⊎-elim, _↔_}
-use Rattle.octets.specs.Choice.{if_then_else_}
+use borrow.Author.Tests.{le-leb, leb-true}
+use lib.Dec.{leb}
+use Rattle.octets.specs.Choice.{if_then_else_, within}
 
 pub chosen {ℓ} : {A : Type ℓ} {x y z : A} (test : Bool) → if test then x else y ≡ z → ((test ≡ true) × (x ≡ z)) ⊎ ((test ≡ false) × (y ≡ z))
 chosen true e = inl (refl, e)
@@ -16,3 +19,7 @@ and-true false b e = absurd (false≢true e)
 pub or-means : {P Q : Type 0} (a b : Bool) → ((a ≡ true) ↔ P) → ((b ≡ true) ↔ Q) → ((a || b) ≡ true) ↔ (P ⊎ Q)
 or-means true b p q = (λ e. inl (p .0 refl), λ h. refl)
 or-means false b p q = (λ e. inr (q .0 e), ⊎-elim (λ h. absurd (false≢true (p .1 h))) (λ h. q .1 h))
+
+pub within-means : (lo hi n : ℕ) → (within lo hi n ≡ true) ↔ ((lo ≤ n) × (n ≤ hi))
+within-means lo hi n =
+    (λ e. let p = and-true (leb lo n) (leb n hi) e in (leb-true _ _ (p .0), leb-true _ _ (p .1)), λ h. rw (le-leb lo n (h .0), le-leb n hi (h .1)))

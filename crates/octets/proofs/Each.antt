@@ -1,14 +1,12 @@
--- A test of every octet of a list: what it says, and a loop that makes it from the first octet on. And a test that antt computes at every number below a bound.
+-- Every octet of a list: what a test of each says, and a loop that makes it from the first octet on.
 -- Assumes nothing.
 use Prim.Native.Nat.{ℕ, zero, suc, _+_, _<_, _≤_}
 use mathlib.Core.Path.{_≡_, refl}
-use mathlib.Core.Bool.{Bool, true, false, _&&_}
+use mathlib.Core.Bool.{Bool, true, false}
 use mathlib.Core.List.{List, [], _∷_}
 use native.Mathlib.Nat.{not-suc-le-zero}
 use native.Mathlib.Numerals.{add-one}
 use native.Mathlib.Omega.{arith}
-use borrow.Author.Tests.{eqb-true, eqb-false}
-use lib.Dec.{eqb}
 use lib.ListN.{length, drop, getD, drop-of-length-le}
 use lib.Seq.{drop-cons}
 use Rattle.octets.specs.Each.{each}
@@ -40,16 +38,3 @@ module _ (test : ℕ → Bool) where
     pub each-end : length xs ≤ i → each test (drop i xs) ≡ true
     unfolding each
     each-end h = rw (drop-of-length-le xs h)
-
--- the test passes at every number below n
-abbrev pub allBelow : (ℕ → Bool) → ℕ → Bool
-allBelow test zero = true
-allBelow test (suc n) = test n && allBelow test n
-
-pub below : (test : ℕ → Bool) (n : ℕ) → allBelow test n ≡ true → (x : ℕ) → x < n → test x ≡ true
-below test zero e x h = absurd (not-suc-le-zero h)
-below test (suc n) e x h = let p = and-true (test n) (allBelow test n) e in by (eqb x n) refl (p .0) (below test n (p .1) x)
-  where
-    by : (b : Bool) → eqb x n ≡ b → test n ≡ true → (x < n → test x ≡ true) → test x ≡ true
-    by true t last rest = rw (eqb-true x n t) last
-    by false t last rest = let other = eqb-false x n t in rest (omega arith)

@@ -1,8 +1,14 @@
--- A choice by a test.
-use mathlib.Core.Bool.{Bool, true, false}
+-- A choice by a test, and a test of a range.
+use Prim.Native.Nat.{ℕ}
+use mathlib.Core.Bool.{Bool, true, false, _&&_}
+use lib.Dec.{leb}
 
 infixr 5 if_then_else_
 -- the first where the test holds, else the second
 abbrev pub if_then_else_ {ℓ} : {A : Type ℓ} → Bool → A → A → A
 if true then a else b = a
 if false then a else b = b
+
+-- from lo to hi
+abbrev pub within : ℕ → ℕ → ℕ → Bool
+within lo hi n = leb lo n && leb n hi

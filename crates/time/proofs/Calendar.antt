@@ -1,26 +1,23 @@
--- A time from its parts: what the calendar asks, and the digits of the seven octets with two decimal digits each.
+-- A time from its parts: when it is refused, that it is a time else, and that its digits are those of seven octets.
 -- Assumes nothing.
 use Prim.Native.Nat.{ℕ, _+_, _*_, _/_, _%_, _<_, _≤_}
-use mathlib.Core.Path.{_≡_, refl}
-use mathlib.Core.Bool.{Bool, true, false, not, _&&_}
+use mathlib.Core.Path.{_≡_, refl, ap}
+use mathlib.Core.Bool.{Bool, true, false}
 use mathlib.Core.List.{List, [], _∷_, _++_}
 use mathlib.Core.Logic.{_↔_}
 use native.Mathlib.Omega.{arith}
 use borrow.Author.Tests.{le-leb, leb-true, le-ltb, ltb-false}
-use lib.Dec.{leb, ltb}
+use lib.Dec.{ltb}
 use lib.IntN.{ℤ, pos, negsuc, natAbs}
-use lib.Signed.{ltZ}
-use Rattle.octets.specs.Choice.{if_then_else_}
 use Rattle.octets.specs.Each.{each}
 use Rattle.octets.specs.declared.Outcome.{Outcome}
 use Rattle.octets.specs.declared.Refusal.the-variants.{CalendarOutOfRange, ZoneOutOfRange}
-use Rattle.octets.proofs.Choice.{and-true}
-use Rattle.time.proofs.Hex.{within-means}
+use Rattle.octets.proofs.Choice.{and-true, within-means}
 use Rattle.time.proofs.Laws.{pair-hex}
 use Rattle.time.specs.declared.TimestampDigits.{TimestampDigits}
-use Rattle.time.specs.Time.{hexDigit, isHex, timeDigits, inCalendar, isTime, twoDigits, zoneSign, zoneDigits, timestamp}
+use Rattle.time.specs.Time.{hexDigit, isHex, timeDigits, inCalendar, isTime, twoDigits, zoneSign, timestamp}
 
--- the octet with a tens and a units digit, the tens in the low half
+-- an octet's digits, the tens in the low half
 octet-digits : (tens units : ℕ) (octets : List ℕ) → tens < 16 → timeDigits ((tens + 16 * units) ∷ octets) ≡ hexDigit tens ∷ hexDigit units ∷ timeDigits octets
 unfolding timeDigits
 octet-digits tens units octets h =
@@ -71,17 +68,24 @@ module _ (year month day hour minute second : ℕ) where
       let s = sign-small zone in
       rw (e, le-ltb 79 q z, two year (omega arith), two month (omega arith), two day (omega arith), two hour (omega arith), two minute (omega arith), two second (omega arith), d, octet-digits (q / 10 + zoneSign zone) (q % 10) [] (omega arith))
 
-  -- what is not refused is a time
-  pub timestamp-time : (zone : ℤ) → timestamp year month day hour minute second zone .outcome ≡ Outcome.Done
-      → isTime (timestamp year month day hour minute second zone .digits) ≡ true
-  unfolding timestamp isTime each
-  timestamp-time zone done = by (inCalendar year month day hour minute second) (ltb 79 (natAbs zone)) refl refl
-    where
-      by : (a b : Bool) → inCalendar year month day hour minute second ≡ a → ltb 79 (natAbs zone) ≡ b → isTime (timestamp year month day hour minute second zone .digits) ≡ true
-      by true false a b =
-          let h = calendar-means .0 a in
-          let q = ltb-false 79 (natAbs zone) b in
-          let s = sign-small zone in
-          rw (a, b, two-hex year (omega arith), two-hex month (omega arith), two-hex day (omega arith), two-hex hour (omega arith), two-hex minute (omega arith), two-hex second (omega arith), pair-hex (natAbs zone / 10 + zoneSign zone) (natAbs zone % 10) (omega arith) (omega arith))
-      by true true a b = let no : _≡_ {A = Outcome} (Outcome.Refused ZoneOutOfRange) Outcome.Done = rw (a, b) at done in let z : _≡_ {A = ℕ} 0 1 = cc in absurd (omega arith)
-      by false b a e = let no : _≡_ {A = Outcome} (Outcome.Refused CalendarOutOfRange) Outcome.Done = rw a at done in let z : _≡_ {A = ℕ} 0 1 = cc in absurd (omega arith)
+  module _ (zone : ℤ) where
+    -- every part is in its range, or there is a refusal
+    pub done-means : (timestamp year month day hour minute second zone .outcome ≡ Outcome.Done) ↔ ((inCalendar year month day hour minute second ≡ true) × (natAbs zone ≤ 79))
+    unfolding timestamp
+    done-means = (by (inCalendar year month day hour minute second) (ltb 79 (natAbs zone)) refl refl, λ h. ap (λ (t : TimestampDigits). t .outcome) (timestamp-octets zone (h .0) (h .1)))
+      where
+        by : (a b : Bool) → inCalendar year month day hour minute second ≡ a → ltb 79 (natAbs zone) ≡ b → timestamp year month day hour minute second zone .outcome ≡ Outcome.Done
+            → (inCalendar year month day hour minute second ≡ true) × (natAbs zone ≤ 79)
+        by true false a b done = (a, ltb-false 79 (natAbs zone) b)
+        by true true a b done = let no : _≡_ {A = Outcome} (Outcome.Refused ZoneOutOfRange) Outcome.Done = rw (a, b) at done in let z : _≡_ {A = ℕ} 0 1 = cc in absurd (omega arith)
+        by false b a e done = let no : _≡_ {A = Outcome} (Outcome.Refused CalendarOutOfRange) Outcome.Done = rw a at done in let z : _≡_ {A = ℕ} 0 1 = cc in absurd (omega arith)
+
+    -- what is not refused is a time
+    pub timestamp-time : timestamp year month day hour minute second zone .outcome ≡ Outcome.Done → isTime (timestamp year month day hour minute second zone .digits) ≡ true
+    unfolding timestamp isTime each
+    timestamp-time done =
+        let p = done-means .0 done in
+        let h = calendar-means .0 (p .0) in
+        let s = sign-small zone in
+        let q = natAbs zone in
+        rw (p .0, le-ltb 79 q (p .1), two-hex year (omega arith), two-hex month (omega arith), two-hex day (omega arith), two-hex hour (omega arith), two-hex minute (omega arith), two-hex second (omega arith), pair-hex (q / 10 + zoneSign zone) (q % 10) (omega arith) (omega arith))

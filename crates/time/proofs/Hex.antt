@@ -3,20 +3,16 @@
 use Prim.Native.Nat.{ℕ, _+_, _*_, _/_, _%_, _≤_, _<_}
 use Prim.Native.Char.{code}
 use mathlib.Core.Path.{_≡_, refl}
-use mathlib.Core.Bool.{Bool, true, _&&_, _||_}
+use mathlib.Core.Bool.{Bool, true, _&&_}
 use mathlib.Core.Logic.{_⊎_, ⊎-elim, _↔_}
 use native.Mathlib.Omega.{arith}
-use borrow.Author.Tests.{le-leb, leb-true, ltb-true, eqb-true}
-use lib.Dec.{eqb, leb, ltb}
+use borrow.Author.Tests.{ltb-true, eqb-true}
+use lib.Dec.{eqb, ltb}
 use Rattle.octets.specs.Choice.{if_then_else_}
 use Rattle.octets.specs.Texts.{codes}
-use Rattle.octets.proofs.Choice.{and-true, or-means}
-use Rattle.octets.proofs.Each.{below}
-use Rattle.time.specs.Time.{within, hexDigit, isHex, hexValue, capital}
-
-pub within-means : (lo hi n : ℕ) → (within lo hi n ≡ true) ↔ ((lo ≤ n) × (n ≤ hi))
-within-means lo hi n =
-    (λ e. let p = and-true (leb lo n) (leb n hi) e in (leb-true _ _ (p .0), leb-true _ _ (p .1)), λ h. rw (le-leb lo n (h .0), le-leb n hi (h .1)))
+use Rattle.octets.proofs.Choice.{and-true, or-means, within-means}
+use Rattle.octets.proofs.Table.{below}
+use Rattle.time.specs.Time.{hexDigit, isHex, hexValue, capital}
 
 -- 0 to 9, A to F and a to f are the hexadecimal digits
 pub hex-means : (c : ℕ) → (isHex c ≡ true) ↔ ((((code "0" ≤ c) × (c ≤ code "9")) ⊎ ((code "A" ≤ c) × (c ≤ code "F"))) ⊎ ((code "a" ≤ c) × (c ≤ code "f")))

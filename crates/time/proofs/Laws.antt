@@ -2,8 +2,8 @@
 -- Assumes nothing.
 use Prim.Native.Nat.{ℕ, suc, _+_, _*_, _/_, _%_, _<_}
 use mathlib.Core.Path.{_≡_, refl, _∙_, ap₂}
-use mathlib.Core.Bool.{Bool, true, _&&_}
-use mathlib.Core.List.{List, [], _∷_, map, append-nil}
+use mathlib.Core.Bool.{true, _&&_}
+use mathlib.Core.List.{List, [], _∷_, append-nil}
 use mathlib.Core.Logic.{_↔_}
 use native.Mathlib.Numerals.{add-one}
 use native.Mathlib.Omega.{arith}
@@ -15,7 +15,7 @@ use Rattle.octets.specs.Each.{Octets, each}
 use Rattle.octets.proofs.Choice.{and-true}
 use Rattle.octets.proofs.Each.{each-at, each-of}
 use Rattle.octets.proofs.Laws.{sets-start}
-use Rattle.time.specs.Time.{hexDigit, isHex, hexValue, capital, capitals, timeDigits, timeOctets, isTime}
+use Rattle.time.specs.Time.{hexDigit, isHex, hexValue, capitals, timeDigits, timeOctets, isTime}
 use Rattle.time.proofs.Hex.{hex-value, hex-digit}
 
 -- a time is fourteen hexadecimal digits
@@ -40,13 +40,13 @@ length-octets (a ∷ b ∷ ds) = omega (arith, length-octets ds)
 -- ---- there and back
 
 -- octets → digits → octets
-pub octets-digits : (os : List ℕ) → Octets os → timeOctets (timeDigits os) ≡ os
+pub octets-back : (os : List ℕ) → Octets os → timeOctets (timeDigits os) ≡ os
 unfolding timeDigits timeOctets
-octets-digits [] h = refl
-octets-digits (o ∷ os) h =
+octets-back [] h = refl
+octets-back (o ∷ os) h =
     let e : hexValue (hexDigit (o % 16)) + 16 * hexValue (hexDigit (o / 16)) ≡ o =
     rw (hex-digit (o % 16) (omega arith) .2, hex-digit (o / 16) (omega (arith, h 0)) .2) (omega arith) in
-    ap₂ _∷_ e (octets-digits os (λ i. h (suc i)))
+    ap₂ _∷_ e (octets-back os (λ i. h (suc i)))
 
 -- pairs of digits → octets → digits
 pairs-back : (ds : List ℕ) → length ds % 2 ≡ 0 → each isHex ds ≡ true → timeDigits (timeOctets ds) ≡ capitals ds
@@ -62,9 +62,9 @@ pairs-back (a ∷ b ∷ ds) n h =
     let high : (hexValue a + 16 * hexValue b) / 16 ≡ hexValue b = omega arith in
     rw (low, high, va .2, vb .2, pairs-back ds (omega arith) (q .1))
 
-pub digits-octets : (ds : List ℕ) → isTime ds ≡ true → timeDigits (timeOctets ds) ≡ capitals ds
+pub digits-back : (ds : List ℕ) → isTime ds ≡ true → timeDigits (timeOctets ds) ≡ capitals ds
 unfolding isTime
-digits-octets ds e = let n : length ds ≡ 14 = time-means ds .0 e .0 in pairs-back ds (omega arith) (and-true (eqb (length ds) 14) (each isHex ds) e .1)
+digits-back ds e = let n : length ds ≡ 14 = time-means ds .0 e .0 in pairs-back ds (omega arith) (and-true (eqb (length ds) 14) (each isHex ds) e .1)
 
 -- the digits of octets are hexadecimal, so those of seven octets are a time
 pub pair-hex : (a b : ℕ) → a < 16 → b < 16 → (ds : List ℕ) → each isHex (hexDigit a ∷ hexDigit b ∷ ds) ≡ each isHex ds

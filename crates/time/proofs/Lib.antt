@@ -1,4 +1,3 @@
 pub mod Hex
 pub mod Laws
-pub mod Zone
 pub mod Calendar

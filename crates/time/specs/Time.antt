@@ -8,17 +8,13 @@ use lib.Dec.{eqb, leb, ltb}
 use lib.IntN.{ℤ, pos, negsuc, natAbs}
 use lib.ListN.{length, getD, replicate}
 use lib.Signed.{ltZ}
-use Rattle.octets.specs.Choice.{if_then_else_}
+use Rattle.octets.specs.Choice.{if_then_else_, within}
 use Rattle.octets.specs.Each.{each}
 use Rattle.octets.specs.Texts.{codes}
 use Rattle.octets.specs.declared.Outcome.{Outcome}
 use Rattle.octets.specs.declared.Refusal.{Refusal}
 use Rattle.octets.specs.declared.Refusal.the-variants.{CalendarOutOfRange, ZoneOutOfRange}
 use Rattle.time.specs.declared.TimestampDigits.{TimestampDigits}
-
--- from lo to hi
-abbrev pub within : ℕ → ℕ → ℕ → Bool
-within lo hi n = leb lo n && leb n hi
 
 -- ---- hexadecimal digits
 
@@ -36,7 +32,7 @@ hexValue c = if leb c (code "9") then c - code "0" else if leb c (code "F") then
 
 -- the digits with A to F for a to f
 abbrev pub capital : ℕ → ℕ
-capital c = if leb (code "a") c then c - code "a" + code "A" else c
+capital c = if within (code "a") (code "f") c then c - code "a" + code "A" else c
 
 unfoldable pub capitals : List ℕ → List ℕ
 capitals = map capital

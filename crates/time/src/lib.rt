@@ -80,12 +80,13 @@ pub fn decode_time(data: &[u8], at: usize) -> [u8; 14]
     digits
 }
 
-// How `timestamp_digits` ended, and the digits, zero octets on a refusal.
+// How `timestamp_digits` ended, and the digits; zero octets on a refusal.
 pub struct TimestampDigits {
     pub outcome: Outcome,
     pub digits: [u8; 14],
 }
 
+// A refusal, with no digits.
 fn refused(why: Refusal) -> TimestampDigits
     ensures { λ r. ⌜ r ≡ refusedDigits why ⌝ }
 {

@@ -1,7 +1,7 @@
 -- `time::decode_time` meets its contract: the digits of the octets that are left, stored too, still give the whole.
 -- Assumes nothing.
-use Prim.Native.Nat.{_+_, _*_, _-_, _<_, _≤_}
-use mathlib.Core.Path.{_≡_, refl, sym, _∙_}
+use Prim.Native.Nat.{_+_, _*_, _-_}
+use mathlib.Core.Path.{_≡_}
 use native.Mathlib.Omega.{arith}
 use denote.Ref.{now}
 use lib.ListN.{length, take, drop, length-drop, drop-of-length-le}
