@@ -16,10 +16,17 @@ pub and-true : (a b : Bool) → (a && b) ≡ true → (a ≡ true) × (b ≡ tru
 and-true true b e = (refl, e)
 and-true false b e = absurd (false≢true e)
 
-pub or-means : {P Q : Type 0} (a b : Bool) → ((a ≡ true) ↔ P) → ((b ≡ true) ↔ Q) → ((a || b) ≡ true) ↔ (P ⊎ Q)
-or-means true b p q = (λ e. inl (p .0 refl), λ h. refl)
-or-means false b p q = (λ e. inr (q .0 e), ⊎-elim (λ h. absurd (false≢true (p .1 h))) (λ h. q .1 h))
+-- a test in plain terms, from the tests that it is made of
+pub leb-means : (m n : ℕ) → (leb m n ≡ true) ↔ (m ≤ n)
+leb-means m n = (leb-true m n, le-leb m n)
+
+module _ {P Q : Type 0} where
+  pub and-means : (a b : Bool) → ((a ≡ true) ↔ P) → ((b ≡ true) ↔ Q) → ((a && b) ≡ true) ↔ (P × Q)
+  and-means a b p q = (λ e. let t = and-true a b e in (p .0 (t .0), q .0 (t .1)), λ h. rw (p .1 (h .0), q .1 (h .1)))
+
+  pub or-means : (a b : Bool) → ((a ≡ true) ↔ P) → ((b ≡ true) ↔ Q) → ((a || b) ≡ true) ↔ (P ⊎ Q)
+  or-means true b p q = (λ e. inl (p .0 refl), λ h. refl)
+  or-means false b p q = (λ e. inr (q .0 e), ⊎-elim (λ h. absurd (false≢true (p .1 h))) (λ h. q .1 h))
 
 pub within-means : (lo hi n : ℕ) → (within lo hi n ≡ true) ↔ ((lo ≤ n) × (n ≤ hi))
-within-means lo hi n =
-    (λ e. let p = and-true (leb lo n) (leb n hi) e in (leb-true _ _ (p .0), leb-true _ _ (p .1)), λ h. rw (le-leb lo n (h .0), le-leb n hi (h .1)))
+within-means lo hi n = and-means _ _ (leb-means lo n) (leb-means n hi)

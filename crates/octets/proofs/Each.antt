@@ -4,6 +4,7 @@ use Prim.Native.Nat.{ℕ, zero, suc, _+_, _<_, _≤_}
 use mathlib.Core.Path.{_≡_, refl}
 use mathlib.Core.Bool.{Bool, true, false}
 use mathlib.Core.List.{List, [], _∷_}
+use mathlib.Core.Logic.{_↔_}
 use native.Mathlib.Nat.{not-suc-le-zero}
 use native.Mathlib.Numerals.{add-one}
 use native.Mathlib.Omega.{arith}
@@ -13,17 +14,20 @@ use Rattle.octets.specs.Each.{each}
 use Rattle.octets.proofs.Choice.{and-true}
 
 module _ (test : ℕ → Bool) where
-  -- it holds exactly if every octet passes
-  pub each-at : (xs : List ℕ) → each test xs ≡ true → (i : ℕ) → i < length xs → test (getD xs i 0) ≡ true
+  each-at : (xs : List ℕ) → each test xs ≡ true → (i : ℕ) → i < length xs → test (getD xs i 0) ≡ true
   unfolding each
   each-at [] e i h = absurd (not-suc-le-zero h)
   each-at (x ∷ xs) e zero h = and-true (test x) (each test xs) e .0
   each-at (x ∷ xs) e (suc i) h = each-at xs (and-true (test x) (each test xs) e .1) i (omega arith)
 
-  pub each-of : (xs : List ℕ) → ((i : ℕ) → i < length xs → test (getD xs i 0) ≡ true) → each test xs ≡ true
+  each-of : (xs : List ℕ) → ((i : ℕ) → i < length xs → test (getD xs i 0) ≡ true) → each test xs ≡ true
   unfolding each
   each-of [] h = refl
   each-of (x ∷ xs) h = rw (h 0 (omega arith), each-of xs (λ i l. h (suc i) (omega arith)))
+
+  -- each octet passes
+  pub each-means : (xs : List ℕ) → (each test xs ≡ true) ↔ ((i : ℕ) → i < length xs → test (getD xs i 0) ≡ true)
+  each-means xs = (each-at xs, each-of xs)
 
   -- a loop has passed the first i octets: the rest decides
   module _ (xs : List ℕ) (i : ℕ) where

@@ -1,29 +1,21 @@
 -- A time from its parts: when it is refused, that it is a time else, and that its digits are those of seven octets.
 -- Assumes nothing.
-use Prim.Native.Nat.{ℕ, _+_, _*_, _/_, _%_, _<_, _≤_}
+use Prim.Native.Nat.{ℕ, _+_, _*_, _/_, _%_, _≤_}
 use mathlib.Core.Path.{_≡_, refl, ap}
 use mathlib.Core.Bool.{Bool, true, false}
 use mathlib.Core.List.{List, [], _∷_, _++_}
 use mathlib.Core.Logic.{_↔_}
 use native.Mathlib.Omega.{arith}
-use borrow.Author.Tests.{le-leb, leb-true, le-ltb, ltb-false}
+use borrow.Author.Tests.{le-ltb, ltb-false}
 use lib.Dec.{ltb}
 use lib.IntN.{ℤ, pos, negsuc, natAbs}
 use Rattle.octets.specs.Each.{each}
 use Rattle.octets.specs.declared.Outcome.{Outcome}
 use Rattle.octets.specs.declared.Refusal.the-variants.{CalendarOutOfRange, ZoneOutOfRange}
-use Rattle.octets.proofs.Choice.{and-true, within-means}
-use Rattle.time.proofs.Laws.{pair-hex}
+use Rattle.octets.proofs.Choice.{leb-means, and-means, within-means}
+use Rattle.time.proofs.Laws.{octet-digits, pair-hex}
 use Rattle.time.specs.declared.TimestampDigits.{TimestampDigits}
-use Rattle.time.specs.Time.{hexDigit, isHex, timeDigits, inCalendar, isTime, twoDigits, zoneSign, timestamp}
-
--- an octet's digits, the tens in the low half
-octet-digits : (tens units : ℕ) (octets : List ℕ) → tens < 16 → timeDigits ((tens + 16 * units) ∷ octets) ≡ hexDigit tens ∷ hexDigit units ∷ timeDigits octets
-unfolding timeDigits
-octet-digits tens units octets h =
-    let low : (tens + 16 * units) % 16 ≡ tens = omega arith in
-    let high : (tens + 16 * units) / 16 ≡ units = omega arith in
-    rw (low, high)
+use Rattle.time.specs.Time.{isHex, timeDigits, inCalendar, isTime, twoDigits, zoneSign, timestamp}
 
 -- the octet with the two decimal digits of a value
 abbrev pub decimal : ℕ → ℕ
@@ -42,19 +34,10 @@ sign-small (negsuc n) = omega arith
 module _ (year month day hour minute second : ℕ) where
   -- the calendar's ranges
   pub calendar-means : (inCalendar year month day hour minute second ≡ true)
-      ↔ ((year ≤ 99) × ((1 ≤ month) × (month ≤ 12)) × ((1 ≤ day) × (day ≤ 31)) × (hour ≤ 23) × (minute ≤ 59) × (second ≤ 59))
+      ↔ ((((((year ≤ 99) × ((1 ≤ month) × (month ≤ 12))) × ((1 ≤ day) × (day ≤ 31))) × (hour ≤ 23)) × (minute ≤ 59)) × (second ≤ 59))
   unfolding inCalendar
-  calendar-means = (
-    λ e.
-        let p₅ = and-true _ _ e in
-        let p₄ = and-true _ _ (p₅ .0) in
-        let p₃ = and-true _ _ (p₄ .0) in
-        let p₂ = and-true _ _ (p₃ .0) in
-        let p₁ = and-true _ _ (p₂ .0) in
-        (leb-true _ _ (p₁ .0), within-means _ _ _ .0 (p₁ .1), within-means _ _ _ .0 (p₂ .1), leb-true _ _ (p₃ .1), leb-true _ _ (p₄ .1), leb-true _ _ (p₅ .1)),
-    λ h.
-        rw (le-leb _ _ (h .0), le-leb _ _ (h .1 .0), le-leb _ _ (h .1 .1), le-leb _ _ (h .2 .0), le-leb _ _ (h .2 .1), le-leb _ _ (h .3), le-leb _ _ (h .4), le-leb _ _ (h .5)),
-  )
+  calendar-means =
+      and-means _ _ (and-means _ _ (and-means _ _ (and-means _ _ (and-means _ _ (leb-means _ _) (within-means _ _ _)) (within-means _ _ _)) (leb-means _ _)) (leb-means _ _)) (leb-means _ _)
 
   -- the digits of a time that is not refused are those of these octets
   pub timestamp-octets : (zone : ℤ) → inCalendar year month day hour minute second ≡ true → natAbs zone ≤ 79

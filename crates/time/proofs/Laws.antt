@@ -1,4 +1,4 @@
--- Fourteen digits and seven octets: each is the other's, and what one more pair gives in a loop.
+-- Fourteen digits and seven octets: what a time is, there and back, and one more pair in a loop.
 -- Assumes nothing.
 use Prim.Native.Nat.{ℕ, suc, _+_, _*_, _/_, _%_, _<_}
 use mathlib.Core.Path.{_≡_, refl, _∙_, ap₂}
@@ -12,19 +12,16 @@ use lib.Dec.{eqb}
 use lib.ListN.{length, drop, getD, set, replicate}
 use lib.Seq.{sets, drop-cons}
 use Rattle.octets.specs.Each.{Octets, each}
-use Rattle.octets.proofs.Choice.{and-true}
-use Rattle.octets.proofs.Each.{each-at, each-of}
+use Rattle.octets.proofs.Choice.{and-true, and-means}
+use Rattle.octets.proofs.Each.{each-means}
 use Rattle.octets.proofs.Laws.{sets-start}
 use Rattle.time.specs.Time.{hexDigit, isHex, hexValue, capitals, timeDigits, timeOctets, isTime}
 use Rattle.time.proofs.Hex.{hex-value, hex-digit}
 
 -- a time is fourteen hexadecimal digits
-pub time-means : (ds : List ℕ) → (isTime ds ≡ true) ↔ ((length ds ≡ 14) × ((i : ℕ) → i < 14 → isHex (getD ds i 0) ≡ true))
+pub time-means : (ds : List ℕ) → (isTime ds ≡ true) ↔ ((length ds ≡ 14) × ((i : ℕ) → i < length ds → isHex (getD ds i 0) ≡ true))
 unfolding isTime
-time-means ds = (
-  λ e. let p = and-true _ _ e in let n = eqb-true _ _ (p .0) in (n, λ i h. each-at isHex ds (p .1) i (omega arith)),
-  λ h. rw (eq-eqb (length ds) 14 (h .0), each-of isHex ds (λ i l. h .1 i (omega arith))),
-)
+time-means ds = and-means _ _ (eqb-true (length ds) 14, eq-eqb (length ds) 14) (each-means isHex ds)
 
 pub length-digits : (os : List ℕ) → length (timeDigits os) ≡ 2 * length os
 unfolding timeDigits
@@ -48,7 +45,15 @@ octets-back (o ∷ os) h =
     rw (hex-digit (o % 16) (omega arith) .2, hex-digit (o / 16) (omega (arith, h 0)) .2) (omega arith) in
     ap₂ _∷_ e (octets-back os (λ i. h (suc i)))
 
--- pairs of digits → octets → digits
+-- an octet's digits, from its halves
+pub octet-digits : (low high : ℕ) (os : List ℕ) → low < 16 → timeDigits ((low + 16 * high) ∷ os) ≡ hexDigit low ∷ hexDigit high ∷ timeDigits os
+unfolding timeDigits
+octet-digits low high os h =
+    let l : (low + 16 * high) % 16 ≡ low = omega arith in
+    let r : (low + 16 * high) / 16 ≡ high = omega arith in
+    rw (l, r)
+
+-- digits → octets → digits, of any number of pairs and of a time
 pairs-back : (ds : List ℕ) → length ds % 2 ≡ 0 → each isHex ds ≡ true → timeDigits (timeOctets ds) ≡ capitals ds
 unfolding timeDigits timeOctets each capitals
 pairs-back [] n h = refl
@@ -56,11 +61,8 @@ pairs-back (a ∷ []) n h = absurd (omega arith)
 pairs-back (a ∷ b ∷ ds) n h =
     let p = and-true (isHex a) (isHex b && each isHex ds) h in
     let q = and-true (isHex b) (each isHex ds) (p .1) in
-    let va = hex-value a (p .0) in
-    let vb = hex-value b (q .0) in
-    let low : (hexValue a + 16 * hexValue b) % 16 ≡ hexValue a = omega arith in
-    let high : (hexValue a + 16 * hexValue b) / 16 ≡ hexValue b = omega arith in
-    rw (low, high, va .2, vb .2, pairs-back ds (omega arith) (q .1))
+    let v = hex-value a (p .0) in
+    octet-digits (hexValue a) (hexValue b) (timeOctets ds) (v .0) ∙ rw (v .2, hex-value b (q .0) .2, pairs-back ds (omega arith) (q .1))
 
 pub digits-back : (ds : List ℕ) → isTime ds ≡ true → timeDigits (timeOctets ds) ≡ capitals ds
 unfolding isTime
