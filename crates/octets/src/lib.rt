@@ -73,6 +73,12 @@ pub enum Outcome {
     Refused(Refusal),
 }
 
+// How a writer ended: the number of octets written, or the refusal.
+pub enum Written {
+    Done(usize),
+    Refused(Refusal),
+}
+
 // Writes octets from `at` on; the place behind them.
 pub fn put_octets(out: &mut [u8], at: usize, octets: &[u8]) -> usize
     requires { ⌜ at + length (now octets) ≤ length (now out) ⌝ }
