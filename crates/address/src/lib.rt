@@ -1,6 +1,25 @@
 // Addresses (TS 23.040 §9.1.2.5).
 ghost use mathlib.Core.Path.{_≡_};
-ghost use Rattle.address.specs.Address.{digitValue};
+ghost use mathlib.Core.Bool.{true};
+ghost use mathlib.Core.List.{map};
+ghost use Prim.Native.Nat.{_+_, _*_, _/_, _≤_, _<_};
+ghost use lib.ListN.{length, getD, take, drop};
+ghost use Rattle.octets.specs.Each.{each};
+ghost use Rattle.octets.specs.Lent.{Wrote, lend};
+ghost use Rattle.octets.specs.SemiOctets.{semiOctets, inPairs};
+ghost use Rattle.septets.specs.Septets.{packedSeptets};
+ghost use Rattle.text.specs.Writing.{septetsOf};
+ghost use Rattle.address.specs.Address.{digitCharacter, digitValue, isDigit, withoutF, valueText, addressIn, addressSize, addressOctets, octetsOr, addressMaking, encoding};
+ghost use Rattle.address.specs.Parts.{fieldAt, checkOf, Spells, septetsOr};
+
+use octets::Octet;
+use octets::Place;
+use octets::Refusal;
+use octets::Span;
+use octets::Written;
+use text::Scanned;
+
+const TYPE_OF_NUMBER_ALPHANUMERIC: u8 = 5;
 
 // An SMS address. `address` holds digits, and text with type of number 5.
 pub struct SMSAddress {
@@ -8,4 +27,64 @@ pub struct SMSAddress {
     pub npi: u8,
     pub address: [u8; 290],
     pub address_length: usize,
+}
+
+// Whether an address can be written: its length octet, or the refusal.
+pub enum AddressCheck {
+    Fine(usize),
+    Refused(Refusal),
+}
+
+// The semi-octet of a character; F for one that is no digit.
+fn semi_octet_from_character(character: u8) -> u8
+    ensures { λ r. ⌜ r ≡ digitValue character ⌝ }
+{
+    match character {
+        b'0'..=b'9' => character - b'0',
+        b'*' => 0xA,
+        b'#' => 0xB,
+        b'a'..=b'c' => character - b'a' + 0xC,
+        _ => 0xF,
+    }
+}
+
+// The character of a semi-octet but F.
+fn character_from_semi_octet(value: u8) -> u8
+    requires { ⌜ value < 15 ⌝ }
+    ensures { λ r. ⌜ r ≡ digitCharacter value ⌝ }
+{
+    match value {
+        0..=9 => b'0' + value,
+        0xA => b'*',
+        0xB => b'#',
+        _ => b'a' - 0xC + value,
+    }
+}
+
+// Semi-octet i of octets.
+fn semi_octet(octets: &[u8], i: usize) -> u8
+    requires { ⌜ i / 2 < length (now octets) ⌝ }
+    ensures { λ r. ⌜ (r ≡ getD (semiOctets (now (octets .entry))) i 0) × (r < 16) ⌝ }
+{
+    let octet = octets[i / 2];
+    if i % 2 == 0 { octet % 16 } else { octet / 16 }
+}
+
+// Stores the digits of so many semi-octets, without F; their number.
+fn digits_text(value: &[u8], count: usize, text: &mut [u8; 290]) -> usize
+    requires { ⌜ (count ≤ 255) × ((count + 1) / 2 ≤ length (now value)) × (length (now text) ≡ 290) ⌝ }
+    ensures { λ r. ⌜ Wrote 0 (map digitCharacter (withoutF (take count (semiOctets (now (value .entry)))))) (now (text .entry)) r (now (text .exit)) ⌝ }
+{
+    let mut n = 0;
+    let mut i = 0;
+    while i < count {
+        let semi = semi_octet(value, i);
+        i += 1;
+        if semi == 0xF {
+            continue;
+        }
+        text[n] = character_from_semi_octet(semi);
+        n += 1;
+    }
+    n
 }
