@@ -2,11 +2,11 @@
 -- Assumes nothing.
 use Prim.Native.Nat.{ℕ, zero, suc, _+_, _-_, _<_, _≤_}
 use mathlib.Core.Path.{_≡_, refl, sym, ap, _∙_}
-use mathlib.Core.List.{List, [], _∷_, _++_}
+use mathlib.Core.List.{List, [], _∷_, _++_, append-nil}
 use native.Mathlib.Omega.{arith}
 use native.Mathlib.Nat.{add-zero, zero-add, sub-zero, zero-sub, suc-sub-suc, add-suc, suc-add}
 use borrow.Author.Tests.{le-leb, lt-leb}
-use lib.ListN.{length, take, drop, set, replicate, length-append, length-replicate}
+use lib.ListN.{length, take, drop, set, replicate, length-append, length-replicate, drop-of-length-le}
 use lib.Seq.{sets, sets-eq, take-at}
 use Rattle.octets.specs.declared.Refusal.{Refusal}
 use Rattle.octets.specs.declared.Refusal.the-variants.{OutputTooShort}
@@ -27,6 +27,10 @@ drop-zeros (suc k) (suc n) = rw suc-sub-suc (drop-zeros k n)
 -- from the start of a buffer that is long enough
 pub sets-start : (xs l : List ℕ) → length xs ≤ length l → sets l 0 xs ≡ xs ++ drop (length xs) l
 sets-start xs l h = let e : 0 + length xs ≤ length l = rw zero-add h in sets-eq xs l 0 e ∙ rw zero-add
+
+-- over the whole of a list
+pub sets-full : (xs l : List ℕ) → length xs ≡ length l → sets l 0 xs ≡ xs
+sets-full xs l e = sets-start xs l (omega arith) ∙ rw (drop-of-length-le l {i = length xs} (omega arith)) (append-nil xs)
 
 -- from the start of an array of zeros
 pub sets-zeros : (n : ℕ) (xs : List ℕ) → length xs ≤ n → sets (replicate n 0) 0 xs ≡ pad n xs

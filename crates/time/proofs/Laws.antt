@@ -1,20 +1,19 @@
 -- Fourteen digits and seven octets: what a time is, there and back, and one more pair in a loop.
 -- Assumes nothing.
-use Prim.Native.Nat.{ℕ, suc, _+_, _*_, _/_, _%_, _<_}
+use Prim.Native.Nat.{ℕ, suc, _+_, _*_, _/_, _%_, _<_, _≤_}
 use mathlib.Core.Path.{_≡_, refl, _∙_, ap₂}
 use mathlib.Core.Bool.{true, _&&_}
-use mathlib.Core.List.{List, [], _∷_, append-nil}
+use mathlib.Core.List.{List, [], _∷_}
 use mathlib.Core.Logic.{_↔_}
 use native.Mathlib.Numerals.{add-one}
 use native.Mathlib.Omega.{arith}
 use borrow.Author.Tests.{eq-eqb, eqb-true}
 use lib.Dec.{eqb}
-use lib.ListN.{length, drop, getD, set, replicate}
-use lib.Seq.{sets, drop-cons}
+use lib.ListN.{length, drop, getD, drop-of-length-le}
+use lib.Seq.{drop-cons}
 use Rattle.octets.specs.Each.{Octets, each}
 use Rattle.octets.proofs.Choice.{and-true, and-means}
 use Rattle.octets.proofs.Each.{each-means}
-use Rattle.octets.proofs.Laws.{sets-start}
 use Rattle.time.specs.Time.{hexDigit, isHex, hexValue, capitals, timeDigits, timeOctets, isTime}
 use Rattle.time.proofs.Hex.{hex-value, hex-digit}
 
@@ -82,25 +81,23 @@ pub digits-time : (os : List ℕ) → Octets os → length os ≡ 7 → isTime (
 unfolding isTime
 digits-time os h n = rw (length-digits os, n, hex-digits os h)
 
--- ---- one more pair in a loop: what is left, stored too, still gives the whole
+-- ---- the digits and the octets that a loop has left: one more pair, and none at the end
 
-pub digits-start : (os : List ℕ) → length os ≡ 7 → sets (replicate 14 0) 0 (timeDigits os) ≡ timeDigits os
-digits-start os n =
-    let e : length (timeDigits os) ≡ 14 = omega (arith, length-digits os) in
-    sets-start (timeDigits os) (replicate 14 0) (omega arith) ∙ rw e (append-nil _)
-
-module _ {whole : List ℕ} (l : List ℕ) (i : ℕ) where
-  pub digits-next : (os : List ℕ) → i < length os → sets l (2 * i) (timeDigits (drop i os)) ≡ whole
-      → sets (set (set l (2 * i) (hexDigit (getD os i 0 % 16))) (2 * i + 1) (hexDigit (getD os i 0 / 16))) (2 * (i + 1)) (timeDigits (drop (i + 1) os)) ≡ whole
+module _ (i : ℕ) where
+  pub digits-next : (os : List ℕ) → i < length os → timeDigits (drop i os) ≡ hexDigit (getD os i 0 % 16) ∷ hexDigit (getD os i 0 / 16) ∷ timeDigits (drop (i + 1) os)
   unfolding timeDigits
-  digits-next os h inv =
-      let e : 2 * (i + 1) ≡ suc (suc (2 * i)) = omega arith in
-      rw (e, add-one (2 * i), add-one i) (rw (drop-cons os i 0 h) at inv)
+  digits-next os h = rw (add-one, drop-cons os i 0 h)
 
-  pub octets-next : (at : ℕ) (ds : List ℕ) → 2 * i + 1 < length ds → sets l (at + i) (timeOctets (drop (2 * i) ds)) ≡ whole
-      → sets (set l (at + i) (hexValue (getD ds (2 * i) 0) + 16 * hexValue (getD ds (2 * i + 1) 0))) (at + (i + 1)) (timeOctets (drop (2 * (i + 1)) ds)) ≡ whole
+  pub digits-end : (os : List ℕ) → length os ≤ i → timeDigits (drop i os) ≡ []
+  unfolding timeDigits
+  digits-end os h = rw (drop-of-length-le os h)
+
+  pub octets-next : (ds : List ℕ) → 2 * i + 1 < length ds → timeOctets (drop (2 * i) ds) ≡ (hexValue (getD ds (2 * i) 0) + 16 * hexValue (getD ds (2 * i + 1) 0)) ∷ timeOctets (drop (2 * (i + 1)) ds)
   unfolding timeOctets
-  octets-next at ds h inv =
-      let e₁ : 2 * (i + 1) ≡ suc (suc (2 * i)) = omega arith in
-      let e₂ : at + (i + 1) ≡ suc (at + i) = omega arith in
-      rw (e₁, e₂, add-one (2 * i)) (rw (drop-cons ds (2 * i) 0 (omega arith), drop-cons ds (suc (2 * i)) 0 (omega arith)) at inv)
+  octets-next ds h =
+      let e : 2 * (i + 1) ≡ suc (suc (2 * i)) = omega arith in
+      rw (e, add-one (2 * i), drop-cons ds (2 * i) 0 (omega arith), drop-cons ds (suc (2 * i)) 0 (omega arith))
+
+  pub octets-end : (ds : List ℕ) → length ds ≤ 2 * i → timeOctets (drop (2 * i) ds) ≡ []
+  unfolding timeOctets
+  octets-end ds h = rw (drop-of-length-le ds h)
