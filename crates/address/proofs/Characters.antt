@@ -1,6 +1,6 @@
 -- The digits as the code tells them: tests that antt computes over every octet and every semi-octet.
 -- Assumes nothing.
-use Prim.Native.Nat.{ℕ, zero, suc, _+_, _-_, _*_, _/_, _%_, _<_}
+use Prim.Native.Nat.{ℕ, zero, suc, _+_, _-_, _*_, _/_, _%_, _<_, _≤_}
 use mathlib.Core.Path.{_≡_, refl}
 use mathlib.Core.Bool.{Bool, true, false, _&&_}
 use mathlib.Core.List.{List, [], _∷_}
@@ -15,6 +15,16 @@ use Rattle.octets.proofs.Table.{below}
 use Rattle.text.specs.Alphabet.{indexOf}
 use Rattle.address.specs.Address.{digitCharacters, digitCharacter, digitValue}
 
+-- a place in a list is at most its length
+index-small : (t : List ℕ) (x : ℕ) → indexOf t x ≤ length t
+unfolding indexOf
+index-small [] x = omega arith
+index-small (y ∷ ys) x = by-test (eqb y x) (index-small ys x)
+  where
+    by-test : (t : Bool) → indexOf ys x ≤ length ys → (if t then zero else suc (indexOf ys x)) ≤ suc (length ys)
+    by-test true h = omega arith
+    by-test false h = omega arith
+
 -- the value of a character by ranges
 abbrev pub byRange : ℕ → ℕ
 byRange c = if within 48 57 c then c - 48 else if within 97 99 c then c - 97 + 12 else if eqb c 42 then 10 else if eqb c 35 then 11 else 15
@@ -25,6 +35,11 @@ value-test c = eqb (digitValue c) (byRange c)
 pub value-by-range : (c : ℕ) → c < 256 → digitValue c ≡ byRange c
 unfolding value-test digitValue digitCharacters codes indexOf
 value-by-range c h = eqb-true _ _ (below value-test 256 refl c h)
+
+-- a value is at most 15
+pub value-small : (c : ℕ) → digitValue c ≤ 15
+unfolding digitValue digitCharacters codes
+value-small c = index-small (codes "0123456789*#abc") c
 
 -- the character of a value by ranges
 abbrev pub characterByRange : ℕ → ℕ

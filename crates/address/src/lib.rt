@@ -9,9 +9,8 @@ ghost use Rattle.octets.specs.Lent.{Wrote, lend};
 ghost use Rattle.octets.specs.SemiOctets.{semiOctets, inPairs};
 ghost use Rattle.septets.specs.Septets.{packedSeptets};
 ghost use Rattle.text.specs.Writing.{septetsOf};
-ghost use Rattle.address.specs.Address.{digitCharacter, digitValue, isDigit, withoutF, valueText, addressIn, addressSize, addressOctets, octetsOr, addressMaking, encoding};
+ghost use Rattle.address.specs.Address.{digitCharacter, digitValue, isDigit, withoutF, valueText, addressIn, addressSize, addressOctets, octetsOr, textField, limited, addressMaking, encoding};
 ghost use Rattle.address.specs.Parts.{fieldAt, checkOf, Spells, septetsOr};
-
 use octets::Octet;
 use octets::Place;
 use octets::Refusal;
@@ -87,4 +86,78 @@ fn digits_text(value: &[u8], count: usize, text: &mut [u8; 290]) -> usize
         n += 1;
     }
     n
+}
+
+// Stores the text of a value of so many semi-octets; its number of octets.
+fn value_text(ton: u8, count: usize, value: &[u8], text: &mut [u8; 290]) -> usize
+    requires { ⌜ (count ≤ 255) × ((count + 1) / 2 ≤ length (now value)) × (length (now text) ≡ 290) ⌝ }
+    ensures { λ r. ⌜ Wrote 0 (valueText ton count (now (value .entry))) (now (text .entry)) r (now (text .exit)) ⌝ }
+{
+    if ton == TYPE_OF_NUMBER_ALPHANUMERIC {
+        let unpacked = text::unpack_septets(value, 0, count * 4 / 7);
+        let shown = unpacked.text;
+        let n = unpacked.text_length;
+        return octets::put_octets(text, 0, &shown[..n]);
+    }
+    digits_text(value, count, text)
+}
+
+// The address field at a place, if it is there whole: where it starts, and the place behind it.
+pub fn address_at(data: &[u8], place: Place) -> Span
+    ensures { λ r. ⌜ r ≡ fieldAt (now («data» .entry)) place ⌝ }
+{
+    let Octet::Read(length, _) = place.octet(data) else {
+        return Span::Refused(Refusal::OctetsEnd);
+    };
+    place.span(data, 2 + (length as usize + 1) / 2)
+}
+
+// Every character is a digit, *, #, a, b or c.
+fn all_digits(text: &[u8]) -> bool
+    ensures { λ r. ⌜ r ≡ each isDigit (now (text .entry)) ⌝ }
+{
+    let mut i = 0;
+    while i < text.len() {
+        if semi_octet_from_character(text[i]) == 0xF {
+            return false;
+        }
+        i += 1;
+    }
+    true
+}
+
+// The same of a text in septets.
+fn check_text(npi: u8, text: &[u8]) -> AddressCheck
+    ensures { λ r. ⌜ r ≡ checkOf (limited (textField 5 npi (septetsOf (now (text .entry))))) ⌝ }
+{
+    let mut codes = [0u8; 255];
+    let Scanned::Counted(count) = text::scan_text(text, &mut codes) else {
+        return AddressCheck::Refused(Refusal::NotInAlphabet);
+    };
+    if 11 < count {
+        return AddressCheck::Refused(Refusal::AddressTooLong);
+    }
+    AddressCheck::Fine((count * 7 + 3) / 4)
+}
+
+// Whether type, plan and text can be written.
+pub fn check_address(ton: u8, npi: u8, text: &[u8]) -> AddressCheck
+    ensures { λ r. ⌜ r ≡ checkOf (addressMaking ton npi (now (text .entry))) ⌝ }
+{
+    if 7 < ton {
+        return AddressCheck::Refused(Refusal::NumberTypeOrPlanTooLarge);
+    }
+    if 15 < npi {
+        return AddressCheck::Refused(Refusal::NumberTypeOrPlanTooLarge);
+    }
+    if ton == TYPE_OF_NUMBER_ALPHANUMERIC {
+        return check_text(npi, text);
+    }
+    if !all_digits(text) {
+        return AddressCheck::Refused(Refusal::NotInAlphabet);
+    }
+    if 20 < text.len() {
+        return AddressCheck::Refused(Refusal::AddressTooLong);
+    }
+    AddressCheck::Fine(text.len())
 }

@@ -44,9 +44,12 @@ short-texts (s ∷ ss) d = (by-test (eqb s 0x1b) (short-texts ss (tail s ss d)),
     by-test true h = omega arith
     by-test false h = rw length-append (omega (arith, short s (d 0)))
 
+pub text-short : (os : List ℕ) (f n : ℕ) → length (textOf (septetsIn os f n)) ≤ 2 * n
+text-short os f n = omega (arith, short-texts (septetsIn os f n) (septets-septets os f n) .0, length-septets os f n)
+
 -- so it fits its array
 pub text-fits : (os : List ℕ) (f n : ℕ) → n ≤ 255 → length (textOf (septetsIn os f n)) ≤ 510
-text-fits os f n h = omega (arith, short-texts (septetsIn os f n) (septets-septets os f n) .0, length-septets os f n)
+text-fits os f n h = omega (arith, text-short os f n)
 
 -- ---- text that is read is characters of the tables, one after the other, and takes no more septets than were read
 

@@ -68,11 +68,12 @@ loop-again-2 c =
     let h = c .before .before .before .loop-test .taken in
     let size = long (now (a .value)) (a .count) (c .before .before .before .before .before .before .pre .1) in
     let r = read (now (a .value)) (a .count) (l .i) _ h (c .before .before .semi-octet .ensures .0) in
-    let e = shown (take (a .count) (semiOctets (now (a .value)))) (l .i) (omega arith) (λ q. c .before .if1 .left (sym r ∙ q)) in
-    (omega arith,
-    omega arith,
-    simp length-set (l .inv .2),
-    left-step _ (l .inv .3) (wrote-one _ _ _) (e ∙ rw (c .character-from-semi-octet .ensures, r)))
+    let e = shown (take (a .count) (semiOctets (now (a .value)))) (l .i) (omega arith) (λ q. c .before .if1 .left (sym r ∙ q)) in (
+      omega arith,
+      omega arith,
+      simp length-set (l .inv .2),
+      left-step _ (l .inv .3) (wrote-one _ _ _) (e ∙ rw (c .character-from-semi-octet .ensures, r)),
+    )
 
 returns : tie.Need-returns Inv-loop μ-loop
 returns c =
