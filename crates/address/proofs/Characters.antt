@@ -3,13 +3,13 @@
 use Prim.Native.Nat.{ℕ, zero, suc, _+_, _-_, _*_, _/_, _%_, _<_, _≤_}
 use mathlib.Core.Path.{_≡_, refl}
 use mathlib.Core.Bool.{Bool, true, false, _&&_}
-use mathlib.Core.List.{List, [], _∷_}
+use mathlib.Core.List.{List, [], _∷_, map}
 use native.Mathlib.Omega.{arith}
 use borrow.Author.Tests.{eqb-true}
 use lib.Dec.{eqb}
-use lib.ListN.{length, getD}
+use lib.ListN.{length, getD, drop}
 use Rattle.octets.specs.Choice.{if_then_else_, within}
-use Rattle.octets.specs.SemiOctets.{semiOctets}
+use Rattle.octets.specs.SemiOctets.{semiOctets, inPairs}
 use Rattle.octets.specs.Texts.{codes}
 use Rattle.octets.proofs.Table.{below}
 use Rattle.text.specs.Alphabet.{indexOf}
@@ -69,3 +69,22 @@ pub length-semi : (os : List ℕ) → length (semiOctets os) ≡ 2 * length os
 unfolding semiOctets
 length-semi [] = refl
 length-semi (o ∷ os) = rw (length-semi os) (omega arith)
+
+-- the values of characters, one by one
+pub value-at : (text : List ℕ) (i : ℕ) → i < length text → getD (map digitValue text) i 15 ≡ digitValue (getD text i 0)
+value-at [] i h = absurd (omega arith)
+value-at (c ∷ cs) zero h = refl
+value-at (c ∷ cs) (suc i) h = value-at cs i (omega arith)
+
+-- octets of semi-octets from octet j on: F stands where there are no more
+pub pairs-next : (ds : List ℕ) (j : ℕ) → j < (length ds + 1) / 2 → drop j (inPairs ds) ≡ (getD ds (2 * j) 15 + 16 * getD ds (2 * j + 1) 15) ∷ drop (j + 1) (inPairs ds)
+unfolding inPairs
+pairs-next [] j h = absurd (omega arith)
+pairs-next (d ∷ []) zero h = refl
+pairs-next (d ∷ []) (suc j) h = absurd (omega arith)
+pairs-next (d ∷ e ∷ ds) zero h = refl
+pairs-next (d ∷ e ∷ ds) (suc j) h =
+    let p : 2 * suc j ≡ suc (suc (2 * j)) = omega arith in
+    let q : suc (suc (2 * j)) + 1 ≡ suc (suc (2 * j + 1)) = omega arith in
+    let r : suc j + 1 ≡ suc (j + 1) = omega arith in
+    rw (p, q, r) (pairs-next ds j (omega arith))

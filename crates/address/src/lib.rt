@@ -7,7 +7,7 @@ ghost use lib.ListN.{length, getD, take, drop};
 ghost use Rattle.octets.specs.Each.{each};
 ghost use Rattle.octets.specs.Lent.{Wrote, lend};
 ghost use Rattle.octets.specs.SemiOctets.{semiOctets, inPairs};
-ghost use Rattle.septets.specs.Septets.{packedSeptets};
+ghost use Rattle.septets.specs.Septets.{octetCount, packedSeptets};
 ghost use Rattle.text.specs.Writing.{septetsOf};
 ghost use Rattle.address.specs.Address.{digitCharacter, digitValue, isDigit, withoutF, valueText, addressIn, addressSize, addressOctets, octetsOr, textField, limited, addressMaking, encoding};
 ghost use Rattle.address.specs.Parts.{fieldAt, checkOf, Spells, septetsOr};
@@ -160,4 +160,43 @@ pub fn check_address(ton: u8, npi: u8, text: &[u8]) -> AddressCheck
         return AddressCheck::Refused(Refusal::AddressTooLong);
     }
     AddressCheck::Fine(text.len())
+}
+
+// The semi-octet of character i, F behind the end.
+fn semi_octet_or_f(text: &[u8], i: usize) -> u8
+    ensures { λ r. ⌜ (r ≡ getD (map digitValue (now (text .entry))) i 15) × (r ≤ 15) ⌝ }
+{
+    if i < text.len() {
+        semi_octet_from_character(text[i])
+    } else {
+        0xF
+    }
+}
+
+// Writes digits two to an octet; the place behind them.
+fn put_digits(text: &[u8], out: &mut [u8], at: usize) -> usize
+    requires { ⌜ at + (length (now text) + 1) / 2 ≤ length (now out) ⌝ }
+    ensures { λ r. ⌜ Wrote at (inPairs (map digitValue (now (text .entry)))) (now (out .entry)) r (now (out .exit)) ⌝ }
+{
+    let octets = text.len() / 2 + text.len() % 2;
+    let mut j = 0;
+    while j < octets {
+        let first = semi_octet_or_f(text, 2 * j);
+        let second = semi_octet_or_f(text, 2 * j + 1);
+        out[at + j] = first + 16 * second;
+        j += 1;
+    }
+    at + octets
+}
+
+// Writes a text in septets; the place behind it.
+fn put_text(text: &[u8], out: &mut [u8], at: usize) -> usize
+    requires { ⌜ Spells (septetsOf (now text)) 11 × (at + octetCount 0 (length (septetsOr (septetsOf (now text)))) ≤ length (now out)) ⌝ }
+    ensures { λ r. ⌜ Wrote at (packedSeptets 0 (septetsOr (septetsOf (now (text .entry))))) (now (out .entry)) r (now (out .exit)) ⌝ }
+{
+    let mut codes = [0u8; 255];
+    let Scanned::Counted(count) = text::scan_text(text, &mut codes) else {
+        return at;
+    };
+    septets::pack_octets(&codes[..count], 0, out, at)
 }
