@@ -3,3 +3,4 @@ pub mod Table
 pub mod Choice
 pub mod Places
 pub mod Each
+pub mod SemiOctets
