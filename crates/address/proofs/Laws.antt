@@ -1,0 +1,115 @@
+-- Addresses: a field that was read and its canonical octets are the same address, and what was written reads back.
+-- Assumes nothing.
+use Prim.Native.Nat.{ℕ, _+_, _≤_}
+use mathlib.Core.Path.{_≡_, refl, sym, ap, _∙_}
+use mathlib.Core.Bool.{Bool, true, false, _||_, true≢false}
+use mathlib.Core.List.{List}
+use mathlib.Core.Option.{Option, none, some}
+use mathlib.Core.Logic.{_↔_}
+use native.Mathlib.Omega.{arith}
+use borrow.Author.Tests.{ltb-false, le-ltb}
+use lib.Dec.{ltb}
+use lib.ListN.{length, getD, take, drop}
+use lib.Seq.{getD-drop}
+use Rattle.octets.specs.Choice.{if_then_else_}
+use Rattle.octets.specs.Each.{Octets}
+use Rattle.octets.specs.Lent.{Making, refused, made}
+use Rattle.octets.specs.declared.Refusal.{Refusal}
+use Rattle.octets.specs.declared.Refusal.the-variants.{LengthTooLarge, NumberTypeOrPlanTooLarge, AddressTooLong}
+use Rattle.octets.specs.declared.Written.{Written}
+use Rattle.octets.proofs.Laws.{take-pad}
+use Rattle.address.specs.declared.SMSAddress.{SMSAddress}
+use Rattle.address.specs.Address.{typeOfNumber, planOf, addressWith, textIn, addressIn, addressSize, addressOctets, canonicalAddress, limited, addressMaking, encoding}
+use Rattle.address.proofs.Shapes.{octets-read, octets-octets, read-fits}
+
+-- a whole field: octets, as many as the first of them tells
+pub record Field (f : List ℕ) : Type 0 where
+  pub octets : Octets f
+  pub whole : addressSize f ≡ length f
+
+-- ---- a field and its canonical octets
+
+abbrev tonIn : List ℕ → ℕ
+tonIn f = typeOfNumber (getD f 1 0)
+
+abbrev npiIn : List ℕ → ℕ
+npiIn f = planOf (getD f 1 0)
+
+module _ (f : List ℕ) (field : Field f) where
+  value-octets : Octets (drop 2 f)
+  value-octets i = rw getD-drop (field .octets (2 + i))
+
+  -- what was read can be written, and the canonical octets are what is written of it
+  canonical-written : (addressOctets (tonIn f) (npiIn f) (textIn f) ≡ some (canonicalAddress f)) × (getD (canonicalAddress f) 0 0 ≤ getD f 0 0) × (length (textIn f) ≤ 290)
+  unfolding canonicalAddress textIn
+  canonical-written = let (xs, e, n, s) = read-fits (tonIn f) (npiIn f) (getD f 0 0) (drop 2 f) (field .octets 0) value-octets in (rw e, rw e n, s)
+
+  -- there always are canonical octets
+  pub canonical-is-some : (xs : List ℕ) × (addressOctets (typeOfNumber (getD f 1 0)) (planOf (getD f 1 0)) (textIn f) ≡ some xs)
+  canonical-is-some = (canonicalAddress f, canonical-written .0)
+
+  -- the canonical length octet is no larger
+  pub canonical-shorter : getD (canonicalAddress f) 0 0 ≤ getD f 0 0
+  canonical-shorter = canonical-written .1
+
+  canonical-read : (addressSize (canonicalAddress f) ≡ length (canonicalAddress f)) × (addressIn (canonicalAddress f) ≡ addressIn f)
+  unfolding addressIn
+  canonical-read = octets-read (tonIn f) (npiIn f) (textIn f) (canonicalAddress f) (omega arith) (omega arith) (canonical-written .0)
+
+  -- a field and its canonical octets are read as the same address
+  pub canonical-reads : addressIn (canonicalAddress f) ≡ addressIn f
+  canonical-reads = canonical-read .1
+
+  -- canonical octets are octets and tell their own end
+  pub canonical-field : Field (canonicalAddress f)
+  canonical-field = record {
+    octets = octets-octets (tonIn f) (npiIn f) (textIn f) (canonicalAddress f) (omega arith) (omega arith) (canonical-written .0) (omega (arith, canonical-shorter, field .octets 0));
+    whole = canonical-read .0;
+  }
+
+  -- the text that is read fits its array
+  pub text-short : length (textIn f) ≤ 290
+  text-short = canonical-written .2
+
+  -- an address that was read is written as its canonical octets exactly when their value has at most 10 octets, else refused with 11
+  pub read-written : encoding (addressIn f)
+      ≡ (if ltb 12 (length (canonicalAddress f)) then refused AddressTooLong else made (canonicalAddress f) (Written.Done (length (canonicalAddress f))))
+  unfolding encoding addressIn addressWith addressMaking
+  read-written = rw (le-ltb 290 (length (textIn f)) text-short, take-pad, le-ltb 7 (tonIn f) (omega arith), le-ltb 15 (npiIn f) (omega arith), canonical-written .0)
+
+-- two fields are read as the same address exactly when their canonical octets are the same
+pub address-equal : (f g : List ℕ) → Field f → Field g → (addressIn f ≡ addressIn g) ↔ (canonicalAddress f ≡ canonicalAddress g)
+unfolding addressIn addressWith canonicalAddress
+address-equal f g p q = (
+  λ e. let t = ap (λ (a : SMSAddress). a .ton) e in
+      let n = ap (λ (a : SMSAddress). a .npi) e in
+      let x : textIn f ≡ textIn g = sym (take-pad 290 (textIn f)) ∙ ap (λ (a : SMSAddress). take (a .«address_length») (a .address)) e ∙ take-pad 290 (textIn g) in
+      rw (t, n, x),
+  λ e. sym (canonical-reads f p) ∙ ap addressIn e ∙ canonical-reads g q,
+)
+
+-- ---- what was written
+
+or-false : (a b : Bool) → (a || b) ≡ false → (a ≡ false) × (b ≡ false)
+or-false false b e = (refl, e)
+or-false true b e = absurd (true≢false e)
+
+-- a test that refuses did not hold
+passed : {A : Type 0} {m : Making A} {xs : List ℕ} {w : A} (r : Refusal) (t : Bool) → (if t then refused r else m) ≡ made xs w → (t ≡ false) × (m ≡ made xs w)
+passed r true e = let z : _≡_ {A = ℕ} 0 1 = cc in absurd (omega arith)
+passed r false e = (refl, e)
+
+limited-made : (o : Option (List ℕ)) (xs : List ℕ) (w : Written) → limited o ≡ made xs w → o ≡ some xs
+limited-made none xs w e = let z : _≡_ {A = ℕ} 0 1 = cc in absurd (omega arith)
+limited-made (some ys) xs w e = let (few, m) = passed AddressTooLong (ltb 12 (length ys)) e in cc
+
+-- what was written is a whole field, and reads back as the same record
+pub written-reads : (a : SMSAddress) (xs : List ℕ) (w : Written) → encoding a ≡ made xs w
+    → (addressSize xs ≡ length xs) × (addressIn xs ≡ addressWith (a .ton) (a .npi) (take (a .«address_length») (a .address)))
+unfolding encoding addressMaking
+written-reads a xs w e =
+    let (short, m) = passed LengthTooLarge (ltb 290 (a .«address_length»)) e in
+    let (small, o) = passed NumberTypeOrPlanTooLarge (ltb 7 (a .ton) || ltb 15 (a .npi)) m in
+    let (t, p) = or-false (ltb 7 (a .ton)) (ltb 15 (a .npi)) small in
+    octets-read (a .ton) (a .npi) (take (a .«address_length») (a .address)) xs (omega (arith, ltb-false 7 (a .ton) t)) (omega (arith, ltb-false 15 (a .npi) p))
+    (limited-made _ xs w o)
