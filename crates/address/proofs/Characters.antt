@@ -65,11 +65,6 @@ semi-high [] k = omega arith
 semi-high (o ∷ os) zero = refl
 semi-high (o ∷ os) (suc k) = let e : 2 * suc k + 1 ≡ suc (suc (2 * k + 1)) = omega arith in rw e (semi-high os k)
 
-pub length-semi : (os : List ℕ) → length (semiOctets os) ≡ 2 * length os
-unfolding semiOctets
-length-semi [] = refl
-length-semi (o ∷ os) = rw (length-semi os) (omega arith)
-
 -- the values of characters, one by one
 pub value-at : (text : List ℕ) (i : ℕ) → i < length text → getD (map digitValue text) i 15 ≡ digitValue (getD text i 0)
 value-at [] i h = absurd (omega arith)

@@ -6,26 +6,24 @@ use mathlib.Core.Bool.{Bool, true, false, _||_}
 use mathlib.Core.List.{List, [], _∷_, map}
 use mathlib.Core.Option.{Option, none, some}
 use native.Mathlib.Omega.{arith}
-use borrow.Author.Tests.{lt-ltb, le-ltb, eq-eqb, ne-eqb}
-use lib.Dec.{ltb}
-use lib.ListN.{length, length-map}
+use native.Mathlib.Numerals.{add-one, add-two}
+use borrow.Author.Tests.{lt-ltb, le-ltb, eq-eqb, ne-eqb, ltb-true, ltb-false, eqb-true, eqb-false}
+use lib.Dec.{eqb, ltb}
+use lib.ListN.{length, take, set, length-map}
 use Rattle.octets.specs.Each.{each}
-use Rattle.octets.specs.Lent.{refused, made}
+use Rattle.octets.specs.Lent.{Making, refused, made, Wrote}
 use Rattle.octets.specs.SemiOctets.{inPairs}
-use Rattle.octets.specs.declared.Refusal.the-variants.{NumberTypeOrPlanTooLarge, NotInAlphabet, AddressTooLong}
+use Rattle.octets.specs.declared.Refusal.{Refusal}
+use Rattle.octets.specs.declared.Refusal.the-variants.{LengthTooLarge, NumberTypeOrPlanTooLarge, NotInAlphabet, AddressTooLong}
 use Rattle.octets.specs.declared.Written.{Written}
+use Rattle.octets.proofs.SemiOctets.{length-pairs}
 use Rattle.septets.specs.Septets.{packedSeptets}
 use Rattle.septets.proofs.Inverse.{length-packed}
 use Rattle.text.specs.Writing.{septetsOf}
 use Rattle.address.specs.declared.AddressCheck.{AddressCheck}
-use Rattle.address.specs.Address.{digitValue, isDigit, fieldOf, textField, addressOctets, limited, addressMaking}
+use Rattle.address.specs.declared.SMSAddress.{SMSAddress}
+use Rattle.address.specs.Address.{digitValue, isDigit, fieldOf, textField, addressOctets, octetsOr, limited, addressMaking, encoding}
 use Rattle.address.specs.Parts.{checkOf}
-
-pub length-pairs : (ds : List ℕ) → length (inPairs ds) ≡ (length ds + 1) / 2
-unfolding inPairs
-length-pairs [] = refl
-length-pairs (d ∷ []) = refl
-length-pairs (d ∷ e ∷ ds) = rw (length-pairs ds) (omega arith)
 
 -- a value of at most ten octets is written, a longer one is refused
 module _ (ton npi l : ℕ) (value : List ℕ) where
@@ -46,6 +44,9 @@ module _ (ton npi : ℕ) {o : Option (List ℕ)} where
 
     pub text-fine : length ss ≤ 11 → checkOf (limited (textField ton npi o)) ≡ AddressCheck.Fine ((length ss * 7 + 3) / 4)
     text-fine h = rw (e, limited-fine ton npi ((length ss * 7 + 3) / 4) (packedSeptets 0 ss) (rw length-packed (omega arith)))
+
+size : (text : List ℕ) → length (inPairs (map digitValue text)) ≡ (length text + 1) / 2
+size text = length-pairs (map digitValue text) ∙ rw length-map
 
 -- type, plan and text
 module _ (ton npi : ℕ) (text : List ℕ) where
@@ -77,12 +78,110 @@ module _ (ton npi : ℕ) (text : List ℕ) where
           unfolding addressOctets
           digits-octets = making-limited ∙ rw (ne-eqb ton 5 digits, e)
 
-          size : length (inPairs (map digitValue text)) ≡ (length text + 1) / 2
-          size = length-pairs (map digitValue text) ∙ rw length-map
-
           pub digits-long : 20 < length text → addressMaking ton npi text ≡ refused AddressTooLong
-          digits-long h = digits-octets ∙ limited-long ton npi (length text) (inPairs (map digitValue text)) (rw size (omega arith))
+          digits-long h = digits-octets ∙ limited-long ton npi (length text) (inPairs (map digitValue text)) (rw (size text) (omega arith))
 
           pub digits-fine : length text ≤ 20 → addressMaking ton npi text
               ≡ made (fieldOf ton npi (length text) (inPairs (map digitValue text))) (Written.Done (length (fieldOf ton npi (length text) (inPairs (map digitValue text)))))
-          digits-fine h = digits-octets ∙ limited-fine ton npi (length text) (inPairs (map digitValue text)) (rw size (omega arith))
+          digits-fine h = digits-octets ∙ limited-fine ton npi (length text) (inPairs (map digitValue text)) (rw (size text) (omega arith))
+
+-- ---- an address that a check passed
+
+no : {A : Type 0} {c : AddressCheck} {l : ℕ} (r : Refusal) → c ≡ AddressCheck.Fine l → c ≡ AddressCheck.Refused r → A
+no r p q = let z : _≡_ {A = ℕ} 0 1 = cc in absurd (omega arith)
+
+module _ (ton npi : ℕ) (text : List ℕ) (l : ℕ) (fine : checkOf (addressMaking ton npi text) ≡ AddressCheck.Fine l) where
+  pub fine-range : (ton ≤ 7) × (npi ≤ 15)
+  fine-range = by (ltb 7 ton) refl (ltb 15 npi) refl
+    where
+      by : (a : Bool) → ltb 7 ton ≡ a → (b : Bool) → ltb 15 npi ≡ b → (ton ≤ 7) × (npi ≤ 15)
+      by true p b q = no _ fine (ap checkOf (wrong-type ton npi text (ltb-true _ _ p)))
+      by false p true q = no _ fine (ap checkOf (wrong-plan ton npi text (ltb-false _ _ p) (ltb-true _ _ q)))
+      by false p false q = (ltb-false _ _ p, ltb-false _ _ q)
+
+  -- it has at most eleven septets, or at most twenty digits; and so its octets
+  abbrev pub InSeptets : Type 0
+  InSeptets =
+      (ss : List ℕ) × (septetsOf text ≡ some ss) × (length ss ≤ 11) × (l ≡ (length ss * 7 + 3) / 4) × (addressOctets ton npi text ≡ some (fieldOf ton npi l (packedSeptets 0 ss)))
+
+  pub fine-text : ton ≡ 5 → InSeptets
+  unfolding addressOctets
+  fine-text e = by (septetsOf text) refl
+    where
+      told : checkOf (limited (textField 5 npi (septetsOf text))) ≡ AddressCheck.Fine l
+      told = sym (ap checkOf (text-making ton npi text (fine-range .0) (fine-range .1) e)) ∙ fine
+
+      by-count : (ss : List ℕ) → septetsOf text ≡ some ss → (t : Bool) → ltb 11 (length ss) ≡ t → InSeptets
+      by-count ss p true q = no _ told (text-long 5 npi ss p (ltb-true _ _ q))
+      by-count ss p false q =
+          let f = text-fine 5 npi ss p (ltb-false _ _ q) in
+          let n : l ≡ (length ss * 7 + 3) / 4 = cc told in
+          (ss, p, ltb-false _ _ q, n, rw (eq-eqb ton 5 e, p, n))
+
+      by : (o : Option (List ℕ)) → septetsOf text ≡ o → InSeptets
+      by none p = no _ told (text-none 5 npi p)
+      by (some ss) p = by-count ss p (ltb 11 (length ss)) refl
+
+  abbrev pub InDigits : Type 0
+  InDigits = (length text ≤ 20) × (l ≡ length text) × (addressOctets ton npi text ≡ some (fieldOf ton npi l (inPairs (map digitValue text))))
+
+  pub fine-digits : (ton ≡ 5 → ⊥) → InDigits
+  unfolding addressOctets
+  fine-digits d = by (each isDigit text) refl (ltb 20 (length text)) refl
+    where
+      by : (t : Bool) → each isDigit text ≡ t → (u : Bool) → ltb 20 (length text) ≡ u → InDigits
+      by false p u q = no _ fine (ap checkOf (digits-none ton npi text (fine-range .0) (fine-range .1) d p))
+      by true p true q = no _ fine (ap checkOf (digits-long ton npi text (fine-range .0) (fine-range .1) d p (ltb-true _ _ q)))
+      by true p false q =
+          let f = ap checkOf (digits-fine ton npi text (fine-range .0) (fine-range .1) d p (ltb-false _ _ q)) in
+          let n : l ≡ length text = cc in
+          (ltb-false _ _ q, n, rw (ne-eqb ton 5 d, p, n))
+
+  pub fine-small : l ≤ 20
+  fine-small = by (eqb ton 5) refl
+    where
+      by : (t : Bool) → eqb ton 5 ≡ t → l ≤ 20
+      by true e = let f = fine-text (eqb-true _ _ e) in omega (arith, f .2, f .3)
+      by false e = let f = fine-digits (eqb-false _ _ e) in omega (arith, f .0, f .1)
+
+  -- what is to be written, and how long it is
+  abbrev pub octets : List ℕ
+  octets = octetsOr [] (addressOctets ton npi text)
+
+  pub fine-size : length octets ≡ 2 + (l + 1) / 2
+  fine-size = by (eqb ton 5) refl
+    where
+      by : (t : Bool) → eqb ton 5 ≡ t → length octets ≡ 2 + (l + 1) / 2
+      by true e = let f = fine-text (eqb-true _ _ e) in omega (arith, ap (λ (o : Option (List ℕ)). length (octetsOr [] o)) (f .4), f .3, length-packed 0 (f .0))
+      by false e = let f = fine-digits (eqb-false _ _ e) in omega (arith, ap (λ (o : Option (List ℕ)). length (octetsOr [] o)) (f .2), f .1, size text)
+
+  pub fine-made : addressMaking ton npi text ≡ made octets (Written.Done (length octets))
+  fine-made = making ∙ by (addressOctets ton npi text) refl
+    where
+      making : addressMaking ton npi text ≡ limited (addressOctets ton npi text)
+      making = making-limited ton npi text (fine-range .0) (fine-range .1)
+
+      by : (o : Option (List ℕ)) → addressOctets ton npi text ≡ o → limited (addressOctets ton npi text) ≡ made octets (Written.Done (length octets))
+      by none e = no _ fine (ap checkOf making ∙ ap (λ (o : Option (List ℕ)). checkOf (limited o)) e)
+      by (some xs) e =
+          let few : length xs ≤ 12 = omega (arith, fine-size, fine-small, ap (λ (o : Option (List ℕ)). length (octetsOr [] o)) e) in
+          rw (e, le-ltb 12 (length xs) few)
+
+-- what a check refuses is refused
+pub refused-made : {m : Making Written} {r : Refusal} → checkOf m ≡ AddressCheck.Refused r → m ≡ refused r
+refused-made {m = refused k} e = cc
+refused-made {m = made xs w} e = let z : _≡_ {A = ℕ} 0 1 = cc in absurd (omega arith)
+
+-- a record: its length first
+module _ (a : SMSAddress) where
+  pub encoding-long : 290 < a .«address_length» → encoding a ≡ refused LengthTooLarge
+  unfolding encoding
+  encoding-long h = rw (lt-ltb 290 (a .«address_length») h)
+
+  pub encoding-parts : a .«address_length» ≤ 290 → encoding a ≡ addressMaking (a .ton) (a .npi) (take (a .«address_length») (a .address))
+  unfolding encoding
+  encoding-parts h = rw (le-ltb 290 (a .«address_length») h)
+
+-- a field written octet by octet: L, type, and the value behind them
+pub wrote-field : (at l t : ℕ) (value out : List ℕ) {next : ℕ} {after : List ℕ} → Wrote (at + 2) value (set (set out at l) (at + 1) t) next after → Wrote at (l ∷ t ∷ value) out next after
+wrote-field at l t value out w = record { place = w .place ∙ omega arith; list = w .list ∙ rw (add-one, add-two) }

@@ -7,7 +7,7 @@ use mathlib.Core.List.{List, [], _∷_, map}
 use mathlib.Core.Option.{Option, none, some}
 use native.Mathlib.Omega.{arith}
 use lib.Dec.{eqb}
-use lib.ListN.{length, getD, take, length-append, length-take, length-map}
+use lib.ListN.{length, getD, take, length-take, length-map}
 use Rattle.octets.specs.Choice.{if_then_else_}
 use Rattle.octets.specs.Each.{Octets, each}
 use Rattle.octets.specs.SemiOctets.{semiOctets, inPairs}
@@ -16,10 +16,8 @@ use Rattle.septets.specs.Septets.{septetsIn, packedSeptets}
 use Rattle.septets.proofs.Inverse.{length-packed, length-septets, septets-septets, digits-of}
 use Rattle.text.specs.Reading.{textOf}
 use Rattle.text.specs.Writing.{septetsOf}
-use Rattle.text.specs.Characters.{Entry, plain, extended, octetsFor, septetsFor, spelled, coded}
-use Rattle.text.proofs.Adequate.{entries-of, text-packed-text}
-use Rattle.text.proofs.Laws.{read-writable}
-use Rattle.text.proofs.Tables.{short, short-escaped, extension-shown, extension-small}
+use Rattle.text.proofs.Adequate.{text-packed-text}
+use Rattle.text.proofs.Laws.{read-writable, text-short}
 use Rattle.address.specs.Address.{digitCharacter, digitValue, isDigit, withoutF, typeOfNumber, planOf, valueText, addressWith, textIn, addressIn, addressSize, fieldOf, textField, addressOctets}
 use Rattle.address.proofs.DigitTexts.{below-cons, below-take, values-digits, characters-back, without-digits, without-none}
 
@@ -82,20 +80,6 @@ module _ (ton npi : ℕ) (text xs : List ℕ) (t : ton < 8) (p : npi < 16) (e : 
       let kind = 128 + ton * 16 + npi in
       rw x (below-cons 256 l (kind ∷ value) k (below-cons 256 kind value (omega arith) o))
 
--- ---- a text has at most two octets for each of its septets
-
-short-entry : (e : Entry) → length (octetsFor e) ≤ 2 * length (septetsFor e)
-short-entry (plain code h n) = short code h
-short-entry (extended place h) = let s = rw (extension-shown place h) at (short-escaped _ (extension-small place h)) in omega arith
-
-short-spelled : (es : List Entry) → length (spelled es) ≤ 2 * length (coded es)
-unfolding spelled coded
-short-spelled [] = omega arith
-short-spelled (e ∷ es) = simp length-append (omega (arith, short-entry e, short-spelled es))
-
-short-text : (text ss : List ℕ) → septetsOf text ≡ some ss → length text ≤ 2 * length ss
-short-text text ss e = let (es, s, c) = entries-of text ss e in omega (arith, short-spelled es, ap length s, ap length c)
-
 -- ---- what is read can be written, with a length octet that is no larger, and fits its array
 
 module _ (ton npi l : ℕ) (value : List ℕ) where
@@ -111,7 +95,7 @@ module _ (ton npi l : ℕ) (value : List ℕ) where
           let ss = septetsIn value 0 (l * 4 / 7) in
           let (ks, e, n) = read-writable ss (septets-septets value 0 (l * 4 / 7)) in
           let few : length ks ≤ l * 4 / 7 = omega (arith, length-septets value 0 (l * 4 / 7)) in
-          (fieldOf ton npi ((length ks * 7 + 3) / 4) (packedSeptets 0 ks), rw (t, e), omega arith, rw t (omega (arith, short-text (textOf ss) ks e)))
+          (fieldOf ton npi ((length ks * 7 + 3) / 4) (packedSeptets 0 ks), rw (t, e), omega arith, rw t (omega (arith, text-short value 0 (l * 4 / 7))))
       by false t =
           let ss = take l (semiOctets value) in
           let ds = withoutF ss in

@@ -1,7 +1,7 @@
 // Addresses (TS 23.040 §9.1.2.5).
 ghost use mathlib.Core.Path.{_≡_};
 ghost use mathlib.Core.Bool.{true};
-ghost use mathlib.Core.List.{map};
+ghost use mathlib.Core.List.{[], map};
 ghost use Prim.Native.Nat.{_+_, _*_, _/_, _≤_, _<_};
 ghost use lib.ListN.{length, getD, take, drop};
 ghost use Rattle.octets.specs.Each.{each};
@@ -199,4 +199,67 @@ fn put_text(text: &[u8], out: &mut [u8], at: usize) -> usize
         return at;
     };
     septets::pack_octets(&codes[..count], 0, out, at)
+}
+
+// Writes an address that was checked, with the length octet that the check told; the place behind it.
+pub fn put_address(ton: u8, npi: u8, text: &[u8], count: usize, out: &mut [u8], at: usize) -> usize
+    requires { ⌜ (checkOf (addressMaking ton npi (now text)) ≡ AddressCheck.Fine count) × (at + 2 + (count + 1) / 2 ≤ length (now out)) ⌝ }
+    ensures { λ r. ⌜ Wrote at (octetsOr [] (addressOctets ton npi (now (text .entry)))) (now (out .entry)) r (now (out .exit)) ⌝ }
+{
+    out[at] = count as u8;
+    out[at + 1] = 128 + ton * 16 + npi;
+    if ton == TYPE_OF_NUMBER_ALPHANUMERIC {
+        return put_text(text, out, at + 2);
+    }
+    put_digits(text, out, at + 2)
+}
+
+// Writes type, plan and text to the start of a lent output.
+fn encode_parts(ton: u8, npi: u8, text: &[u8], out: &mut [u8]) -> Written
+    ensures { λ r. ⌜ (r, now (out .exit)) ≡ lend Written.Refused (addressMaking ton npi (now (text .entry))) (now (out .entry)) ⌝ }
+{
+    match check_address(ton, npi, text) {
+        AddressCheck::Refused(r) => Written::Refused(r),
+        AddressCheck::Fine(count) => {
+            let needed = 2 + (count + 1) / 2;
+            if out.len() < needed {
+                return Written::Refused(Refusal::OutputTooShort);
+            }
+            Written::Done(put_address(ton, npi, text, count, out, 0))
+        }
+    }
+}
+
+impl SMSAddress {
+    // Writes the address to the start of a lent output (TS 23.040 §9.1.2.5).
+    pub fn encode(self, out: &mut [u8]) -> Written
+        ensures { λ r. ⌜ (r, now (out .exit)) ≡ lend Written.Refused (encoding self) (now (out .entry)) ⌝ }
+    {
+        let n = self.address_length;
+        if 290 < n {
+            return Written::Refused(Refusal::LengthTooLarge);
+        }
+        let address = self.address;
+        encode_parts(self.ton, self.npi, &address[..n], out)
+    }
+
+    // The address field that starts at `at`.
+    pub fn decode(data: &[u8], at: usize) -> SMSAddress
+        requires { ⌜ at + addressSize (drop at (now «data»)) ≤ length (now «data») ⌝ }
+        ensures { λ r. ⌜ r ≡ addressIn (take (addressSize (drop at (now («data» .entry)))) (drop at (now («data» .entry)))) ⌝ }
+    {
+        let count = data[at] as usize;
+        let type_of_address = data[at + 1];
+        let ton = type_of_address / 16 % 8;
+        let start = at + 2;
+        let end = start + (count + 1) / 2;
+        let mut address = [0u8; 290];
+        let address_length = value_text(ton, count, &data[start..end], &mut address);
+        SMSAddress {
+            ton,
+            npi: type_of_address % 16,
+            address,
+            address_length,
+        }
+    }
 }

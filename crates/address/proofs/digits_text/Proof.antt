@@ -12,9 +12,9 @@ use denote.Ref.{now}
 use lib.ListN.{length, getD, take, drop, set, length-set, drop-of-length-le}
 use lib.Seq.{sets, drop-cons, getD-take, length-take-le}
 use Rattle.octets.specs.SemiOctets.{semiOctets}
+use Rattle.octets.proofs.SemiOctets.{length-semi}
 use Rattle.octets.proofs.Laws.{Left, left-start, left-step, left-end, wrote-one}
 use Rattle.address.specs.Address.{digitCharacter, withoutF}
-use Rattle.address.proofs.Characters.{length-semi}
 use Rattle.address.proofs.digits_text.Statement.{statement}
 use Rattle.address.proofs.digits_text.Tie as tie
 

@@ -10,10 +10,10 @@ use denote.Ref.{now}
 use lib.ListN.{length, drop, length-map, length-set, drop-of-length-le}
 use lib.Seq.{sets}
 use Rattle.octets.specs.SemiOctets.{inPairs}
+use Rattle.octets.proofs.SemiOctets.{length-pairs}
 use Rattle.octets.proofs.Laws.{Left, left-start, left-step, left-end, wrote-one}
 use Rattle.address.specs.Address.{digitValue}
 use Rattle.address.proofs.Characters.{pairs-next}
-use Rattle.address.proofs.Checks.{length-pairs}
 use Rattle.address.proofs.put_digits.Statement.{statement}
 use Rattle.address.proofs.put_digits.Tie as tie
 

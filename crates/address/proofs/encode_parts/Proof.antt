@@ -1,0 +1,55 @@
+-- `address::encode_parts` meets its contract: check, measure, write.
+-- Assumes nothing.
+use Prim.Native.Nat.{ℕ, _+_, _/_, _≤_, _<_}
+use mathlib.Core.Path.{_≡_, refl, sym, ap, _∙_}
+use mathlib.Core.List.{List}
+use native.Mathlib.Omega.{arith}
+use native.Mathlib.Nat.{zero-add}
+use borrow.Author.Needs.{needs}
+use denote.Ref.{now}
+use lib.ListN.{length}
+use Rattle.octets.specs.declared.Written.{Written}
+use Rattle.octets.proofs.Laws.{lent-refused, lent-short, lent-done}
+use Rattle.address.specs.declared.AddressCheck.{AddressCheck}
+use Rattle.address.specs.Address.{addressMaking}
+use Rattle.address.specs.Parts.{checkOf}
+use Rattle.address.proofs.Checks.{fine-small, fine-size, fine-made, refused-made}
+use Rattle.address.proofs.encode_parts.Reads as reads
+use Rattle.address.proofs.encode_parts.Lts as lts
+use Rattle.address.proofs.check_address.Reads as check-address-reads
+use Rattle.address.proofs.put_address.Reads as put-address-reads
+use Rattle.address.proofs.encode_parts.Statement.{statement}
+use Rattle.address.proofs.encode_parts.Tie as tie
+
+-- where the check has passed
+abbrev Passed : Type 0
+Passed = lts.After-known-told2 (check-address-reads.Asked, check-address-reads.Learnt, put-address-reads.Asked, put-address-reads.Learnt) reads.Pre reads.Post
+
+passed : (c : Passed) → let a = c .before .before .before .before .before .before .args in checkOf (addressMaking (a .ton) (a .npi) (now (a .text))) ≡ AddressCheck.Fine (c .before .count .given .0 .0)
+passed c = sym (c .before .before .before .check-address .ensures) ∙ c .before .count .given .1
+
+too-short : tie.Need-returns
+too-short c =
+    let f = passed (c .before) in
+    lent-short Written.Refused _ (fine-made _ _ _ _ f) (rw (fine-size _ _ _ _ f) (c .if1 .taken))
+
+written : tie.Need-returns-3
+written c =
+    let f = passed (c .before .before .before .before .before) in
+    let w = c .before .before .put-address .ensures in
+    rw (w .place, zero-add) (lent-done Written.Refused _ (fine-made _ _ _ _ f) (rw (fine-size _ _ _ _ f) (c .before .before .before .before .if1 .left)) (w .list))
+
+pub encode-parts-spec : {M : Type 1} → statement M
+encode-parts-spec =
+    tie.close
+    (tie.spec
+    (λ c κs. tt)
+    (λ c. search needs)
+    (λ c. search needs)
+    (λ c. omega (arith, fine-small _ _ _ _ (passed c)))
+    (λ c. omega (arith, fine-small _ _ _ _ (passed c)))
+    too-short
+    (λ c κs. (passed (c .before .before), omega arith))
+    (λ c. lent-refused Written.Refused _ _ (refused-made (sym (c .before .before .before .check-address .ensures) ∙ c .before .r .given .1)))
+    (λ c. search needs)
+    written)
