@@ -7,9 +7,14 @@ use Rattle.septets.specs.Septets.{numberOf, digitsOf, septetsIn, packedSeptets}
 use Rattle.text.specs.Alphabet.{rowWith, indexOf, character, escaped}
 use Rattle.text.specs.Reading.{utf8, textOf, afterEscape, unpacked, shown as shownText}
 use Rattle.text.specs.Writing.{extendedCode, codeOf, same, twoOctets, threeOctets, firstCharacter, before, behind, scan, packedBehind, packing}
+use Rattle.octets.specs.Each.{each}
+use Rattle.octets.specs.SemiOctets.{semiOctets, inPairs}
+use Rattle.octets.specs.Texts.{codes}
+use Rattle.time.specs.Time.{timeOctets, timeDigits, timestamp, inCalendar, hexDigit, hexValue}
+use Rattle.address.specs.Address.{digitCharacters, digitCharacter, digitValue, isDigit, withoutF, valueText, textIn, addressIn, addressWith, addressOctets, canonicalAddress, addressMaking, encoding}
 use Rattle.header.specs.Header.{unpackedWithHeader, packingWithHeader, shown}
 use Rattle.known.specs.Rows.{Holds, All, none, _also_, rows}
 
 pub known : All rows
-unfolding Holds codingOf characterSet numberOf digitsOf septetsIn packedSeptets rowWith indexOf character escaped utf8 textOf afterEscape unpacked shownText extendedCode codeOf same twoOctets threeOctets firstCharacter before behind scan packedBehind packing unpackedWithHeader packingWithHeader shown
-known = refl also refl also refl also refl also refl also refl also refl also refl also refl also none
+unfolding Holds codingOf characterSet numberOf digitsOf septetsIn packedSeptets rowWith indexOf character escaped utf8 textOf afterEscape unpacked shownText extendedCode codeOf same twoOctets threeOctets firstCharacter before behind scan packedBehind packing unpackedWithHeader packingWithHeader shown codes each timeOctets timeDigits timestamp inCalendar hexDigit hexValue semiOctets inPairs digitCharacters digitCharacter digitValue isDigit withoutF valueText textIn addressIn addressWith addressOctets canonicalAddress addressMaking encoding pad
+known = refl also refl also refl also refl also refl also refl also refl also refl also refl also refl also refl also refl also refl also refl also refl also refl also refl also refl also none

@@ -6,7 +6,13 @@ pub use header::pack_gsm7_with_header;
 pub use header::unpack_gsm7_with_header;
 pub use octets::Outcome;
 pub use octets::Refusal;
+pub use octets::Written;
 pub use text::Packed;
 pub use text::Unpacked;
 pub use text::pack_gsm7;
 pub use text::unpack_gsm7;
+
+pub use time::TimestampDigits;
+pub use time::timestamp_digits;
+
+pub use address::SMSAddress;
