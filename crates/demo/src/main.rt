@@ -1,7 +1,9 @@
 // Shows the codec at work: known messages, every code of the alphabet there and back, and each refusal once.
 use libc::STDOUT_FILENO;
 use tpdu::Outcome;
+use tpdu::SMSAddress;
 use tpdu::UserDataCoding;
+use tpdu::Written;
 
 fn say(words: &[u8]) {
     io::write_all(STDOUT_FILENO, words);
@@ -165,6 +167,77 @@ fn show_extension() {
     }
 }
 
+fn show_written(w: Written, out: &[u8]) {
+    match w {
+        Written::Done(n) => {
+            say_first(out, n);
+            say(b"\n");
+        }
+        Written::Refused(r) => {
+            taken(Outcome::Refused(r));
+        }
+    }
+}
+
+// A text in the array of an address, as far as it goes.
+fn in_array(text: &[u8]) -> [u8; 290] {
+    let mut array = [0u8; 290];
+    let mut i = 0;
+    while i < text.len() {
+        if 290 <= i {
+            return array;
+        }
+        array[i] = text[i];
+        i += 1;
+    }
+    array
+}
+
+fn show_address(ton: u8, npi: u8, text: &[u8]) {
+    say(b"address:");
+    let address = in_array(text);
+    let a = SMSAddress {
+        ton,
+        npi,
+        address,
+        address_length: text.len(),
+    };
+    let mut out = [0u8; 12];
+    let w = a.encode(&mut out);
+    show_written(w, &out);
+}
+
+// A time of day with a zone, and the calendar's day.
+fn show_digits(day: u8, zone: i8) {
+    say(b"digits:");
+    let t = tpdu::timestamp_digits(24, 2, day, 12, 30, 45, zone);
+    let outcome = t.outcome;
+    if taken(outcome) {
+        let digits = t.digits;
+        say(b" ");
+        say(&digits);
+        say(b"\n");
+    }
+}
+
+// Times and addresses, with a number of 20 digits and each refusal: 20, 21, 1, 9, 10, 11.
+fn show_times_and_addresses() {
+    show_digits(15, 0);
+    show_digits(15, -5);
+    show_digits(15, 79);
+    show_digits(15, -79);
+    show_digits(0, 80);
+    show_digits(15, -80);
+    show_address(1, 1, b"12345");
+    show_address(5, 0, b"AB");
+    show_address(1, 1, b"12345678901234567890");
+    show_address(1, 1, b"123456789012345678901");
+    show_address(1, 1, &[b'1'; 291]);
+    show_address(8, 1, b"12345");
+    show_address(1, 1, b"+12345");
+    show_address(5, 0, b"twelve chars");
+}
+
 // The known messages of these parts.
 fn show_known() {
     show_coding(0x0C);
@@ -206,6 +279,7 @@ fn main() {
     show_known();
     show_reading_refused();
     show_packing_refused();
+    show_times_and_addresses();
     show_alphabet();
     show_extension();
 }

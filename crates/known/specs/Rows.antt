@@ -45,7 +45,6 @@ Holds (reads octets n text) = unpacked octets 0 n ≡ shownText text
 Holds (packs text octets n) = packing [] text ≡ made octets (packedAs octets n)
 Holds (packsBehind header text octets n) = packingWithHeader header text ≡ made (header ++ octets) (packedAs (header ++ octets) n)
 Holds (readsBehind header text octets n) = unpackedWithHeader (header ++ octets) n ≡ shown header text
-
 Holds (time ds octets) = timeOctets ds ≡ octets
 Holds (digits octets ds) = timeDigits octets ≡ ds
 Holds (zone z ds) = drop 12 (timestamp 24 2 15 12 30 45 z .digits) ≡ ds

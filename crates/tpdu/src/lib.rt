@@ -1,4 +1,5 @@
 // SMS transfer-layer codec (TS 23.040, TS 23.038): the entry points and their types, under the names of the Rust crate tpdu.
+pub use address::SMSAddress;
 pub use coding::UserDataCoding;
 pub use coding::user_data_coding;
 pub use header::UnpackedWithHeader;
@@ -11,8 +12,5 @@ pub use text::Packed;
 pub use text::Unpacked;
 pub use text::pack_gsm7;
 pub use text::unpack_gsm7;
-
 pub use time::TimestampDigits;
 pub use time::timestamp_digits;
-
-pub use address::SMSAddress;
