@@ -3,6 +3,8 @@ use Prim.Native.Nat.{ℕ, _+_, _*_, _/_, _%_}
 use mathlib.Core.Bool.{Bool, true, false}
 use lib.Dec.{eqb, leb}
 use Rattle.octets.specs.Choice.{if_then_else_}
+use Rattle.octets.specs.declared.Checked.{Checked}
+use Rattle.octets.specs.declared.Refusal.the-variants.{UserDataLengthDisagrees, UserDataTooLong}
 use Rattle.coding.specs.declared.UserDataCoding.{UserDataCoding}
 use Rattle.coding.specs.declared.UserDataCoding.the-variants.{Gsm7Bit, EightBit, Ucs2, Compressed}
 
@@ -25,3 +27,9 @@ dataOctets Gsm7Bit udl = (udl * 7 + 7) / 8
 dataOctets EightBit udl = udl
 dataOctets Ucs2 udl = udl
 dataOctets Compressed udl = udl
+
+-- user data of n octets can be written: their number is what UDL and DCS give (refusal 7), and at most 140 (8)
+unfoldable pub checkedData : ℕ → ℕ → ℕ → Checked
+checkedData dcs udl n =
+    if eqb n (dataOctets (codingOf dcs) udl) then (if leb n 140 then Checked.Fine else Checked.Against UserDataTooLong)
+    else Checked.Against UserDataLengthDisagrees

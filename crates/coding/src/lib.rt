@@ -1,6 +1,8 @@
 // TP-Data-Coding-Scheme (TS 23.038 §4), and what TP-User-Data-Length counts.
 ghost use mathlib.Core.Path.{_≡_};
-ghost use Rattle.coding.specs.Coding.{codingOf, dataOctets};
+ghost use Rattle.coding.specs.Coding.{codingOf, dataOctets, checkedData};
+use octets::Checked;
+use octets::Refusal;
 
 pub enum UserDataCoding {
     Gsm7Bit,
@@ -47,4 +49,26 @@ pub fn user_data_octets(coding: UserDataCoding, length: u8) -> usize
         UserDataCoding::Ucs2 => length as usize,
         UserDataCoding::Compressed => length as usize,
     }
+}
+
+// TP-User-Data as a record holds them: octets, and how many there are.
+pub struct UserData {
+    pub octets: [u8; 255],
+    pub length: usize,
+}
+
+// The octets that a writer's user data may have.
+const MAX_USER_DATA_OCTETS: usize = 140;
+
+// Whether user data of so many octets go with DCS and TP-User-Data-Length.
+pub fn check_user_data(dcs: u8, length: u8, octets: usize) -> Checked
+    ensures { λ r. ⌜ r ≡ checkedData dcs length octets ⌝ }
+{
+    if octets != user_data_octets(user_data_coding(dcs), length) {
+        return Checked::Against(Refusal::UserDataLengthDisagrees);
+    }
+    if MAX_USER_DATA_OCTETS < octets {
+        return Checked::Against(Refusal::UserDataTooLong);
+    }
+    Checked::Fine
 }

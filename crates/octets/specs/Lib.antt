@@ -2,6 +2,7 @@ pub mod Choice
 pub mod Refusals
 pub mod Arrays
 pub mod Lent
+pub mod Checks
 pub mod Places
 pub mod SemiOctets
 pub mod Each

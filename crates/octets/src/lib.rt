@@ -2,6 +2,7 @@
 ghost use mathlib.Core.Path.{_≡_};
 ghost use Prim.Native.Nat.{_+_, _≤_};
 ghost use lib.ListN.{length};
+ghost use mathlib.Core.List.{[], _∷_};
 ghost use Rattle.octets.specs.Refusals.{refusalNumber};
 ghost use Rattle.octets.specs.Arrays.{pad};
 ghost use Rattle.octets.specs.Lent.{Wrote};
@@ -79,6 +80,12 @@ pub enum Written {
     Refused(Refusal),
 }
 
+// What a writer's checks find.
+pub enum Checked {
+    Fine,
+    Against(Refusal),
+}
+
 // Writes octets from `at` on; the place behind them.
 pub fn put_octets(out: &mut [u8], at: usize, octets: &[u8]) -> usize
     requires { ⌜ at + length (now octets) ≤ length (now out) ⌝ }
@@ -90,6 +97,15 @@ pub fn put_octets(out: &mut [u8], at: usize, octets: &[u8]) -> usize
         i += 1;
     }
     at + octets.len()
+}
+
+// Writes one octet at `at`; the place behind it.
+pub fn put_octet(out: &mut [u8], at: usize, octet: u8) -> usize
+    requires { ⌜ at + 1 ≤ length (now out) ⌝ }
+    ensures { λ r. ⌜ Wrote at (octet ∷ []) (now (out .entry)) r (now (out .exit)) ⌝ }
+{
+    out[at] = octet;
+    at + 1
 }
 
 // The octets in an array of user data or of a header, with zeros behind them.

@@ -9,6 +9,12 @@ ghost use Rattle.time.specs.Time.{hexDigit, isHex, hexValue, timeDigits,
 use octets::Outcome;
 use octets::Refusal;
 
+// A time as a record holds it: digits, and how many there are.
+pub struct Time {
+    pub digits: [u8; 14],
+    pub length: usize,
+}
+
 // The capital hexadecimal digit of a value below 16; the letters stand 7 characters behind the figures.
 fn hex_digit(value: u8) -> u8
     requires { ⌜ value < 16 ⌝ }
