@@ -3,13 +3,14 @@
 use Prim.Native.Nat.{ℕ, suc, _+_, _*_, _/_, _≤_, _<_}
 use mathlib.Core.Path.{_≡_, refl, sym, _∙_, ap}
 use mathlib.Core.Bool.{Bool, true, false, _||_}
-use mathlib.Core.List.{List, [], _∷_, map}
+use mathlib.Core.List.{List, [], _∷_, _++_, map}
 use mathlib.Core.Option.{Option, none, some}
 use native.Mathlib.Omega.{arith}
 use native.Mathlib.Numerals.{add-one, add-two}
-use borrow.Author.Tests.{lt-ltb, le-ltb, eq-eqb, ne-eqb, ltb-true, ltb-false, eqb-true, eqb-false}
-use lib.Dec.{eqb, ltb}
+use borrow.Author.Tests.{lt-ltb, le-ltb, eq-eqb, ne-eqb, ltb-true, ltb-false, eqb-true, eqb-false, leb-true, leb-false}
+use lib.Dec.{eqb, leb, ltb}
 use lib.ListN.{length, take, set, length-map}
+use Rattle.octets.specs.Checks.{Check, checked}
 use Rattle.octets.specs.Each.{each}
 use Rattle.octets.specs.Lent.{Making, refused, made, Wrote}
 use Rattle.octets.specs.SemiOctets.{inPairs}
@@ -22,7 +23,7 @@ use Rattle.septets.proofs.Inverse.{length-packed}
 use Rattle.text.specs.Writing.{septetsOf}
 use Rattle.address.specs.declared.AddressCheck.{AddressCheck}
 use Rattle.address.specs.declared.SMSAddress.{SMSAddress}
-use Rattle.address.specs.Address.{digitValue, isDigit, fieldOf, textField, addressOctets, octetsOr, limited, addressMaking, encoding}
+use Rattle.address.specs.Address.{digitValue, isDigit, fieldOf, textField, addressOctets, octetsOr, limited, addressMaking, addressChecks, encoding}
 use Rattle.address.specs.Parts.{checkOf}
 
 -- a value of at most ten octets is written, a longer one is refused
@@ -185,3 +186,26 @@ module _ (a : SMSAddress) where
 -- a field written octet by octet: L, type, and the value behind them
 pub wrote-field : (at l t : ℕ) (value out : List ℕ) {next : ℕ} {after : List ℕ} → Wrote (at + 2) value (set (set out at l) (at + 1) t) next after → Wrote at (l ∷ t ∷ value) out next after
 wrote-field at l t value out w = record { place = w .place ∙ omega arith; list = w .list ∙ rw (add-one, add-two) }
+
+-- the address among the checks of a writer of several fields: the check's answer decides
+abbrev pub afterCheck : AddressCheck → Making Written → Making Written
+afterCheck (AddressCheck.Fine l) next = next
+afterCheck (AddressCheck.Refused r) next = refused r
+
+pub address-checked : (ton npi : ℕ) (text : List ℕ) (checks : List Check) (xs : List ℕ)
+    → checked (addressChecks ton npi text ++ checks) xs ≡ afterCheck (checkOf (addressMaking ton npi text)) (checked checks xs)
+unfolding checked
+address-checked ton npi text checks xs = by-type (leb ton 7) refl (leb npi 15) refl
+  where
+    Same : Type 0
+    Same = checked (addressChecks ton npi text ++ checks) xs ≡ afterCheck (checkOf (addressMaking ton npi text)) (checked checks xs)
+
+    by-size : leb ton 7 ≡ true → leb npi 15 ≡ true → (o : Option (List ℕ)) → addressOctets ton npi text ≡ o → (t : Bool) → leb (length (octetsOr [] o)) 12 ≡ t → Same
+    by-size p q none e t s = rw (p, q, making-limited ton npi text (leb-true _ _ p) (leb-true _ _ q), e)
+    by-size p q (some ys) e true s = rw (p, q, making-limited ton npi text (leb-true _ _ p) (leb-true _ _ q), e, s, le-ltb 12 (length ys) (leb-true _ _ s))
+    by-size p q (some ys) e false s = rw (p, q, making-limited ton npi text (leb-true _ _ p) (leb-true _ _ q), e, s, lt-ltb 12 (length ys) (leb-false _ _ s))
+
+    by-type : (a : Bool) → leb ton 7 ≡ a → (b : Bool) → leb npi 15 ≡ b → Same
+    by-type false p b q = rw (p, wrong-type ton npi text (leb-false _ _ p))
+    by-type true p false q = rw (p, q, wrong-plan ton npi text (leb-true _ _ p) (leb-false _ _ q))
+    by-type true p true q = by-size p q (addressOctets ton npi text) refl (leb (length (octetsOr [] (addressOctets ton npi text))) 12) refl

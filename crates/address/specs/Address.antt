@@ -1,12 +1,13 @@
 -- Addresses (TS 23.040 §9.1.2.5): a length octet L in semi-octets, a type octet, and ceil(L/2) value octets.
 use Prim.Native.Nat.{ℕ, _+_, _*_, _/_, _%_}
 use mathlib.Core.Path.{_≡_, refl}
-use mathlib.Core.Bool.{Bool, true, false, _||_}
+use mathlib.Core.Bool.{Bool, true, false, _&&_, _||_}
 use mathlib.Core.List.{List, [], _∷_, map}
 use mathlib.Core.Option.{Option, none, some}
-use lib.Dec.{eqb, ltb}
+use lib.Dec.{eqb, leb, ltb}
 use lib.ListN.{length, getD, take, drop}
 use Rattle.octets.specs.Choice.{if_then_else_}
+use Rattle.octets.specs.Checks.{Check, _unless_}
 use Rattle.octets.specs.Arrays.{pad}
 use Rattle.octets.specs.Each.{each}
 use Rattle.octets.specs.Lent.{Making, refused, made}
@@ -105,6 +106,20 @@ limited (some octets) = if ltb 12 (length octets) then refused AddressTooLong el
 -- what writing type, plan and text makes: refusals 9, 10, 11
 unfoldable pub addressMaking : ℕ → ℕ → List ℕ → Making Written
 addressMaking ton npi text = if ltb 7 ton || ltb 15 npi then refused NumberTypeOrPlanTooLarge else limited (addressOctets ton npi text)
+
+-- those refusals as checks of a writer of several fields
+abbrev pub isSome : Option (List ℕ) → Bool
+isSome none = false
+isSome (some xs) = true
+
+abbrev pub addressChecks : ℕ → ℕ → List ℕ → List Check
+addressChecks ton npi text =
+    (NumberTypeOrPlanTooLarge unless leb ton 7 && leb npi 15) ∷ (NotInAlphabet unless isSome (addressOctets ton npi text))
+    ∷ (AddressTooLong unless leb (length (octetsOr [] (addressOctets ton npi text))) 12) ∷ []
+
+-- the text that a record holds
+abbrev pub textHeld : SMSAddress → List ℕ
+textHeld a = take (a .«address_length») (a .address)
 
 -- what writing a record makes: 1, and then those
 unfoldable pub encoding : SMSAddress → Making Written

@@ -1,10 +1,14 @@
 -- TP-Data-Coding-Scheme (TS 23.038 §4) and TP-User-Data-Length (TS 23.040 §9.2.3.16).
 use Prim.Native.Nat.{ℕ, _+_, _*_, _/_, _%_}
 use mathlib.Core.Bool.{Bool, true, false}
+use mathlib.Core.List.{List}
 use lib.Dec.{eqb, leb}
+use lib.ListN.{length as size, take}
+use Rattle.octets.specs.Arrays.{pad}
 use Rattle.octets.specs.Choice.{if_then_else_}
 use Rattle.octets.specs.declared.Checked.{Checked}
 use Rattle.octets.specs.declared.Refusal.the-variants.{UserDataLengthDisagrees, UserDataTooLong}
+use Rattle.coding.specs.declared.UserData.{UserData}
 use Rattle.coding.specs.declared.UserDataCoding.{UserDataCoding}
 use Rattle.coding.specs.declared.UserDataCoding.the-variants.{Gsm7Bit, EightBit, Ucs2, Compressed}
 
@@ -33,3 +37,11 @@ unfoldable pub checkedData : ℕ → ℕ → ℕ → Checked
 checkedData dcs udl n =
     if eqb n (dataOctets (codingOf dcs) udl) then (if leb n 140 then Checked.Fine else Checked.Against UserDataTooLong)
     else Checked.Against UserDataLengthDisagrees
+
+-- octets as the user data of a record
+unfoldable pub dataWith : List ℕ → UserData
+dataWith xs = record { octets = pad 255 xs; length = size xs }
+
+-- the user data that a record holds
+abbrev pub dataOf : UserData → List ℕ
+dataOf d = take (d .length) (d .octets)

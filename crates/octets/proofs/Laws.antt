@@ -7,7 +7,7 @@ use native.Mathlib.Omega.{arith}
 use native.Mathlib.Nat.{add-zero, zero-add, sub-zero, zero-sub, suc-sub-suc, add-suc, suc-add}
 use borrow.Author.Tests.{le-leb, lt-leb}
 use lib.ListN.{length, take, drop, set, replicate, length-append, length-replicate, drop-of-length-le}
-use lib.Seq.{sets, sets-eq, take-at}
+use lib.Seq.{sets, sets-eq, length-sets, take-at}
 use Rattle.octets.specs.declared.Refusal.{Refusal}
 use Rattle.octets.specs.declared.Refusal.the-variants.{OutputTooShort}
 use Rattle.octets.specs.Arrays.{pad}
@@ -72,6 +72,21 @@ wrote-then {at} {mid} {next} {xs} {ys} {l} first second = record {
   place = second .place ∙ rw (first .place, length-append) (omega arith);
   list = second .list ∙ rw (first .list, first .place, sets-append xs ys l at);
 }
+
+-- a chain of them from the start: what is written, the place reached, and that the buffer keeps its length
+pub record Chain (l xs : List ℕ) (n at : ℕ) (after : List ℕ) : Type 0 where
+  pub is : Wrote 0 xs l at after
+  pub place : at ≡ n
+  pub kept : length after ≡ length l
+
+kept-by : {at next : ℕ} {xs l after : List ℕ} → Wrote at xs l next after → length after ≡ length l
+kept-by {at} {xs = xs} {l} w = ap length (w .list) ∙ length-sets l at xs
+
+pub chain-start : {xs l after : List ℕ} {at : ℕ} → Wrote 0 xs l at after → Chain l xs (length xs) at after
+chain-start w = record { is = w; place = w .place ∙ zero-add _; kept = kept-by w }
+
+pub chain-step : {l xs ys m after : List ℕ} {n at next : ℕ} → Chain l xs n at m → Wrote at ys m next after → Chain l (xs ++ ys) (n + length ys) next after
+chain-step c w = record { is = wrote-then (c .is) w; place = w .place ∙ rw (c .place); kept = kept-by w ∙ c .kept }
 
 -- ---- the three ways in which a writer ends
 

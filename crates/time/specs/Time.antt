@@ -6,14 +6,16 @@ use mathlib.Core.Bool.{Bool, true, false, not, _&&_, _||_}
 use mathlib.Core.List.{List, [], _∷_, _++_, map}
 use lib.Dec.{eqb, leb, ltb}
 use lib.IntN.{ℤ, pos, negsuc, natAbs}
-use lib.ListN.{length, getD, replicate}
+use lib.ListN.{length, length as size, getD, take, replicate}
 use lib.Signed.{ltZ}
+use Rattle.octets.specs.Arrays.{pad}
 use Rattle.octets.specs.Choice.{if_then_else_, within}
 use Rattle.octets.specs.Each.{each}
 use Rattle.octets.specs.Texts.{codes}
 use Rattle.octets.specs.declared.Outcome.{Outcome}
 use Rattle.octets.specs.declared.Refusal.{Refusal}
 use Rattle.octets.specs.declared.Refusal.the-variants.{CalendarOutOfRange, ZoneOutOfRange}
+use Rattle.time.specs.declared.Time.{Time}
 use Rattle.time.specs.declared.TimestampDigits.{TimestampDigits}
 
 -- ---- hexadecimal digits
@@ -100,3 +102,13 @@ known-timestamps : (timestamp 24 2 15 12 30 45 (pos 0) ≡ record { outcome = Ou
     × (timestamp 24 2 0 12 30 45 (pos 80) ≡ refusedDigits CalendarOutOfRange) × (timestamp 24 2 15 12 30 45 (negsuc 79) ≡ refusedDigits ZoneOutOfRange)
 unfolding codes hexDigit inCalendar timestamp
 known-timestamps = (refl, refl, refl)
+
+-- ---- times in records
+
+-- the time that octets are read as
+unfoldable pub timeIn : List ℕ → Time
+timeIn os = record { digits = pad 14 (timeDigits os); length = size (timeDigits os) }
+
+-- the digits that a record holds
+abbrev pub digitsOf : Time → List ℕ
+digitsOf t = take (t .length) (t .digits)

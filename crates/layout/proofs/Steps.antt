@@ -1,0 +1,198 @@
+-- Steps of a reader: what a line comes to from a place on, by what the methods that read at the place answer. A reader's proof takes one step for each field.
+-- Assumes nothing.
+use Prim.Native.Nat.{ℕ, zero, suc, _+_, _≤_, _<_}
+use mathlib.Core.Path.{_≡_, refl, sym, ap, _∙_}
+use mathlib.Core.Bool.{Bool, true, false}
+use mathlib.Core.List.{List, [], _∷_, _++_}
+use native.Mathlib.Nat.{add-zero, zero-add, suc-add}
+use native.Mathlib.Omega.{arith}
+use borrow.Author.Tests.{eq-eqb, ne-eqb}
+use lib.Dec.{eqb, leb}
+use lib.ListN.{length, getD, take, drop, length-drop, drop-of-length-le}
+use lib.Seq.{drop-cons, drop-drop, getD-take, getD-drop, take-nil, slice}
+use Rattle.octets.specs.Choice.{if_then_else_}
+use Rattle.octets.specs.Each.{Octets}
+use Rattle.octets.specs.Places.{octetAt, spanAt}
+use Rattle.octets.specs.declared.Octet.{Octet}
+use Rattle.octets.specs.declared.Place.{Place}
+use Rattle.octets.specs.declared.Refusal.{Refusal}
+use Rattle.octets.specs.declared.Refusal.the-variants.{OctetsEnd, WrongMessageType}
+use Rattle.octets.specs.declared.Span.{Span}
+use Rattle.octets.proofs.Places.{octet-read, octet-refused, span-there, span-refused}
+use Rattle.address.specs.Address.{canonicalAddress, addressIn}
+use Rattle.address.specs.Parts.{fieldAt}
+use Rattle.address.proofs.Laws.{canonical-reads}
+use Rattle.layout.specs.Layout.{Limit, Kind, first, octets, address, indicator, messageType, kept, indicatorSize, size, canon, cut, behind, Format, field, require, endOr, done, _then_, message, Reached, reached, halted, after, reading, readFrom, leadingAt, indicatorAt}
+use Rattle.layout.proofs.Fields.{octets-take, octets-drop, cut-whole, indicator-positive}
+use Rattle.layout.proofs.FirstOctet.{descends, kept-type}
+use Rattle.layout.proofs.Laws.{goes-on, ends}
+
+-- ---- what holds or fails, and the line's end
+
+module _ {R : Type 0} (s : List ℕ) (at : ℕ) where
+  pub require-holds : {holds : Bool} → holds ≡ true → (why : Refusal) (line : Format R) → readFrom (require why holds line) s at ≡ readFrom line s at
+  unfolding readFrom reading
+  require-holds e why line = rw e
+
+  pub require-fails : {holds : Bool} → holds ≡ false → (why : Refusal) (line : Format R) → readFrom (require why holds line) s at ≡ halted why
+  unfolding readFrom reading
+  require-fails e why line = rw e
+
+  pub done-reached : (r : R) → readFrom (done r) s at ≡ reached r at
+  unfolding readFrom reading
+  done-reached r = refl
+
+module _ {R : Type 0} (s : List ℕ) (at : ℕ) (line : Format R) (next : List ℕ → Format R) where
+  pub end-reached : length s ≤ at → readFrom (endOr line next) s at ≡ readFrom line s at
+  unfolding readFrom reading
+  end-reached h = rw (drop-of-length-le s h)
+
+  pub end-not-reached : at < length s → readFrom (endOr line next) s at ≡ readFrom (field indicator next) s at
+  unfolding readFrom reading
+  end-not-reached h = rw (drop-cons s at 0 h)
+
+-- ---- a field that is whole, and one that isn't
+
+drop-take : (a n : ℕ) (l : List ℕ) → drop a (take (a + n) l) ≡ take n (drop a l)
+drop-take zero n l = rw zero-add
+drop-take (suc a) n [] = rw suc-add (sym (take-nil n))
+drop-take (suc a) n (x ∷ l) = rw suc-add (drop-take a n l)
+
+module _ (s : List ℕ) (p : Place) where
+  there : {R : Type 0} (k : Kind) (next : List ℕ → Format R) (q : Place) → size k (drop (p .at) s) ≤ length (drop (p .at) s) → q .at ≡ p .at + size k (drop (p .at) s)
+      → readFrom (field k next) s (p .at) ≡ readFrom (next (canon k (cut k (drop (p .at) s)))) s (q .at)
+  unfolding readFrom reading
+  there k next q h e = goes-on _ k (drop (p .at) s) (p .at) h ∙ rw (e, drop-drop)
+
+  short : {R : Type 0} (k : Kind) (next : List ℕ → Format R) → length (drop (p .at) s) < size k (drop (p .at) s) → readFrom (field k next) s (p .at) ≡ halted OctetsEnd
+  unfolding readFrom reading
+  short k next h = ends _ k (drop (p .at) s) (p .at) h
+
+  -- ---- by the answer of `Place::octet`
+
+  module _ {b : ℕ} {q : Place} (e : octetAt s p ≡ Octet.Read b q) where
+    one-there : {R : Type 0} (k : Kind) (next : List ℕ → Format R) → ((f : List ℕ) → size k f ≡ 1) → readFrom (field k next) s (p .at) ≡ readFrom (next (canon k (b ∷ []))) s (q .at)
+    one-there k next n =
+        let (h, is, to) = octet-read s p e in
+        let m = n (drop (p .at) s) in
+        there k next q (rw (m, length-drop) (omega arith)) (rw m to) ∙ rw (m, drop-cons s (p .at) 0 h, is)
+
+    pub octet-goes-on : {R : Type 0} (limit : Limit) (next : List ℕ → Format R) → readFrom (field (octets limit 1) next) s (p .at) ≡ readFrom (next (b ∷ [])) s (q .at)
+    octet-goes-on limit next = one-there (octets limit 1) next (λ f. refl)
+
+    -- a first octet has the kind's MTI, or another
+    module _ {R : Type 0} (mti : ℕ) (bits : List ℕ) (d : descends bits ≡ true) (next : ℕ → Format R) where
+      pub message-goes-on : messageType b ≡ mti → readFrom (message mti bits next) s (p .at) ≡ readFrom (next (kept bits b)) s (q .at)
+      message-goes-on m = one-there (first bits) _ (λ f. refl) ∙ require-holds s (q .at) (eq-eqb _ mti (kept-type bits d b ∙ m)) WrongMessageType _
+
+      pub message-differs : (messageType b ≡ mti → ⊥) → readFrom (message mti bits next) s (p .at) ≡ halted WrongMessageType
+      message-differs m = one-there (first bits) _ (λ f. refl) ∙ require-fails s (q .at) (ne-eqb _ mti (λ h. m (sym (kept-type bits d b) ∙ h))) WrongMessageType _
+
+  module _ {why : Refusal} (e : octetAt s p ≡ Octet.Refused why) where
+    one-short : {R : Type 0} (k : Kind) (next : List ℕ → Format R) → ((f : List ℕ) → size k f ≡ 1) → readFrom (field k next) s (p .at) ≡ halted OctetsEnd
+    one-short k next n = short k next (rw (n (drop (p .at) s), length-drop) (omega (arith, octet-refused s p e .0)))
+
+    pub octet-ends : {R : Type 0} (limit : Limit) (next : List ℕ → Format R) → readFrom (field (octets limit 1) next) s (p .at) ≡ halted OctetsEnd
+    octet-ends limit next = one-short (octets limit 1) next (λ f. refl)
+
+    pub message-ends : {R : Type 0} (mti : ℕ) (bits : List ℕ) (next : ℕ → Format R) → readFrom (message mti bits next) s (p .at) ≡ halted OctetsEnd
+    message-ends mti bits next = one-short (first bits) _ (λ f. refl)
+
+  -- ---- by the answer of `Place::span`
+
+  span-there-whole : {R : Type 0} {a : ℕ} {q : Place} (k : Kind) → spanAt s p (size k (drop (p .at) s)) ≡ Span.There a q → (next : List ℕ → Format R) → readFrom (field k next) s (p .at) ≡ readFrom (next (canon k (cut k (drop (p .at) s)))) s (q .at)
+  span-there-whole {q = q} k e next = let (h, a, to) = span-there s p _ e in there k next q h to
+
+  span-short : {R : Type 0} {why : Refusal} (k : Kind) → spanAt s p (size k (drop (p .at) s)) ≡ Span.Refused why → (next : List ℕ → Format R) → readFrom (field k next) s (p .at) ≡ halted OctetsEnd
+  span-short k e next = short k next (span-refused s p _ e .0)
+
+  module _ (n : ℕ) where
+    pub span-goes-on : {R : Type 0} {a : ℕ} {q : Place} → spanAt s p n ≡ Span.There a q → (limit : Limit) (next : List ℕ → Format R) → readFrom (field (octets limit n) next) s (p .at) ≡ readFrom (next (take n (drop (p .at) s))) s (q .at)
+    span-goes-on e limit next = span-there-whole (octets limit n) e next
+
+    pub span-ends : {R : Type 0} {why : Refusal} → spanAt s p n ≡ Span.Refused why → (limit : Limit) (next : List ℕ → Format R) → readFrom (field (octets limit n) next) s (p .at) ≡ halted OctetsEnd
+    span-ends e limit next = span-short (octets limit n) e next
+
+    -- the octets between the two places are the field
+    pub span-slice : {a : ℕ} {q : Place} → spanAt s p n ≡ Span.There a q → slice a (q .at) s ≡ take n (drop (p .at) s)
+    span-slice e = let (h, a, to) = span-there s p n e in rw (a, to) (drop-take (p .at) n s)
+
+  -- ---- by the answer of `address_at`
+
+  pub address-goes-on : {R : Type 0} {a : ℕ} {q : Place} → fieldAt s p ≡ Span.There a q → (next : List ℕ → Format R) → readFrom (field address next) s (p .at) ≡ readFrom (next (canonicalAddress (cut address (drop (p .at) s)))) s (q .at)
+  unfolding fieldAt spanAt
+  address-goes-on e next = span-there-whole address e next
+
+  pub address-ends : {R : Type 0} {why : Refusal} → fieldAt s p ≡ Span.Refused why → (next : List ℕ → Format R) → readFrom (field address next) s (p .at) ≡ halted OctetsEnd
+  unfolding fieldAt spanAt
+  address-ends e next = span-short address e next
+
+  -- its canonical octets are read as what stands between the two places
+  pub address-reads : {a : ℕ} {q : Place} → Octets s → fieldAt s p ≡ Span.There a q → addressIn (canonicalAddress (cut address (drop (p .at) s))) ≡ addressIn (slice a (q .at) s)
+  unfolding fieldAt spanAt
+  address-reads o e =
+      canonical-reads (cut address (drop (p .at) s)) (record { octets = octets-take (size address (drop (p .at) s)) (drop (p .at) s) (octets-drop (p .at) s o); whole = cut-whole address (drop (p .at) s) (span-there s p _ e .0) })
+      ∙ ap addressIn (sym (span-slice _ e))
+
+  -- ---- by the answer of a method that reads an indicator
+
+  pub indicator-goes-on : {R : Type 0} {b : ℕ} {q : Place} → indicatorAt s p ≡ Octet.Read b q → (next : List ℕ → Format R) → readFrom (field indicator next) s (p .at) ≡ readFrom (next (b ∷ [])) s (q .at)
+  unfolding indicatorAt
+  indicator-goes-on {b = b} {q} e next = by (spanAt s p (indicatorSize (drop (p .at) s))) refl e
+    where
+      by : (r : Span) → spanAt s p (indicatorSize (drop (p .at) s)) ≡ r → leadingAt s r ≡ Octet.Read b q → readFrom (field indicator next) s (p .at) ≡ readFrom (next (b ∷ [])) s (q .at)
+      by (Span.There a to) d e =
+          let (h, is, w) = span-there s p _ d in
+          let at : p .at + 0 ≡ p .at = add-zero (p .at) in
+          span-there-whole indicator d next ∙ cc (getD-take (indicatorSize (drop (p .at) s)) (drop (p .at) s) 0 0 (indicator-positive (drop (p .at) s)), getD-drop (p .at) s 0 0)
+      by (Span.Refused why) d e = let z : _≡_ {A = ℕ} 0 1 = cc in absurd (omega arith)
+
+  pub indicator-ends : {R : Type 0} {why : Refusal} → indicatorAt s p ≡ Octet.Refused why → (next : List ℕ → Format R) → readFrom (field indicator next) s (p .at) ≡ halted OctetsEnd
+  unfolding indicatorAt
+  indicator-ends {why = why} e next = by (spanAt s p (indicatorSize (drop (p .at) s))) refl e
+    where
+      by : (r : Span) → spanAt s p (indicatorSize (drop (p .at) s)) ≡ r → leadingAt s r ≡ Octet.Refused why → readFrom (field indicator next) s (p .at) ≡ halted OctetsEnd
+      by (Span.There a to) d e = let z : _≡_ {A = ℕ} 0 1 = cc in absurd (omega arith)
+      by (Span.Refused w) d e = span-short indicator d next
+
+-- ---- a format and what follows it are read one after the other
+
+abbrev pub goOn : {A R : Type 0} → Reached A → (A → ℕ → Reached R) → Reached R
+goOn (reached a at) next = next a at
+goOn (halted why) next = halted why
+
+module _ {A R : Type 0} (s : List ℕ) (next : A → Format R) where
+  abbrev on : Reached A → Reached R
+  on x = goOn x (λ a at. readFrom (next a) s at)
+
+  branch : (b : Bool) (x : Reached A) (why : Refusal) → (if b then on x else halted why) ≡ on (if b then x else halted why)
+  branch true x why = refl
+  branch false x why = refl
+
+  after-follows : (k : Kind) (x : List ℕ → List ℕ → ℕ → Reached A) (y : List ℕ → List ℕ → ℕ → Reached R) (left : List ℕ) (at : ℕ)
+      → y (canon k (cut k left)) (behind k left) (at + size k left) ≡ on (x (canon k (cut k left)) (behind k left) (at + size k left)) → after k y left at ≡ on (after k x left at)
+  unfolding after
+  after-follows k x y left at e = rw e (branch (leb (size k left) (length left)) _ OctetsEnd)
+
+  behind-is : (k : Kind) (left : List ℕ) (at : ℕ) → left ≡ drop at s → behind k left ≡ drop (at + size k left) s
+  behind-is k left at l = ap (drop (size k left)) l ∙ drop-drop (size k left) at s
+
+  follows : (line : Format A) (left : List ℕ) (at : ℕ) → left ≡ drop at s → reading (line then next) left at ≡ on (reading line left at)
+  unfolding reading readFrom
+  follows (field k more) left at l = after-follows k _ _ left at (follows (more (canon k (cut k left))) (behind k left) (at + size k left) (behind-is k left at l))
+  follows (require why holds line) left at l = rw (follows line left at l) (branch holds _ why)
+  follows (endOr line more) [] at l = follows line [] at l
+  follows (endOr line more) (x ∷ left) at l =
+      after-follows indicator _ _ (x ∷ left) at (follows (more (canon indicator (cut indicator (x ∷ left)))) (behind indicator (x ∷ left)) (at + size indicator (x ∷ left)) (behind-is indicator (x ∷ left) at l))
+  follows (done a) left at l = rw l
+
+  module _ (line : Format A) (at : ℕ) where
+    pub part-by-part : readFrom (line then next) s at ≡ goOn (readFrom line s at) (λ a at. readFrom (next a) s at)
+    unfolding readFrom
+    part-by-part = follows line (drop at s) at refl
+
+    pub then-goes-on : {a : A} {to : ℕ} → readFrom line s at ≡ reached a to → readFrom (line then next) s at ≡ readFrom (next a) s to
+    then-goes-on e = part-by-part ∙ rw e
+
+    pub then-ends : {why : Refusal} → readFrom line s at ≡ halted why → readFrom (line then next) s at ≡ halted why
+    then-ends e = part-by-part ∙ rw e
