@@ -1,10 +1,11 @@
 -- TP-Data-Coding-Scheme (TS 23.038 §4) and TP-User-Data-Length (TS 23.040 §9.2.3.16).
 use Prim.Native.Nat.{ℕ, _+_, _*_, _/_, _%_}
 use mathlib.Core.Bool.{Bool, true, false}
-use mathlib.Core.List.{List}
+use mathlib.Core.List.{List, [], _∷_}
 use lib.Dec.{eqb, leb}
 use lib.ListN.{length as size, take}
 use Rattle.octets.specs.Arrays.{pad}
+use Rattle.octets.specs.Checks.{Check, _unless_}
 use Rattle.octets.specs.Choice.{if_then_else_}
 use Rattle.octets.specs.declared.Checked.{Checked}
 use Rattle.octets.specs.declared.Refusal.the-variants.{UserDataLengthDisagrees, UserDataTooLong}
@@ -45,3 +46,7 @@ dataWith xs = record { octets = pad 255 xs; length = size xs }
 -- the user data that a record holds
 abbrev pub dataOf : UserData → List ℕ
 dataOf d = take (d .length) (d .octets)
+
+-- the same as checks of a writer of several fields
+abbrev pub dataChecks : ℕ → ℕ → ℕ → List Check
+dataChecks dcs udl n = (UserDataLengthDisagrees unless eqb n (dataOctets (codingOf dcs) udl)) ∷ (UserDataTooLong unless leb n 140) ∷ []

@@ -5,7 +5,7 @@ use mathlib.Core.Path.{_≡_, refl, sym, ap, _∙_}
 use mathlib.Core.Bool.{Bool, true, false, _&&_, _||_, false≢true}
 use mathlib.Core.List.{List, [], _∷_}
 use mathlib.Core.Logic.{⊎-elim, Iff·rfl}
-use native.Mathlib.Nat.{mod-mod, le-trans, mod-lt}
+use native.Mathlib.Nat.{mod-mod}
 use native.Mathlib.Omega.{arith}
 use borrow.Author.Tests.{ltb-true, leb-true, eqb-true}
 use lib.Arith.{digits-lt}

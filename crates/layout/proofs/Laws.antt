@@ -3,18 +3,18 @@
 use Prim.Native.Nat.{ℕ, _+_, _≤_, _<_}
 use mathlib.Core.Path.{_≡_, refl, sym, ap, _∙_}
 use mathlib.Core.Bool.{true, false, false≢true}
-use mathlib.Core.List.{List, [], _∷_, _++_, cons≢nil}
+use mathlib.Core.List.{List, [], _∷_, cons≢nil}
 use mathlib.Core.Logic.{inl, inr, ⊎-elim}
 use native.Mathlib.Omega.{arith}
 use borrow.Author.Tests.{leb-true, le-leb, lt-leb}
 use lib.Dec.{leb}
-use lib.ListN.{length, take, drop, length-append, length-drop, take-append-drop}
+use lib.ListN.{length, drop, length-append, length-drop, take-append-drop}
 use lib.Seq.{length-take-le, take-at, drop-at}
 use Rattle.octets.specs.Each.{Octets}
 use Rattle.octets.specs.declared.Refusal.{Refusal}
 use Rattle.octets.specs.declared.Refusal.the-variants.{OctetsEnd}
 use Rattle.octets.proofs.Choice.{chosen}
-use Rattle.layout.specs.Layout.{Kind, indicator, size, Whole, cut, behind, canon, Field, standsAs, joined, Format, field, require, endOr, done, Begins, Generates, Reached, reached, halted, after, reading, readFrom, fieldsOf, Layout, plain, stopping, stops, read}
+use Rattle.layout.specs.Layout.{Kind, indicator, size, cut, behind, canon, Field, standsAs, joined, Format, field, require, endOr, done, Begins, Generates, Reached, reached, halted, after, reading, readFrom, fieldsOf, Layout, plain, stopping, stops, read}
 use Rattle.layout.proofs.Fields.{octets-take, octets-drop, own, cut-whole, indicator-positive, canon-short, told}
 
 -- ---- reading behind a field
@@ -87,10 +87,10 @@ not-empty g = omega (arith, g .whole, indicator-positive (g .front), ap length (
 
 -- the fields that a generation is made of
 unfoldable pub fieldsIn : {R : Type 0} (line : Format R) (s : List ℕ) → Generates line s → List Field
-fieldsIn (field k next) s g = standsAs k (g .front) ∷ fieldsIn (next (canon k (g .front))) (g .rest) (g .follows)
+fieldsIn (field k next) s g = standsAs k (canon k (g .front)) ∷ fieldsIn (next (canon k (g .front))) (g .rest) (g .follows)
 fieldsIn (require why holds line) s g = fieldsIn line s (g .1)
 fieldsIn (endOr line next) s (inl g) = fieldsIn line [] (g .1)
-fieldsIn (endOr line next) s (inr g) = standsAs indicator (g .front) ∷ fieldsIn (next (canon indicator (g .front))) (g .rest) (g .follows)
+fieldsIn (endOr line next) s (inr g) = standsAs indicator (canon indicator (g .front)) ∷ fieldsIn (next (canon indicator (g .front))) (g .rest) (g .follows)
 fieldsIn (done r) s g = []
 
 generated : {R : Type 0} (line : Format R) (s : List ℕ) (at : ℕ) (g : Generates line s) → (r : R) × (n : ℕ) × (reading line s at ≡ reached r n) × (fieldsOf line s ≡ fieldsIn line s g)

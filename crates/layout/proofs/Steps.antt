@@ -2,13 +2,14 @@
 -- Assumes nothing.
 use Prim.Native.Nat.{ℕ, zero, suc, _+_, _≤_, _<_}
 use mathlib.Core.Path.{_≡_, refl, sym, ap, _∙_}
-use mathlib.Core.Bool.{Bool, true, false}
-use mathlib.Core.List.{List, [], _∷_, _++_}
+use mathlib.Core.Bool.{Bool, true, false, not, _&&_}
+use mathlib.Core.List.{List, [], _∷_}
 use native.Mathlib.Nat.{add-zero, zero-add, suc-add}
 use native.Mathlib.Omega.{arith}
 use borrow.Author.Tests.{eq-eqb, ne-eqb}
+use lib.Bits.{bitAnd}
 use lib.Dec.{eqb, leb}
-use lib.ListN.{length, getD, take, drop, length-drop, drop-of-length-le}
+use lib.ListN.{length, take, drop, length-drop, drop-of-length-le}
 use lib.Seq.{drop-cons, drop-drop, getD-take, getD-drop, take-nil, slice}
 use Rattle.octets.specs.Choice.{if_then_else_}
 use Rattle.octets.specs.Each.{Octets}
@@ -22,7 +23,7 @@ use Rattle.octets.proofs.Places.{octet-read, octet-refused, span-there, span-re
 use Rattle.address.specs.Address.{canonicalAddress, addressIn}
 use Rattle.address.specs.Parts.{fieldAt}
 use Rattle.address.proofs.Laws.{canonical-reads}
-use Rattle.layout.specs.Layout.{Limit, Kind, first, octets, address, indicator, messageType, kept, indicatorSize, size, canon, cut, behind, Format, field, require, endOr, done, _then_, message, Reached, reached, halted, after, reading, readFrom, leadingAt, indicatorAt}
+use Rattle.layout.specs.Layout.{Limit, Kind, first, octet, octets, address, indicator, messageType, kept, indicatorSize, size, canon, cut, behind, Format, field, require, endOr, done, _then_, message, Reached, reached, halted, after, reading, readFrom, leadingAt, indicatorAt, plain, stopping, stops, read}
 use Rattle.layout.proofs.Fields.{octets-take, octets-drop, cut-whole, indicator-positive}
 use Rattle.layout.proofs.FirstOctet.{descends, kept-type}
 use Rattle.layout.proofs.Laws.{goes-on, ends}
@@ -77,8 +78,8 @@ module _ (s : List ℕ) (p : Place) where
         let m = n (drop (p .at) s) in
         there k next q (rw (m, length-drop) (omega arith)) (rw m to) ∙ rw (m, drop-cons s (p .at) 0 h, is)
 
-    pub octet-goes-on : {R : Type 0} (limit : Limit) (next : List ℕ → Format R) → readFrom (field (octets limit 1) next) s (p .at) ≡ readFrom (next (b ∷ [])) s (q .at)
-    octet-goes-on limit next = one-there (octets limit 1) next (λ f. refl)
+    pub octet-goes-on : {R : Type 0} (next : List ℕ → Format R) → readFrom (field octet next) s (p .at) ≡ readFrom (next (b ∷ [])) s (q .at)
+    octet-goes-on next = one-there octet next (λ f. refl)
 
     -- a first octet has the kind's MTI, or another
     module _ {R : Type 0} (mti : ℕ) (bits : List ℕ) (d : descends bits ≡ true) (next : ℕ → Format R) where
@@ -92,26 +93,26 @@ module _ (s : List ℕ) (p : Place) where
     one-short : {R : Type 0} (k : Kind) (next : List ℕ → Format R) → ((f : List ℕ) → size k f ≡ 1) → readFrom (field k next) s (p .at) ≡ halted OctetsEnd
     one-short k next n = short k next (rw (n (drop (p .at) s), length-drop) (omega (arith, octet-refused s p e .0)))
 
-    pub octet-ends : {R : Type 0} (limit : Limit) (next : List ℕ → Format R) → readFrom (field (octets limit 1) next) s (p .at) ≡ halted OctetsEnd
-    octet-ends limit next = one-short (octets limit 1) next (λ f. refl)
+    pub octet-ends : {R : Type 0} (next : List ℕ → Format R) → readFrom (field octet next) s (p .at) ≡ halted OctetsEnd
+    octet-ends next = one-short octet next (λ f. refl)
 
     pub message-ends : {R : Type 0} (mti : ℕ) (bits : List ℕ) (next : ℕ → Format R) → readFrom (message mti bits next) s (p .at) ≡ halted OctetsEnd
     message-ends mti bits next = one-short (first bits) _ (λ f. refl)
 
   -- ---- by the answer of `Place::span`
 
-  span-there-whole : {R : Type 0} {a : ℕ} {q : Place} (k : Kind) → spanAt s p (size k (drop (p .at) s)) ≡ Span.There a q → (next : List ℕ → Format R) → readFrom (field k next) s (p .at) ≡ readFrom (next (canon k (cut k (drop (p .at) s)))) s (q .at)
-  span-there-whole {q = q} k e next = let (h, a, to) = span-there s p _ e in there k next q h to
+  whole-there : {R : Type 0} {a : ℕ} {q : Place} (k : Kind) → spanAt s p (size k (drop (p .at) s)) ≡ Span.There a q → (next : List ℕ → Format R) → readFrom (field k next) s (p .at) ≡ readFrom (next (canon k (cut k (drop (p .at) s)))) s (q .at)
+  whole-there {q = q} k e next = let (h, a, to) = span-there s p _ e in there k next q h to
 
-  span-short : {R : Type 0} {why : Refusal} (k : Kind) → spanAt s p (size k (drop (p .at) s)) ≡ Span.Refused why → (next : List ℕ → Format R) → readFrom (field k next) s (p .at) ≡ halted OctetsEnd
-  span-short k e next = short k next (span-refused s p _ e .0)
+  whole-short : {R : Type 0} {why : Refusal} (k : Kind) → spanAt s p (size k (drop (p .at) s)) ≡ Span.Refused why → (next : List ℕ → Format R) → readFrom (field k next) s (p .at) ≡ halted OctetsEnd
+  whole-short k e next = short k next (span-refused s p _ e .0)
 
   module _ (n : ℕ) where
     pub span-goes-on : {R : Type 0} {a : ℕ} {q : Place} → spanAt s p n ≡ Span.There a q → (limit : Limit) (next : List ℕ → Format R) → readFrom (field (octets limit n) next) s (p .at) ≡ readFrom (next (take n (drop (p .at) s))) s (q .at)
-    span-goes-on e limit next = span-there-whole (octets limit n) e next
+    span-goes-on e limit next = whole-there (octets limit n) e next
 
     pub span-ends : {R : Type 0} {why : Refusal} → spanAt s p n ≡ Span.Refused why → (limit : Limit) (next : List ℕ → Format R) → readFrom (field (octets limit n) next) s (p .at) ≡ halted OctetsEnd
-    span-ends e limit next = span-short (octets limit n) e next
+    span-ends e limit next = whole-short (octets limit n) e next
 
     -- the octets between the two places are the field
     pub span-slice : {a : ℕ} {q : Place} → spanAt s p n ≡ Span.There a q → slice a (q .at) s ≡ take n (drop (p .at) s)
@@ -121,11 +122,11 @@ module _ (s : List ℕ) (p : Place) where
 
   pub address-goes-on : {R : Type 0} {a : ℕ} {q : Place} → fieldAt s p ≡ Span.There a q → (next : List ℕ → Format R) → readFrom (field address next) s (p .at) ≡ readFrom (next (canonicalAddress (cut address (drop (p .at) s)))) s (q .at)
   unfolding fieldAt spanAt
-  address-goes-on e next = span-there-whole address e next
+  address-goes-on e next = whole-there address e next
 
   pub address-ends : {R : Type 0} {why : Refusal} → fieldAt s p ≡ Span.Refused why → (next : List ℕ → Format R) → readFrom (field address next) s (p .at) ≡ halted OctetsEnd
   unfolding fieldAt spanAt
-  address-ends e next = span-short address e next
+  address-ends e next = whole-short address e next
 
   -- its canonical octets are read as what stands between the two places
   pub address-reads : {a : ℕ} {q : Place} → Octets s → fieldAt s p ≡ Span.There a q → addressIn (canonicalAddress (cut address (drop (p .at) s))) ≡ addressIn (slice a (q .at) s)
@@ -144,7 +145,7 @@ module _ (s : List ℕ) (p : Place) where
       by (Span.There a to) d e =
           let (h, is, w) = span-there s p _ d in
           let at : p .at + 0 ≡ p .at = add-zero (p .at) in
-          span-there-whole indicator d next ∙ cc (getD-take (indicatorSize (drop (p .at) s)) (drop (p .at) s) 0 0 (indicator-positive (drop (p .at) s)), getD-drop (p .at) s 0 0)
+          whole-there indicator d next ∙ cc (getD-take (indicatorSize (drop (p .at) s)) (drop (p .at) s) 0 0 (indicator-positive (drop (p .at) s)), getD-drop (p .at) s 0 0)
       by (Span.Refused why) d e = let z : _≡_ {A = ℕ} 0 1 = cc in absurd (omega arith)
 
   pub indicator-ends : {R : Type 0} {why : Refusal} → indicatorAt s p ≡ Octet.Refused why → (next : List ℕ → Format R) → readFrom (field indicator next) s (p .at) ≡ halted OctetsEnd
@@ -153,7 +154,33 @@ module _ (s : List ℕ) (p : Place) where
     where
       by : (r : Span) → spanAt s p (indicatorSize (drop (p .at) s)) ≡ r → leadingAt s r ≡ Octet.Refused why → readFrom (field indicator next) s (p .at) ≡ halted OctetsEnd
       by (Span.There a to) d e = let z : _≡_ {A = ℕ} 0 1 = cc in absurd (omega arith)
-      by (Span.Refused w) d e = span-short indicator d next
+      by (Span.Refused w) d e = whole-short indicator d next
+
+-- ---- a layout: its line, or where the first octet stops it
+
+module _ {R : Type 0} (s : List ℕ) (line : Format R) where
+  pub read-plain : read (plain line) s ≡ readFrom line s 0
+  unfolding read
+  read-plain = refl
+
+  module _ (mti : ℕ) (stands : List ℕ) (z : R) where
+    pub read-stopped : stops mti s ≡ true → read (stopping mti stands z line) s ≡ reached z 1
+    unfolding read
+    read-stopped e = rw e
+
+    pub read-on : stops mti s ≡ false → read (stopping mti stands z line) s ≡ readFrom line s 0
+    unfolding read
+    read-on e = rw e
+
+pub stops-by : {b : ℕ} {q : Place} (mti : ℕ) (s : List ℕ) → octetAt s (record { at = 0 }) ≡ Octet.Read b q → stops mti s ≡ (eqb (messageType b) mti && not (eqb (bitAnd b 0xbc) 0))
+unfolding stops
+stops-by mti [] e = absurd (omega (arith, octet-read [] (record { at = 0 }) e .0))
+stops-by mti (x ∷ s) e = rw (octet-read (x ∷ s) (record { at = 0 }) e .1)
+
+pub stops-none : {why : Refusal} (mti : ℕ) (s : List ℕ) → octetAt s (record { at = 0 }) ≡ Octet.Refused why → stops mti s ≡ false
+unfolding stops
+stops-none mti [] e = refl
+stops-none mti (x ∷ s) e = absurd (omega (arith, octet-refused (x ∷ s) (record { at = 0 }) e .0))
 
 -- ---- a format and what follows it are read one after the other
 
@@ -186,13 +213,13 @@ module _ {A R : Type 0} (s : List ℕ) (next : A → Format R) where
       after-follows indicator _ _ (x ∷ left) at (follows (more (canon indicator (cut indicator (x ∷ left)))) (behind indicator (x ∷ left)) (at + size indicator (x ∷ left)) (behind-is indicator (x ∷ left) at l))
   follows (done a) left at l = rw l
 
-  module _ (line : Format A) (at : ℕ) where
-    pub part-by-part : readFrom (line then next) s at ≡ goOn (readFrom line s at) (λ a at. readFrom (next a) s at)
-    unfolding readFrom
-    part-by-part = follows line (drop at s) at refl
+module _ {A R : Type 0} (s : List ℕ) (line : Format A) (at : ℕ) where
+  pub part-by-part : (next : A → Format R) → readFrom (line then next) s at ≡ goOn (readFrom line s at) (λ a at. readFrom (next a) s at)
+  unfolding readFrom
+  part-by-part next = follows s next line (drop at s) at refl
 
-    pub then-goes-on : {a : A} {to : ℕ} → readFrom line s at ≡ reached a to → readFrom (line then next) s at ≡ readFrom (next a) s to
-    then-goes-on e = part-by-part ∙ rw e
+  pub then-goes-on : {a : A} {to : ℕ} → readFrom line s at ≡ reached a to → (next : A → Format R) → readFrom (line then next) s at ≡ readFrom (next a) s to
+  then-goes-on e next = part-by-part next ∙ rw e
 
-    pub then-ends : {why : Refusal} → readFrom line s at ≡ halted why → readFrom (line then next) s at ≡ halted why
-    then-ends e = part-by-part ∙ rw e
+  pub then-ends : {why : Refusal} → readFrom line s at ≡ halted why → (next : A → Format R) → readFrom (line then next) s at ≡ halted why
+  then-ends e next = part-by-part next ∙ rw e

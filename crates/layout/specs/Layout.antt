@@ -16,10 +16,9 @@ use Rattle.octets.specs.declared.Refusal.the-variants.{OctetsEnd, WrongMessageT
 use Rattle.octets.specs.declared.Span.{Span}
 use Rattle.address.specs.Address.{addressSize, canonicalAddress}
 
-infixr 4 _then_
 -- ---- kinds of field
 
--- how many octets of a field a writer takes
+-- how many octets of a field a writer takes: any number, or at most so many
 pub data Limit : Type 0 where
   any : Limit
   upTo : ℕ → Limit
@@ -27,15 +26,14 @@ pub data Limit : Type 0 where
 pub data Kind : Type 0 where
   -- the first octet: TP-MTI in bits 1 and 0 (TS 23.040 §9.2.3.1), and the bits that the line names
   first : List ℕ → Kind
+  -- an octet that stands as it is
+  octet : Kind
   -- so many octets that stand as they are
   octets : Limit → ℕ → Kind
   -- an address (§9.1.2.5)
   address : Kind
   -- TP-Parameter-Indicator with its extension octets (§9.2.3.27)
   indicator : Kind
-
-abbrev pub octet : Kind
-octet = octets any 1
 
 -- TP-User-Data (§9.2.3.24) of so many octets
 abbrev pub userData : ℕ → Kind
@@ -65,6 +63,7 @@ indicatorSize (x ∷ s) = if isSet 7 x then suc (indicatorSize s) else 1
 -- the number of octets of the field at the start of s
 abbrev pub size : Kind → List ℕ → ℕ
 size (first bits) s = 1
+size octet s = 1
 size (octets limit n) s = n
 size address s = addressSize s
 size indicator s = indicatorSize s
@@ -77,20 +76,21 @@ Whole k f = size k f ≡ length f
 abbrev pub leading : List ℕ → ℕ
 leading f = getD f 0 0
 
--- the canonical octets of a field: bits that the line doesn't name are 0, an address is written afresh, extension octets are gone
+-- a field's part of document 01's canonical octets: bits that the line doesn't name are 0, an address is written afresh, extension octets are gone
 abbrev pub canon : Kind → List ℕ → List ℕ
 canon (first bits) f = kept bits (leading f) ∷ []
+canon octet f = f
 canon (octets limit n) f = f
 canon address f = canonicalAddress f
 canon indicator f = leading f ∷ []
 
--- a field in its canonical octets
+-- a field by its kind and its canonical octets
 pub record Field : Type 0 where
   pub kind : Kind
   pub stands : List ℕ
 
 abbrev pub standsAs : Kind → List ℕ → Field
-standsAs k f = record { kind = k; stands = canon k f }
+standsAs k c = record { kind = k; stands = c }
 
 -- fields one after the other
 abbrev pub joined : List Field → List ℕ
@@ -109,6 +109,7 @@ pub data Format (R : Type 0) : Type 0 where
   -- the line's end: further octets may follow, and are dropped
   done : R → Format R
 
+infixr 4 _then_
 -- a format, and what follows it by what it made
 abbrev pub _then_ : {A R : Type 0} → Format A → (A → Format R) → Format R
 field k more then next = field k λ c. more c then next
@@ -126,7 +127,7 @@ one next = field octet λ f. next (leading f)
 abbrev pub time : {R : Type 0} → (List ℕ → Format R) → Format R
 time next = field (octets any 7) next
 
--- ---- what a line generates
+-- ---- what a line generates (document 01's term)
 
 -- s is a whole field and the rest, and P holds of the field's canonical octets and the rest
 pub record Begins (k : Kind) (P : List ℕ → List ℕ → Type 0) (s : List ℕ) : Type 0 where
@@ -136,7 +137,7 @@ pub record Begins (k : Kind) (P : List ℕ → List ℕ → Type 0) (s : List �
   pub whole : Whole k front
   pub follows : P (canon k front) rest
 
--- the line generates s: whole fields one after the other, and anything behind
+-- s is the whole fields that the line calls for, one after the other, and anything behind them
 abbrev pub Generates : {R : Type 0} → Format R → List ℕ → Type 0
 Generates (field k next) s = Begins k (λ c rest. Generates (next c) rest) s
 Generates (require why holds line) s = (holds ≡ true) × Generates line s
@@ -161,7 +162,7 @@ behind k s = drop (size k s) s
 unfoldable pub after : {R : Type 0} → Kind → (List ℕ → List ℕ → ℕ → Reached R) → List ℕ → ℕ → Reached R
 after k go s at = if leb (size k s) (length s) then go (canon k (cut k s)) (behind k s) (at + size k s) else halted OctetsEnd
 
--- of the octets s that are left at a place
+-- what is read of the octets s that are left at a place
 unfoldable pub reading : {R : Type 0} → Format R → List ℕ → ℕ → Reached R
 reading (field k next) s at = after k (λ c rest to. reading (next c) rest to) s at
 reading (require why holds line) s at = if holds then reading line s at else halted why
@@ -169,11 +170,11 @@ reading (endOr line next) [] at = reading line [] at
 reading (endOr line next) (x ∷ s) at = after indicator (λ c rest to. reading (next c) rest to) (x ∷ s) at
 reading (done r) s at = reached r at
 
--- of a string, from a place on
+-- what is read of a string from a place on
 unfoldable pub readFrom : {R : Type 0} → Format R → List ℕ → ℕ → Reached R
 readFrom line s at = reading line (drop at s) at
 
--- an indicator's first octet, with the place behind its last extension octet
+-- what reading at a place finds of an indicator: its first octet, and the place behind its last extension octet
 abbrev pub leadingAt : List ℕ → Span → Octet
 leadingAt s (Span.There at next) = Octet.Read (getD s at 0) next
 leadingAt s (Span.Refused why) = Octet.Refused why
@@ -185,15 +186,16 @@ indicatorAt s p = leadingAt s (spanAt s p (indicatorSize (drop (p .at) s)))
 
 -- the fields of a string that the line generates
 unfoldable pub fieldsOf : {R : Type 0} → Format R → List ℕ → List Field
-fieldsOf (field k next) s = standsAs k (cut k s) ∷ fieldsOf (next (canon k (cut k s))) (behind k s)
+fieldsOf (field k next) s = let c = canon k (cut k s) in standsAs k c ∷ fieldsOf (next c) (behind k s)
 fieldsOf (require why holds line) s = fieldsOf line s
 fieldsOf (endOr line next) [] = fieldsOf line []
-fieldsOf (endOr line next) (x ∷ s) = standsAs indicator (cut indicator (x ∷ s)) ∷ fieldsOf (next (canon indicator (cut indicator (x ∷ s)))) (behind indicator (x ∷ s))
+fieldsOf (endOr line next) (x ∷ s) = let c = canon indicator (cut indicator (x ∷ s)) in standsAs indicator c ∷ fieldsOf (next c) (behind indicator (x ∷ s))
 fieldsOf (done r) s = []
 
 -- a canonical field that a writer refuses: user data past their limit, an address value past 10 octets (behind length and type), an indicator with bit 7
 abbrev pub pastLimit : Kind → List ℕ → Bool
 pastLimit (first bits) c = false
+pastLimit octet c = false
 pastLimit (octets any n) c = false
 pastLimit (octets (upTo most) n) c = ltb most (length c)
 pastLimit address c = ltb 12 (length c)
@@ -203,7 +205,7 @@ abbrev pub anyPastLimit : List Field → Bool
 anyPastLimit [] = false
 anyPastLimit (c ∷ cs) = pastLimit (c .kind) (c .stands) || anyPastLimit cs
 
--- ---- layouts: a reader's line, and the rule of RP-ERROR
+-- ---- layouts: a reader's line, and RP-ERROR's rule
 
 pub data Layout (R : Type 0) : Type 0 where
   plain : Format R → Layout R

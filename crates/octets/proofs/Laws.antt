@@ -37,6 +37,11 @@ pub sets-zeros : (n : ℕ) (xs : List ℕ) → length xs ≤ n → sets (replica
 unfolding pad
 sets-zeros n xs h = sets-start xs (replicate n 0) (rw length-replicate h) ∙ rw drop-zeros
 
+-- a full array has no zeros behind
+pub pad-full : (n : ℕ) (xs : List ℕ) → length xs ≡ n → pad n xs ≡ xs
+unfolding pad
+pad-full n xs e = let z : n - length xs ≡ 0 = omega arith in rw z (append-nil xs)
+
 -- what lies before the length of a padded array
 pub take-pad : (n : ℕ) (xs : List ℕ) → take (length xs) (pad n xs) ≡ xs
 unfolding pad

@@ -5,6 +5,7 @@ use Prim.Native.Nat.{ℕ}
 use lib.ListN.{length}
 use Rattle.octets.specs.Choice.{if_then_else_}
 use Rattle.octets.specs.Lent.{Making, refused, made}
+use Rattle.octets.specs.declared.Checked.{Checked}
 use Rattle.octets.specs.declared.Refusal.{Refusal}
 use Rattle.octets.specs.declared.Written.{Written}
 
@@ -17,3 +18,8 @@ pub data Check : Type 0 where
 unfoldable pub checked : List Check → List ℕ → Making Written
 checked [] octets = made octets (Written.Done (length octets))
 checked ((why unless holds) ∷ checks) octets = if holds then checked checks octets else refused why
+
+-- what follows an answer of a check
+abbrev pub afterChecked : Checked → Making Written → Making Written
+afterChecked Checked.Fine next = next
+afterChecked (Checked.Against why) next = refused why
