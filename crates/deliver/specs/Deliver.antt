@@ -1,0 +1,111 @@
+-- SMS-DELIVER (TS 23.040 §9.2.2.1): its line, its reader's answer, and what its writer makes.
+use Prim.Native.Nat.{ℕ, _+_, _*_}
+use mathlib.Core.Bool.{Bool, true, false, _||_}
+use mathlib.Core.List.{List, [], _∷_, _++_}
+use lib.Dec.{eqb, ltb}
+use lib.ListN.{length, take}
+use Rattle.octets.specs.Choice.{if_then_else_}
+use Rattle.octets.specs.Checks.{Check, _unless_, checked}
+use Rattle.octets.specs.Lent.{Making, refused}
+use Rattle.octets.specs.declared.Outcome.{Outcome}
+use Rattle.octets.specs.declared.Refusal.{Refusal}
+use Rattle.octets.specs.declared.Refusal.the-variants.{LengthTooLarge, WrongMessageType, NotATime}
+use Rattle.octets.specs.declared.Written.{Written}
+use Rattle.coding.specs.Coding.{codingOf, dataOctets, dataChecks, dataWith, dataOf}
+use Rattle.time.specs.Time.{isTime, timeOctets, timeIn, digitsOf}
+use Rattle.address.specs.Address.{addressIn, addressWith, addressOctets, octetsOr, addressChecks, textHeld}
+use Rattle.layout.specs.Layout.{Format, Layout, plain, Reached, reached, halted, message, field, one, time, done, address, userData, isSet, messageType}
+use Rattle.deliver.specs.declared.SmsDeliver.{SmsDeliver}
+use Rattle.deliver.specs.declared.DeliverRead.{DeliverRead}
+
+-- ---- reading
+
+-- the record that the fields make
+unfoldable pub delivered : ℕ → List ℕ → ℕ → ℕ → List ℕ → ℕ → List ℕ → SmsDeliver
+delivered f oa pid dcs scts udl ud = record {
+  «tp_rp» = isSet 7 f;
+  «tp_udhi» = isSet 6 f;
+  «tp_sri» = isSet 5 f;
+  «tp_lp» = isSet 3 f;
+  «tp_mms» = isSet 2 f;
+  «tp_mti» = messageType f;
+  «tp_originating_address» = addressIn oa;
+  «tp_pid» = pid;
+  «tp_dcs» = dcs;
+  «tp_service_centre_timestamp» = timeIn scts;
+  «tp_user_data_length» = udl;
+  «tp_user_data» = dataWith ud
+}
+
+-- RP 7, UDHI 6, SRI 5, LP 3, MMS 2
+abbrev pub bits : List ℕ
+bits = 7 ∷ 6 ∷ 5 ∷ 3 ∷ 2 ∷ []
+
+-- the line: MTI 0 and those bits; address, PID, DCS, time, UDL, data
+unfoldable pub behindAddress : ℕ → List ℕ → Format SmsDeliver
+behindAddress f oa = one λ pid. one λ dcs. time λ scts. one λ udl. field (userData (dataOctets (codingOf dcs) udl)) λ ud. done (delivered f oa pid dcs scts udl ud)
+
+unfoldable pub line : Format SmsDeliver
+line = message 0 bits λ f. field address λ oa. behindAddress f oa
+
+abbrev pub deliver : Layout SmsDeliver
+deliver = plain line
+
+-- the blank record
+unfoldable pub blank : SmsDeliver
+blank = record {
+  «tp_rp» = false;
+  «tp_udhi» = false;
+  «tp_sri» = false;
+  «tp_lp» = false;
+  «tp_mms» = false;
+  «tp_mti» = 0;
+  «tp_originating_address» = addressWith 0 0 [];
+  «tp_pid» = 0;
+  «tp_dcs» = 0;
+  «tp_service_centre_timestamp» = timeIn [];
+  «tp_user_data_length» = 0;
+  «tp_user_data» = dataWith []
+}
+
+unfoldable pub unread : Refusal → DeliverRead
+unread r = record { outcome = Outcome.Refused r; message = blank }
+
+-- what the reader answers
+unfoldable pub answer : Reached SmsDeliver → DeliverRead
+answer (reached r n) = record { outcome = Outcome.Done; message = r }
+answer (halted why) = unread why
+
+-- ---- writing
+
+-- a flag as bit b of an octet
+abbrev pub flag : Bool → ℕ → ℕ
+flag true weight = weight
+flag false weight = 0
+
+-- the octets of the parts, in the line's order
+abbrev pub octetsIn : ℕ → ℕ → ℕ → List ℕ → ℕ → ℕ → List ℕ → ℕ → List ℕ → List ℕ
+octetsIn flags ton npi text pid dcs digits udl ud = flags ∷ octetsOr [] (addressOctets ton npi text) ++ pid ∷ dcs ∷ timeOctets digits ++ udl ∷ ud
+
+-- what a writer makes of the parts: flags of the first octet, MTI, address, PID, DCS, time, UDL, data
+unfoldable pub making : ℕ → ℕ → ℕ → ℕ → List ℕ → ℕ → ℕ → List ℕ → ℕ → List ℕ → Making Written
+making flags mti ton npi text pid dcs digits udl ud =
+    checked
+    ((WrongMessageType unless eqb mti 0) ∷ dataChecks dcs udl (length ud) ++ addressChecks ton npi text ++ (NotATime unless isTime digits) ∷ [])
+    (octetsIn flags ton npi text pid dcs digits udl ud)
+
+-- RP bit 7, UDHI 6, SRI 5, LP 3, MMS 2
+abbrev pub flagsOf : SmsDeliver → ℕ
+flagsOf r = flag (r .«tp_rp») 128 + flag (r .«tp_udhi») 64 + flag (r .«tp_sri») 32 + flag (r .«tp_lp») 8 + flag (r .«tp_mms») 4
+
+-- a length of the record passes its array
+abbrev pub tooLong : SmsDeliver → Bool
+tooLong r = ltb 290 (r .«tp_originating_address» .«address_length») || (ltb 14 (r .«tp_service_centre_timestamp» .length) || ltb 255 (r .«tp_user_data» .length))
+
+-- what the writer makes of a record
+unfoldable pub delivering : SmsDeliver → Making Written
+delivering r =
+    if tooLong r then refused LengthTooLarge
+    else
+        making (flagsOf r) (r .«tp_mti») (r .«tp_originating_address» .ton) (r .«tp_originating_address» .npi) (textHeld (r .«tp_originating_address»)) (r .«tp_pid») (r .«tp_dcs»)
+        (digitsOf (r .«tp_service_centre_timestamp»)) (r .«tp_user_data_length») (dataOf (r .«tp_user_data»))
