@@ -3,7 +3,7 @@
 use Prim.Native.Nat.{ℕ, _+_, _≤_}
 use mathlib.Core.Path.{_≡_, refl, sym, ap, _∙_}
 use mathlib.Core.Bool.{Bool, true, false, _||_, true≢false}
-use mathlib.Core.List.{List}
+use mathlib.Core.List.{List, [], _++_}
 use mathlib.Core.Option.{Option, none, some}
 use mathlib.Core.Logic.{_↔_}
 use native.Mathlib.Omega.{arith}
@@ -11,6 +11,7 @@ use borrow.Author.Tests.{ltb-false, le-ltb}
 use lib.Dec.{ltb}
 use lib.ListN.{length, getD, take, drop}
 use lib.Seq.{getD-drop}
+use Rattle.octets.specs.Checks.{Check, checked}
 use Rattle.octets.specs.Choice.{if_then_else_}
 use Rattle.octets.specs.Each.{Octets}
 use Rattle.octets.specs.Lent.{Making, refused, made}
@@ -19,7 +20,9 @@ use Rattle.octets.specs.declared.Refusal.the-variants.{LengthTooLarge, NumberTy
 use Rattle.octets.specs.declared.Written.{Written}
 use Rattle.octets.proofs.Laws.{take-pad}
 use Rattle.address.specs.declared.SMSAddress.{SMSAddress}
-use Rattle.address.specs.Address.{typeOfNumber, planOf, addressWith, textIn, addressIn, addressSize, addressOctets, canonicalAddress, limited, addressMaking, encoding}
+use Rattle.address.specs.Address.{typeOfNumber, planOf, addressWith, textIn, addressIn, addressSize, addressOctets, canonicalAddress, octetsOr, limited, addressMaking, addressChecks, textHeld, encoding}
+use Rattle.address.specs.Parts.{checkOf}
+use Rattle.address.proofs.Checks.{afterCheck, address-checked, encoding-parts}
 use Rattle.address.proofs.Shapes.{octets-read, octets-octets, read-fits}
 
 -- a whole field: octets, as many as the first of them tells
@@ -76,6 +79,25 @@ module _ (f : List ℕ) (field : Field f) where
       ≡ (if ltb 12 (length (canonicalAddress f)) then refused AddressTooLong else made (canonicalAddress f) (Written.Done (length (canonicalAddress f))))
   unfolding encoding addressIn addressWith addressMaking
   read-written = rw (le-ltb 290 (length (textIn f)) text-short, take-pad, le-ltb 7 (tonIn f) (omega arith), le-ltb 15 (npiIn f) (omega arith), canonical-written .0)
+
+  -- its octets, from the parts of the record
+  pub octets-again : octetsOr [] (addressOctets (addressIn f .ton) (addressIn f .npi) (textHeld (addressIn f))) ≡ canonicalAddress f
+  unfolding addressIn addressWith canonicalAddress
+  octets-again = rw take-pad
+
+  pub length-short : addressIn f .«address_length» ≤ 290
+  unfolding addressIn addressWith
+  length-short = text-short
+
+  -- the same among the checks of a writer of several fields
+  pub read-checked : (checks : List Check) (xs : List ℕ) → checked (addressChecks (addressIn f .ton) (addressIn f .npi) (textHeld (addressIn f)) ++ checks) xs
+      ≡ (if ltb 12 (length (canonicalAddress f)) then refused AddressTooLong else checked checks xs)
+  read-checked checks xs =
+      address-checked _ _ _ checks xs ∙ ap (λ m. afterCheck (checkOf m) (checked checks xs)) (sym (encoding-parts (addressIn f) length-short) ∙ read-written) ∙ decided (ltb 12 (length (canonicalAddress f)))
+    where
+      decided : (b : Bool) → afterCheck (checkOf (if b then refused AddressTooLong else made (canonicalAddress f) (Written.Done (length (canonicalAddress f))))) (checked checks xs) ≡ (if b then refused AddressTooLong else checked checks xs)
+      decided true = refl
+      decided false = refl
 
 -- two fields are read as the same address exactly when their canonical octets are the same
 pub address-equal : (f g : List ℕ) → Field f → Field g → (addressIn f ≡ addressIn g) ↔ (canonicalAddress f ≡ canonicalAddress g)

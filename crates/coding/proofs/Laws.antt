@@ -5,8 +5,12 @@ use native.Mathlib.Omega.{arith}
 use mathlib.Core.Path.{_≡_, refl}
 use mathlib.Core.Bool.{Bool, true, false}
 use mathlib.Core.List.{List, [], _∷_, _++_}
-use lib.Dec.{eqb, leb}
+use borrow.Author.Tests.{eq-eqb, le-ltb, lt-ltb, leb-true, leb-false}
+use lib.Dec.{eqb, leb, ltb}
 use Rattle.octets.specs.Checks.{Check, checked, afterChecked}
+use Rattle.octets.specs.Choice.{if_then_else_}
+use Rattle.octets.specs.Lent.{Making, refused}
+use Rattle.octets.specs.declared.Refusal.the-variants.{UserDataTooLong}
 use Rattle.octets.proofs.Laws.{take-pad}
 use Rattle.coding.specs.declared.UserDataCoding.{UserDataCoding}
 use Rattle.coding.specs.declared.UserDataCoding.the-variants.{Gsm7Bit, EightBit, Ucs2, Compressed}
@@ -34,3 +38,12 @@ data-at-most Gsm7Bit udl = omega arith
 data-at-most EightBit udl = omega arith
 data-at-most Ucs2 udl = omega arith
 data-at-most Compressed udl = omega arith
+
+-- data that were read have the number that UDL and DCS give, so that the limit alone decides
+pub data-limit : (dcs udl n : ℕ) → dataOctets (codingOf dcs) udl ≡ n → (checks : List Check) (xs : List ℕ) → checked (dataChecks dcs udl n ++ checks) xs ≡ (if ltb 140 n then refused UserDataTooLong else checked checks xs)
+unfolding checked
+data-limit dcs udl n e checks xs = rw (e, eq-eqb n n refl) (by (leb n 140) refl)
+  where
+    by : (b : Bool) → leb n 140 ≡ b → (if leb n 140 then checked checks xs else refused UserDataTooLong) ≡ (if ltb 140 n then refused UserDataTooLong else checked checks xs)
+    by true h = rw (h, le-ltb 140 n (leb-true _ _ h))
+    by false h = rw (h, lt-ltb 140 n (leb-false _ _ h))

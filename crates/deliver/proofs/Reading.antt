@@ -117,9 +117,19 @@ pub message-is : (s : List ℕ) → Octets s → (first oa pid dcs scts udl ud n
     → (a : SMSAddress) → a ≡ addressIn (take (addressSize (drop oa s)) (drop oa s)) → (ds : List ℕ) → ds ≡ timeDigits (take 7 (drop scts s))
     → (xs : List ℕ) → xs ≡ pad 255 (take (ud + n - ud) (drop ud s))
     → _≡_ {A = SmsDeliver} (record {
-      «tp_rp» = eqb (first / 128 % 2) 1; «tp_udhi» = eqb (first / 64 % 2) 1; «tp_sri» = eqb (first / 32 % 2) 1; «tp_lp» = eqb (first / 8 % 2) 1; «tp_mms» = eqb (first / 4 % 2) 1;
-      «tp_mti» = first % 4; «tp_originating_address» = a; «tp_pid» = pid; «tp_dcs» = dcs; «tp_service_centre_timestamp» = record { digits = ds; length = 14 };
-      «tp_user_data_length» = udl; «tp_user_data» = record { octets = xs; length = n } })
+      «tp_rp» = eqb (first / 128 % 2) 1;
+      «tp_udhi» = eqb (first / 64 % 2) 1;
+      «tp_sri» = eqb (first / 32 % 2) 1;
+      «tp_lp» = eqb (first / 8 % 2) 1;
+      «tp_mms» = eqb (first / 4 % 2) 1;
+      «tp_mti» = first % 4;
+      «tp_originating_address» = a;
+      «tp_pid» = pid;
+      «tp_dcs» = dcs;
+      «tp_service_centre_timestamp» = record { digits = ds; length = 14 };
+      «tp_user_data_length» = udl;
+      «tp_user_data» = record { octets = xs; length = n };
+    })
     (delivered (kept bits first) (canonicalAddress (cut address (drop oa s))) pid dcs (take 7 (drop scts s)) udl (take n (drop ud s)))
 unfolding delivered timeIn dataWith
 message-is s o first oa pid dcs scts udl ud n wa wt wd a ea ds ed xs ex =
@@ -129,6 +139,19 @@ message-is s o first oa pid dcs scts udl ud n wa wt wd a ea ds ed xs ex =
     let seven : length (timeDigits (take 7 (drop scts s))) ≡ 14 = length-digits _ ∙ rw (length-take-le 7 (drop scts s) (rw length-drop (omega arith))) in
     let many : ud + n - ud ≡ n = omega arith in
     let size : length (take n (drop ud s)) ≡ n = length-take-le n (drop ud s) (rw length-drop (omega arith)) in
-    rw
-    (kept-bit bits refl 7 refl first, kept-bit bits refl 6 refl first, kept-bit bits refl 5 refl first, kept-bit bits refl 3 refl first, kept-bit bits refl 2 refl first, kept-type bits refl first,
-    same, ea, ed, ex, many, seven, size, pad-full 14 (timeDigits (take 7 (drop scts s))) seven)
+    rw (
+      kept-bit bits refl 7 refl first,
+      kept-bit bits refl 6 refl first,
+      kept-bit bits refl 5 refl first,
+      kept-bit bits refl 3 refl first,
+      kept-bit bits refl 2 refl first,
+      kept-type bits refl first,
+      same,
+      ea,
+      ed,
+      ex,
+      many,
+      seven,
+      size,
+      pad-full 14 (timeDigits (take 7 (drop scts s))) seven,
+    )

@@ -34,7 +34,7 @@ delivered f oa pid dcs scts udl ud = record {
   «tp_dcs» = dcs;
   «tp_service_centre_timestamp» = timeIn scts;
   «tp_user_data_length» = udl;
-  «tp_user_data» = dataWith ud
+  «tp_user_data» = dataWith ud;
 }
 
 -- RP 7, UDHI 6, SRI 5, LP 3, MMS 2
@@ -65,7 +65,7 @@ blank = record {
   «tp_dcs» = 0;
   «tp_service_centre_timestamp» = timeIn [];
   «tp_user_data_length» = 0;
-  «tp_user_data» = dataWith []
+  «tp_user_data» = dataWith [];
 }
 
 unfoldable pub unread : Refusal → DeliverRead
@@ -107,5 +107,47 @@ unfoldable pub delivering : SmsDeliver → Making Written
 delivering r =
     if tooLong r then refused LengthTooLarge
     else
-        making (flagsOf r) (r .«tp_mti») (r .«tp_originating_address» .ton) (r .«tp_originating_address» .npi) (textHeld (r .«tp_originating_address»)) (r .«tp_pid») (r .«tp_dcs»)
-        (digitsOf (r .«tp_service_centre_timestamp»)) (r .«tp_user_data_length») (dataOf (r .«tp_user_data»))
+    making (flagsOf r) (r .«tp_mti») (r .«tp_originating_address» .ton) (r .«tp_originating_address» .npi) (textHeld (r .«tp_originating_address»)) (r .«tp_pid») (r .«tp_dcs»)
+    (digitsOf (r .«tp_service_centre_timestamp»)) (r .«tp_user_data_length») (dataOf (r .«tp_user_data»))
+
+-- ---- the parts of a record: what lies behind a length is none
+
+pub record Parts : Type 0 where
+  pub rp : Bool
+  pub udhi : Bool
+  pub sri : Bool
+  pub lp : Bool
+  pub mms : Bool
+  pub mti : ℕ
+  pub ton : ℕ
+  pub npi : ℕ
+  pub textLength : ℕ
+  pub text : List ℕ
+  pub pid : ℕ
+  pub dcs : ℕ
+  pub timeLength : ℕ
+  pub digits : List ℕ
+  pub udl : ℕ
+  pub dataLength : ℕ
+  pub userData : List ℕ
+
+abbrev pub parts : SmsDeliver → Parts
+parts r = record {
+  rp = r .«tp_rp»;
+  udhi = r .«tp_udhi»;
+  sri = r .«tp_sri»;
+  lp = r .«tp_lp»;
+  mms = r .«tp_mms»;
+  mti = r .«tp_mti»;
+  ton = r .«tp_originating_address» .ton;
+  npi = r .«tp_originating_address» .npi;
+  textLength = r .«tp_originating_address» .«address_length»;
+  text = textHeld (r .«tp_originating_address»);
+  pid = r .«tp_pid»;
+  dcs = r .«tp_dcs»;
+  timeLength = r .«tp_service_centre_timestamp» .length;
+  digits = digitsOf (r .«tp_service_centre_timestamp»);
+  udl = r .«tp_user_data_length»;
+  dataLength = r .«tp_user_data» .length;
+  userData = dataOf (r .«tp_user_data»);
+}

@@ -10,7 +10,6 @@ ghost use Rattle.time.specs.Time.{isTime};
 ghost use Rattle.address.specs.Address.{addressMaking, addressSize, canonicalAddress};
 ghost use Rattle.address.specs.Parts.{checkOf};
 ghost use Rattle.deliver.specs.Deliver.{bits, delivered, behindAddress, deliver, answer, unread, flag as flagWeight, octetsIn, making, delivering};
-
 use address::AddressCheck;
 use address::SMSAddress;
 use coding::UserData;
@@ -204,7 +203,19 @@ fn encode_parts(
             if out.len() < 13 + (count + 1) / 2 + data.len() {
                 return Written::Refused(Refusal::OutputTooShort);
             }
-            Written::Done(put_parts(flags, ton, npi, text, count, pid, dcs, digits, udl, data, out))
+            Written::Done(put_parts(
+                flags,
+                ton,
+                npi,
+                text,
+                count,
+                pid,
+                dcs,
+                digits,
+                udl,
+                data,
+                out,
+            ))
         }
     }
 }
@@ -236,7 +247,11 @@ impl SmsDeliver {
         if 255 < k {
             return Written::Refused(Refusal::LengthTooLarge);
         }
-        let flags = flag(self.tp_rp, 128) + flag(self.tp_udhi, 64) + flag(self.tp_sri, 32) + flag(self.tp_lp, 8) + flag(self.tp_mms, 4);
+        let flags = flag(self.tp_rp, 128)
+            + flag(self.tp_udhi, 64)
+            + flag(self.tp_sri, 32)
+            + flag(self.tp_lp, 8)
+            + flag(self.tp_mms, 4);
         let text = originator.address;
         let digits = timestamp.digits;
         let octets = user_data.octets;

@@ -14,7 +14,8 @@ use lib.Seq.{drop-cons}
 use Rattle.octets.specs.Each.{Octets, each}
 use Rattle.octets.proofs.Choice.{and-true, and-means}
 use Rattle.octets.proofs.Each.{each-means}
-use Rattle.time.specs.Time.{hexDigit, isHex, hexValue, capitals, timeDigits, timeOctets, isTime}
+use Rattle.octets.proofs.Laws.{take-pad}
+use Rattle.time.specs.Time.{hexDigit, isHex, hexValue, capitals, timeDigits, timeOctets, isTime, timeIn, digitsOf}
 use Rattle.time.proofs.Hex.{hex-value, hex-digit}
 
 -- a time is fourteen hexadecimal digits
@@ -101,3 +102,8 @@ module _ (i : ℕ) where
   pub octets-end : (ds : List ℕ) → length ds ≤ 2 * i → timeOctets (drop (2 * i) ds) ≡ []
   unfolding timeOctets
   octets-end ds h = rw (drop-of-length-le ds h)
+
+-- the digits of a time that was read
+pub time-held : (os : List ℕ) → digitsOf (timeIn os) ≡ timeDigits os
+unfolding timeIn
+time-held os = take-pad 14 (timeDigits os)

@@ -42,11 +42,12 @@ message-requires c κs =
     let s = now (c .before .before .before .before .before .before .before .before .before .before .before .before .before .before .before .before .before .before .before .before .before .before .before .args .«data») in
     let at-dcs = octet-read s _ (sym (c .before .before .before .before .before .before .before .before .before .before .before .before .before .before .before .before .before .octet2 .ensures) ∙ c .before .before .before .before .before .before .before .before .before .before .before .before .before .before .before .dcs .given .1) in
     let at-udl = octet-read s _ (sym (c .before .before .before .before .before .before .before .before .before .octet3 .ensures) ∙ c .before .before .before .before .before .before .before .udl .given .1) in
-    let n = (size-is _ _ (c .before .before .before .before .user-data-octets .ensures) (c .before .before .before .before .before .user-data-coding .ensures)) in
-    (c .before .before .before .before .before .before .before .before .before .before .before .before .before .before .before .before .before .before .before .before .before .before .before .pre,
-    inside s _ _ 7 _ (sym (c .before .before .before .before .before .before .before .before .before .before .before .before .before .span .ensures) ∙ c .before .before .before .before .before .before .before .before .before .before .before .scts .given .1) (omega (arith, at-dcs)),
-    inside s _ _ _ _ (sym (c .before .before .before .span2 .ensures) ∙ c .before .ud .given .1) (omega (arith, at-udl)),
-    few s (λ i. c .before .before .before .before .before .before .before .before .before .before .before .before .before .before .before .before .before .before .before .before .before .before .shared-slice-known .given i .fits) _ _ _ (at-udl .1) n)
+    let n = (size-is _ _ (c .before .before .before .before .user-data-octets .ensures) (c .before .before .before .before .before .user-data-coding .ensures)) in (
+      c .before .before .before .before .before .before .before .before .before .before .before .before .before .before .before .before .before .before .before .before .before .before .before .pre,
+      inside s _ _ 7 _ (sym (c .before .before .before .before .before .before .before .before .before .before .before .before .before .span .ensures) ∙ c .before .before .before .before .before .before .before .before .before .before .before .scts .given .1) (omega (arith, at-dcs)),
+      inside s _ _ _ _ (sym (c .before .before .before .span2 .ensures) ∙ c .before .ud .given .1) (omega (arith, at-udl)),
+      few s (λ i. c .before .before .before .before .before .before .before .before .before .before .before .before .before .before .before .before .before .before .before .before .before .before .shared-slice-known .given i .fits) _ _ _ (at-udl .1) n,
+    )
 
 returns-6 : tie.Need-returns-6
 returns-6 c =
