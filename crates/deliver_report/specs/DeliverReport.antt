@@ -1,0 +1,111 @@
+-- SMS-DELIVER-REPORT (TS 23.040 §9.2.2.1a): its two lines, its readers' answers, and what its writer makes.
+use Prim.Native.Nat.{ℕ}
+use mathlib.Core.Bool.{Bool, true, false}
+use mathlib.Core.List.{List, [], _∷_, _++_}
+use lib.Dec.{leb}
+use lib.ListN.{length}
+use Rattle.octets.specs.Checks.{Check, _unless_, checked}
+use Rattle.octets.specs.Lent.{Making}
+use Rattle.octets.specs.declared.Outcome.{Outcome}
+use Rattle.octets.specs.declared.Refusal.the-variants.{LengthTooLarge}
+use Rattle.octets.specs.declared.Written.{Written}
+use Rattle.coding.specs.Coding.{dataWith, dataOf}
+use Rattle.layout.specs.Layout.{indicator, isSet, leading, Format, field, done, _then_, message, one, Reached, reached, halted, Layout, plain, stopping}
+use Rattle.parameters.specs.Checking.{indicatorChecks, dataChecks}
+use Rattle.parameters.specs.Line.{Parameters, parameters, parametersOctets}
+use Rattle.parameters.specs.Optional.{octetsHeld}
+use Rattle.parameters.specs.declared.OptionalOctet.{OptionalOctet}
+use Rattle.parameters.specs.declared.OptionalOctet.the-variants.{Absent, Present}
+use Rattle.deliver_report.specs.declared.DeliverReportRead.{DeliverReportRead}
+use Rattle.deliver_report.specs.declared.SmsDeliverReport.{SmsDeliverReport}
+
+-- ---- reading
+
+-- the record of UDHI, cause, indicator and parameters
+unfoldable pub reported : Bool → OptionalOctet → ℕ → Parameters → SmsDeliverReport
+reported udhi cause pi p = record {
+  «tp_udhi» = udhi;
+  «tp_failure_cause» = cause;
+  «tp_parameter_indicator» = pi;
+  «tp_pid» = p .pid;
+  «tp_dcs» = p .dcs;
+  «tp_user_data_length» = p .udl;
+  «tp_user_data» = dataWith (p .ud);
+}
+
+abbrev pub noParameters : Parameters
+noParameters = record { pid = Absent; dcs = Absent; udl = Absent; ud = [] }
+
+-- behind first octet and cause: indicator, parameters
+abbrev pub rest : Bool → OptionalOctet → Format SmsDeliverReport
+rest udhi cause = field indicator λ i. parameters (leading i) then λ p. done (reported udhi cause (leading i) p)
+
+-- the lines: MTI 0, UDHI 6; cause (RP-ERROR only); indicator, parameters
+unfoldable pub ackLine : Format SmsDeliverReport
+ackLine = message 0 (6 ∷ []) λ f. rest (isSet 6 f) Absent
+
+unfoldable pub errorLine : Format SmsDeliverReport
+errorLine = message 0 (6 ∷ []) λ f. one λ cause. rest (isSet 6 f) (Present cause)
+
+-- the stopped RP-ERROR: UDHI 0, cause FF, indicator 0, nothing else
+abbrev pub stopped : SmsDeliverReport
+stopped = reported false (Present 0xff) 0 noParameters
+
+abbrev pub ack : Layout SmsDeliverReport
+ack = plain ackLine
+
+abbrev pub error : Layout SmsDeliverReport
+error = stopping 0 (0x00 ∷ 0xff ∷ 0x00 ∷ []) stopped errorLine
+
+-- what a reader answers: the blank record on a refusal
+unfoldable pub answer : Reached SmsDeliverReport → DeliverReportRead
+answer (reached r n) = record { outcome = Outcome.Done; message = r }
+answer (halted why) = record { outcome = Outcome.Refused why; message = reported false Absent 0 noParameters }
+
+-- ---- writing
+
+-- UDHI in bit 6, MTI 0
+abbrev pub firstOctet : Bool → ℕ
+firstOctet true = 64
+firstOctet false = 0
+
+abbrev pub octetsIn : Bool → OptionalOctet → ℕ → Parameters → List ℕ
+octetsIn udhi cause pi p = firstOctet udhi ∷ (octetsHeld cause ++ (pi ∷ parametersOctets p))
+
+-- what a writer makes of the parts: 13, 14, 7, 8, 15
+unfoldable pub making : Bool → OptionalOctet → ℕ → Parameters → Making Written
+making udhi cause pi p = checked (indicatorChecks pi (p .pid) (p .dcs) (p .udl) ++ dataChecks (p .dcs) (p .udl) (length (p .ud))) (octetsIn udhi cause pi p)
+
+-- the parameters of a record
+abbrev pub parametersOf : SmsDeliverReport → Parameters
+parametersOf r = record { pid = r .«tp_pid»; dcs = r .«tp_dcs»; udl = r .«tp_user_data_length»; ud = dataOf (r .«tp_user_data») }
+
+-- of a record: 1 first
+unfoldable pub reporting : SmsDeliverReport → Making Written
+reporting r =
+    let p = parametersOf r in
+    checked
+    ((LengthTooLarge unless leb (r .«tp_user_data» .length) 255) ∷ (indicatorChecks (r .«tp_parameter_indicator») (p .pid) (p .dcs) (p .udl) ++ dataChecks (p .dcs) (p .udl) (length (p .ud))))
+    (octetsIn (r .«tp_udhi») (r .«tp_failure_cause») (r .«tp_parameter_indicator») p)
+
+-- ---- the parts of a record
+
+-- what lies behind the user data's length is none of them
+pub record Parts : Type 0 where
+  pub udhi : Bool
+  pub cause : OptionalOctet
+  pub indicator : ℕ
+  pub parameters : Parameters
+  pub dataLength : ℕ
+
+abbrev pub parts : SmsDeliverReport → Parts
+parts r = record {
+  udhi = r .«tp_udhi»;
+  cause = r .«tp_failure_cause»;
+  indicator = r .«tp_parameter_indicator»;
+  parameters = parametersOf r;
+  dataLength = r .«tp_user_data» .length;
+}
+
+abbrev pub partsOctets : Parts → List ℕ
+partsOctets q = octetsIn (q .udhi) (q .cause) (q .indicator) (q .parameters)

@@ -1,0 +1,77 @@
+-- What the checks of indicator and parameters find, and what a writer's list of checks comes to.
+-- Assumes nothing.
+use Prim.Native.Nat.{ℕ}
+use mathlib.Core.Path.{_≡_, refl, sym, _∙_}
+use mathlib.Core.Bool.{Bool, true, false, not, _||_}
+use mathlib.Core.List.{List, [], _∷_, _++_}
+use native.Mathlib.Omega.{arith}
+use borrow.Author.Tests.{eq-eqb, leb-true, leb-false, le-ltb, lt-ltb}
+use lib.Dec.{leb, ltb}
+use lib.ListN.{length}
+use Rattle.octets.specs.Choice.{if_then_else_}
+use Rattle.octets.specs.Checks.{Check, _unless_, checked}
+use Rattle.octets.specs.Lent.{Making, refused, made}
+use Rattle.octets.specs.declared.Checked.{Checked}
+use Rattle.octets.specs.declared.Refusal.{Refusal}
+use Rattle.octets.specs.declared.Refusal.the-variants.{IndicatorExtended, UserDataTooLong}
+use Rattle.octets.specs.declared.Written.{Written}
+use Rattle.layout.specs.Layout.{isSet, Field, anyPastLimit}
+use Rattle.layout.proofs.Demand.{Answers}
+use Rattle.parameters.specs.Checking.{found, indicatorChecks, dataChecks}
+use Rattle.parameters.specs.Line.{Parameters}
+use Rattle.parameters.proofs.Made.{Held}
+
+-- ---- a list of checks
+
+never : {why : Refusal} → Checked.Fine ≡ Checked.Against why → ⊥
+never e = let z : _≡_ {A = ℕ} 0 1 = cc in omega arith
+
+module _ (more : List Check) where
+  pub passed : (checks : List Check) → found checks ≡ Checked.Fine → found (checks ++ more) ≡ found more
+  passed [] e = refl
+  passed ((why unless true) ∷ checks) e = passed checks e
+  passed ((why unless false) ∷ checks) e = absurd (never (sym e))
+
+  pub against : {why : Refusal} (checks : List Check) → found checks ≡ Checked.Against why → found (checks ++ more) ≡ Checked.Against why
+  against [] e = absurd (never e)
+  against ((w unless true) ∷ checks) e = against checks e
+  against ((w unless false) ∷ checks) e = e
+
+module _ (octets : List ℕ) where
+  pub all-passed : (checks : List Check) → found checks ≡ Checked.Fine → checked checks octets ≡ made octets (Written.Done (length octets))
+  unfolding checked
+  all-passed [] e = refl
+  all-passed ((why unless true) ∷ checks) e = all-passed checks e
+  all-passed ((why unless false) ∷ checks) e = absurd (never (sym e))
+
+  pub one-against : {why : Refusal} (checks : List Check) → found checks ≡ Checked.Against why → checked checks octets ≡ refused why
+  unfolding checked
+  one-against [] e = absurd (never e)
+  one-against ((w unless true) ∷ checks) e = one-against checks e
+  one-against ((w unless false) ∷ checks) e = cc
+
+-- ---- what was read passes the checks, but for bit 7 and more than 140 octets
+
+module _ {pi : ℕ} {p : Parameters} {cs : List Field} (h : Held pi p cs) where
+  pub indicator-found : found (indicatorChecks pi (p .pid) (p .dcs) (p .udl)) ≡ (if isSet 7 pi then Checked.Against IndicatorExtended else Checked.Fine)
+  unfolding indicatorChecks
+  indicator-found = rw (eq-eqb _ _ (h .agrees)) (by (isSet 7 pi))
+    where
+      by : (b : Bool) → (if not b then Checked.Fine else Checked.Against IndicatorExtended) ≡ (if b then Checked.Against IndicatorExtended else Checked.Fine)
+      by true = refl
+      by false = refl
+
+  pub answers : (octets : List ℕ) → Answers (checked (indicatorChecks pi (p .pid) (p .dcs) (p .udl) ++ dataChecks (p .dcs) (p .udl) (length (p .ud))) octets) octets (isSet 7 pi || anyPastLimit cs)
+  answers octets = rw (h .limit) (by (isSet 7 pi) indicator-found (leb (length (p .ud)) 140) refl)
+    where
+      first : List Check
+      first = indicatorChecks pi (p .pid) (p .dcs) (p .udl)
+
+      more : List Check
+      more = dataChecks (p .dcs) (p .udl) (length (p .ud))
+
+      by : (b : Bool) → found first ≡ (if b then Checked.Against IndicatorExtended else Checked.Fine) → (t : Bool) → leb (length (p .ud)) 140 ≡ t
+          → Answers (checked (first ++ more) octets) octets (b || ltb 140 (length (p .ud)))
+      by true e t d = (IndicatorExtended, one-against octets (first ++ more) (against more first e))
+      by false e true d = rw (le-ltb 140 (length (p .ud)) (leb-true _ _ d)) (all-passed octets (first ++ more) (passed more first e ∙ h .checks ∙ rw d))
+      by false e false d = rw (lt-ltb 140 (length (p .ud)) (leb-false _ _ d)) (UserDataTooLong, one-against octets (first ++ more) (passed more first e ∙ h .checks ∙ rw d))

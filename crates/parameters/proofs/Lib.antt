@@ -1,0 +1,4 @@
+pub mod Indicator
+pub mod Reading
+pub mod Made
+pub mod Checking

@@ -1,0 +1,105 @@
+-- What holds of each parameters that a line makes, and of their canonical fields.
+-- Assumes nothing.
+use Prim.Native.Nat.{ℕ, _+_, _*_, _/_, _%_, _≤_, _<_}
+use mathlib.Core.Path.{_≡_, refl, sym, ap, _∙_}
+use mathlib.Core.Bool.{Bool, true, false, not, _||_, or-assoc, or-false}
+use mathlib.Core.List.{List, [], _∷_, _++_, append-nil, append-assoc}
+use native.Mathlib.Omega.{arith}
+use native.Mathlib.Nat.{div-one, div-div-eq-div-mul}
+use borrow.Author.Tests.{le-leb, leb-true, eq-eqb, ne-eqb, eqb-true, eqb-false}
+use lib.Dec.{eqb, leb, ltb}
+use lib.ListN.{length}
+use Rattle.octets.specs.Choice.{if_then_else_}
+use Rattle.octets.specs.declared.Checked.{Checked}
+use Rattle.octets.specs.declared.Refusal.the-variants.{UserDataTooLong}
+use Rattle.coding.specs.Coding.{codingOf, dataOctets}
+use Rattle.coding.proofs.Laws.{data-at-most}
+use Rattle.layout.specs.Layout.{bit, isSet, Field, joined, pastLimit, anyPastLimit, Format, done, _then_}
+use Rattle.layout.proofs.Makes.{Makes, makes-then}
+use Rattle.parameters.specs.Checking.{found, dataChecks}
+use Rattle.parameters.specs.Line.{Parameters, announced, dataFor, parameters, parametersOctets}
+use Rattle.parameters.specs.Optional.{octetsHeld, held, orZero}
+use Rattle.parameters.specs.declared.OptionalOctet.{OptionalOctet}
+use Rattle.parameters.specs.declared.OptionalOctet.the-variants.{Absent, Present}
+
+pub one-at-most : (o : OptionalOctet) → held o ≤ 1
+one-at-most Absent = omega arith
+one-at-most (Present x) = omega arith
+
+-- fields one after the other
+pub joined-append : (a b : List Field) → joined (a ++ b) ≡ joined a ++ joined b
+joined-append [] b = refl
+joined-append (f ∷ a) b = rw (joined-append a b, append-assoc)
+
+pub past-append : (a b : List Field) → anyPastLimit (a ++ b) ≡ (anyPastLimit a || anyPastLimit b)
+past-append [] b = refl
+past-append (f ∷ a) b = rw (past-append a b) (sym (or-assoc (pastLimit (f .kind) (f .stands)) (anyPastLimit a) (anyPastLimit b)))
+
+-- an octet that bit b of the indicator announces
+pub record Announced (b pi : ℕ) (o : OptionalOctet) (cs : List Field) : Type 0 where
+  pub octets : octetsHeld o ≡ joined cs
+  pub within : anyPastLimit cs ≡ false
+  pub holds : held o ≡ bit b pi
+  pub low : orZero o < 256
+
+-- past 140 octets they are refused
+abbrev limited : ℕ → Checked
+limited n = if leb n 140 then Checked.Fine else Checked.Against UserDataTooLong
+
+-- the user data's octets
+pub record DataHeld (dcs udl : OptionalOctet) (ud : List ℕ) (cs : List Field) : Type 0 where
+  pub octets : ud ≡ joined cs
+  pub limit : anyPastLimit cs ≡ ltb 140 (length ud)
+  pub checks : found (dataChecks dcs udl (length ud)) ≡ limited (length ud)
+  pub few : length ud ≤ 255
+
+announced-makes : (b pi : ℕ) → Makes (Announced b pi) (announced (isSet b pi))
+announced-makes b pi = by (isSet b pi) refl
+  where
+    by : (t : Bool) → isSet b pi ≡ t → Makes (Announced b pi) (announced t)
+    by true e = λ x l. record { octets = refl; within = refl; holds = sym (eqb-true (bit b pi) 1 e); low = l }
+    by false e = record { octets = refl; within = refl; holds = omega (arith, eqb-false (bit b pi) 1 e); low = omega arith }
+
+data-makes : (dcs udl : OptionalOctet) → orZero udl < 256 → Makes (DataHeld dcs udl) (dataFor dcs udl)
+unfolding dataChecks
+data-makes dcs Absent l = record { octets = refl; limit = refl; checks = refl; few = omega arith }
+data-makes dcs (Present udl) l = λ f o w. record {
+  octets = sym (append-nil f);
+  limit = or-false (ltb 140 (length f));
+  checks = rw (eq-eqb (length f) _ (sym w));
+  few = omega (arith, data-at-most (codingOf (orZero dcs)) udl);
+}
+
+-- ---- all four
+
+-- the indicator's three lowest bits
+pub three-bits : (n : ℕ) → n % 8 ≡ bit 0 n + 2 * bit 1 n + 4 * bit 2 n
+three-bits n =
+    let e : n / 2 / 2 ≡ n / 4 = div-div-eq-div-mul n 2 2 in
+    let d : n / 4 / 2 ≡ n / 8 = div-div-eq-div-mul n 4 2 in
+    rw div-one (omega arith)
+
+pub record Held (pi : ℕ) (p : Parameters) (cs : List Field) : Type 0 where
+  pub octets : parametersOctets p ≡ joined cs
+  pub limit : anyPastLimit cs ≡ ltb 140 (length (p .ud))
+  pub agrees : pi % 8 ≡ held (p .pid) + 2 * held (p .dcs) + 4 * held (p .udl)
+  pub checks : found (dataChecks (p .dcs) (p .udl) (length (p .ud))) ≡ limited (length (p .ud))
+  pub few : length (p .ud) ≤ 255
+
+module _ (pi : ℕ) {pid dcs udl : OptionalOctet} {ud : List ℕ} {c1 c2 c3 c4 : List Field} (a1 : Announced 0 pi pid c1) (a2 : Announced 1 pi dcs c2) (a3 : Announced 2 pi udl c3) (a4 : DataHeld dcs udl ud c4) where
+  all-held : Held pi (record { pid = pid; dcs = dcs; udl = udl; ud = ud }) (c1 ++ (c2 ++ (c3 ++ (c4 ++ []))))
+  all-held = record {
+    octets = simp (joined-append, append-assoc, append-nil) (cc (a1 .octets, a2 .octets, a3 .octets, a4 .octets));
+    limit = simp (past-append, a1 .within, a2 .within, a3 .within, append-nil) (a4 .limit);
+    agrees = omega (arith, three-bits pi, a1 .holds, a2 .holds, a3 .holds);
+    checks = a4 .checks;
+    few = a4 .few;
+  }
+
+pub parameters-make : (pi : ℕ) → Makes (Held pi) (parameters pi)
+unfolding parameters
+parameters-make pi =
+    makes-then _ _ (announced (isSet 0 pi)) _ (announced-makes 0 pi) λ pid c1 a1.
+    makes-then _ _ (announced (isSet 1 pi)) _ (announced-makes 1 pi) λ dcs c2 a2.
+    makes-then _ _ (announced (isSet 2 pi)) _ (announced-makes 2 pi) λ udl c3 a3.
+    makes-then _ _ (dataFor dcs udl) _ (data-makes dcs udl (a3 .low)) λ ud c4 a4. all-held pi a1 a2 a3 a4

@@ -1,0 +1,3 @@
+pub mod Optional
+pub mod Line
+pub mod Checking

@@ -1,0 +1,47 @@
+-- The parameters that follow a TP-Parameter-Indicator (TS 23.040 §9.2.3.27), and the answers of their readers.
+use Prim.Native.Nat.{ℕ}
+use mathlib.Core.Bool.{Bool, true, false}
+use mathlib.Core.List.{List, [], _++_}
+use lib.ListN.{length}
+use Rattle.coding.specs.Coding.{codingOf, dataOctets}
+use Rattle.layout.specs.Layout.{userData, isSet, Format, field, done, _then_, one, Reached, reached, halted}
+use Rattle.parameters.specs.Optional.{octetsHeld, orZero}
+use Rattle.parameters.specs.declared.OptionalOctet.{OptionalOctet}
+use Rattle.parameters.specs.declared.OptionalOctet.the-variants.{Absent, Present}
+use Rattle.parameters.specs.declared.OptionalRead.{OptionalRead}
+use Rattle.parameters.specs.declared.ParametersRead.{ParametersRead}
+
+pub record Parameters : Type 0 where
+  pub pid : OptionalOctet
+  pub dcs : OptionalOctet
+  pub udl : OptionalOctet
+  pub ud : List ℕ
+
+-- an octet that is there where its indicator bit announces it
+abbrev pub announced : Bool → Format OptionalOctet
+announced true = one λ x. done (Present x)
+announced false = done Absent
+
+-- the user data's octets: none without UDL; no DCS means 0
+abbrev pub dataFor : OptionalOctet → OptionalOctet → Format (List ℕ)
+dataFor dcs Absent = done []
+dataFor dcs (Present udl) = field (userData (dataOctets (codingOf (orZero dcs)) udl)) done
+
+-- indicator bits 0, 1, 2 announce PID, DCS, UDL with data
+unfoldable pub parameters : ℕ → Format Parameters
+parameters pi =
+    announced (isSet 0 pi) then λ pid. announced (isSet 1 pi) then λ dcs. announced (isSet 2 pi) then λ udl.
+    dataFor dcs udl then λ ud. done (record { pid = pid; dcs = dcs; udl = udl; ud = ud })
+
+-- their octets
+abbrev pub parametersOctets : Parameters → List ℕ
+parametersOctets p = octetsHeld (p .pid) ++ octetsHeld (p .dcs) ++ octetsHeld (p .udl) ++ p .ud
+
+-- what the readers answer: the octet, or the three octets and how many octets the data have, with the place behind
+abbrev pub optionalAnswer : Reached OptionalOctet → OptionalRead
+optionalAnswer (reached o at) = OptionalRead.Read o (record { at = at })
+optionalAnswer (halted why) = OptionalRead.Refused why
+
+abbrev pub parametersAnswer : Reached Parameters → ParametersRead
+parametersAnswer (reached p at) = ParametersRead.Read (p .pid) (p .dcs) (p .udl) (length (p .ud)) (record { at = at })
+parametersAnswer (halted why) = ParametersRead.Refused why

@@ -1,0 +1,183 @@
+// What the reports share: TP-Parameter-Indicator and the parameters that it announces (TS 23.040 §9.2.3.27).
+ghost use mathlib.Core.Path.{_≡_};
+ghost use mathlib.Core.Bool.{Bool};
+ghost use Prim.Native.Nat.{_+_, _≤_};
+ghost use lib.ListN.{length};
+ghost use Rattle.octets.specs.Lent.{Wrote};
+ghost use Rattle.layout.specs.Layout.{indicatorAt, readFrom};
+ghost use Rattle.parameters.specs.Optional.{octetsHeld, held, orZero};
+ghost use Rattle.parameters.specs.Line.{announced, parameters, parametersOctets, optionalAnswer, parametersAnswer};
+ghost use Rattle.parameters.specs.Checking.{found, indicatorChecks, dataChecks};
+use octets::Checked;
+use octets::Octet;
+use octets::Place;
+use octets::Refusal;
+use octets::Span;
+
+pub enum OptionalOctet {
+    Absent,
+    Present(u8),
+}
+
+// A parameter that was announced or not, and the place behind it.
+pub enum OptionalRead {
+    Read(OptionalOctet, Place),
+    Refused(Refusal),
+}
+
+// PID, DCS, UDL, how many octets the user data have, and the place behind these.
+pub enum ParametersRead {
+    Read(OptionalOctet, OptionalOctet, OptionalOctet, usize, Place),
+    Refused(Refusal),
+}
+
+// How many octets an optional octet takes.
+pub fn octets_held(octet: OptionalOctet) -> usize
+    ensures { λ r. ⌜ r ≡ held octet ⌝ }
+{
+    match octet {
+        OptionalOctet::Absent => 0,
+        OptionalOctet::Present(_) => 1,
+    }
+}
+
+// An absent octet means 0.
+pub fn or_zero(octet: OptionalOctet) -> u8
+    ensures { λ r. ⌜ r ≡ orZero octet ⌝ }
+{
+    match octet {
+        OptionalOctet::Absent => 0,
+        OptionalOctet::Present(x) => x,
+    }
+}
+
+// An indicator's first octet, and the place behind its extension octets.
+pub fn read_indicator(data: &[u8], place: Place) -> Octet
+    ensures { λ r. ⌜ r ≡ indicatorAt (now («data» .entry)) place ⌝ }
+{
+    let from = place.at;
+    if from >= data.len() {
+        return Octet::Refused(Refusal::OctetsEnd);
+    }
+    let indicator = data[from];
+    let mut last = indicator;
+    let mut at = from + 1;
+    while last / 128 % 2 == 1 {
+        if at >= data.len() {
+            return Octet::Refused(Refusal::OctetsEnd);
+        }
+        last = data[at];
+        at += 1;
+    }
+    Octet::Read(indicator, Place { at })
+}
+
+// An octet that is there if it is announced.
+pub fn read_optional(data: &[u8], place: Place, is_announced: bool) -> OptionalRead
+    ensures { λ r. ⌜ r ≡ optionalAnswer (readFrom (announced «is_announced») (now («data» .entry)) (place .at)) ⌝ }
+{
+    if is_announced {
+        let Octet::Read(x, next) = place.octet(data) else {
+            return OptionalRead::Refused(Refusal::OctetsEnd);
+        };
+        return OptionalRead::Read(OptionalOctet::Present(x), next);
+    }
+    OptionalRead::Read(OptionalOctet::Absent, place)
+}
+
+// The parameters that an indicator announces.
+pub fn read_parameters(data: &[u8], place: Place, indicator: u8) -> ParametersRead
+    ensures { λ r. ⌜ r ≡ parametersAnswer (readFrom (parameters indicator) (now («data» .entry)) (place .at)) ⌝ }
+{
+    let OptionalRead::Read(pid, p1) = read_optional(data, place, indicator % 2 == 1) else {
+        return ParametersRead::Refused(Refusal::OctetsEnd);
+    };
+    let OptionalRead::Read(dcs, p2) = read_optional(data, p1, indicator / 2 % 2 == 1) else {
+        return ParametersRead::Refused(Refusal::OctetsEnd);
+    };
+    let OptionalRead::Read(udl, p3) = read_optional(data, p2, indicator / 4 % 2 == 1) else {
+        return ParametersRead::Refused(Refusal::OctetsEnd);
+    };
+    let OptionalOctet::Present(length) = udl else {
+        return ParametersRead::Read(pid, dcs, udl, 0, p3);
+    };
+    let size = coding::user_data_octets(coding::user_data_coding(or_zero(dcs)), length);
+    let Span::There(_, p4) = p3.span(data, size) else {
+        return ParametersRead::Refused(Refusal::OctetsEnd);
+    };
+    ParametersRead::Read(pid, dcs, udl, size, p4)
+}
+
+// Whether an indicator goes with the parameters held, and has no extension.
+pub fn check_parameter_indicator(
+    indicator: u8,
+    pid: OptionalOctet,
+    dcs: OptionalOctet,
+    udl: OptionalOctet,
+) -> Checked
+    ensures { λ r. ⌜ r ≡ found (indicatorChecks indicator pid dcs udl) ⌝ }
+{
+    let supplied = octets_held(pid) + 2 * octets_held(dcs) + 4 * octets_held(udl);
+    if indicator as usize % 8 != supplied {
+        return Checked::Against(Refusal::IndicatorDisagrees);
+    }
+    if indicator / 128 % 2 == 1 {
+        return Checked::Against(Refusal::IndicatorExtended);
+    }
+    Checked::Fine
+}
+
+// Whether user data of so many octets go with the DCS and UDL held.
+pub fn check_data(dcs: OptionalOctet, udl: OptionalOctet, octets: usize) -> Checked
+    ensures { λ r. ⌜ r ≡ found (dataChecks dcs udl octets) ⌝ }
+{
+    let OptionalOctet::Present(length) = udl else {
+        if octets != 0 {
+            return Checked::Against(Refusal::UserDataWithoutLength);
+        }
+        return Checked::Fine;
+    };
+    coding::check_user_data(or_zero(dcs), length, octets)
+}
+
+// Writes an optional octet at `at`; the place behind it.
+pub fn put_optional(out: &mut [u8], at: usize, octet: OptionalOctet) -> usize
+    requires { ⌜ at + held octet ≤ length (now out) ⌝ }
+    ensures { λ r. ⌜ Wrote at (octetsHeld octet) (now (out .entry)) r (now (out .exit)) ⌝ }
+{
+    match octet {
+        OptionalOctet::Absent => at,
+        OptionalOctet::Present(x) => octets::put_octet(out, at, x),
+    }
+}
+
+// How many octets the parameters take.
+pub fn parameters_size(
+    pid: OptionalOctet,
+    dcs: OptionalOctet,
+    udl: OptionalOctet,
+    octets: usize,
+) -> usize
+    requires { ⌜ octets ≤ 255 ⌝ }
+    ensures { λ r. ⌜ r ≡ held pid + held dcs + held udl + octets ⌝ }
+{
+    octets_held(pid) + octets_held(dcs) + octets_held(udl) + octets
+}
+
+// Writes the parameters from `at` on; the place behind them.
+pub fn put_parameters(
+    out: &mut [u8],
+    at: usize,
+    pid: OptionalOctet,
+    dcs: OptionalOctet,
+    udl: OptionalOctet,
+    data: &[u8],
+) -> usize
+    requires { ⌜ at + held pid + held dcs + held udl + length (now «data») ≤ length (now out) ⌝ }
+    ensures { λ r. ⌜ Wrote at (parametersOctets (record { pid = pid; dcs = dcs; udl = udl; ud = now («data» .entry) })) (now (out .entry)) r (now (out .exit)) ⌝ }
+{
+    let p1 = put_optional(out, at, pid);
+    let p2 = put_optional(out, p1, dcs);
+    let p3 = put_optional(out, p2, udl);
+    octets::put_octets(out, p3, data)
+}
