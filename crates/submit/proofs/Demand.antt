@@ -1,0 +1,147 @@
+-- Demand 3 of SMS-SUBMIT.
+-- Assumes nothing.
+use Prim.Native.Nat.{ℕ, _+_, _*_, _/_, _%_, _≤_, _<_}
+use mathlib.Core.Path.{_≡_, refl, sym, ap, _∙_}
+use mathlib.Core.Bool.{Bool, true, false, not, _||_, false≢true}
+use mathlib.Core.List.{List, [], _∷_, _++_, append-nil}
+use mathlib.Core.Option.{Option, none, some}
+use native.Mathlib.Omega.{arith}
+use borrow.Author.Tests.{eqb-true, eq-eqb, le-leb, lt-leb, le-ltb, leb-true, ltb-true, ltb-false}
+use lib.Dec.{eqb, leb, ltb}
+use lib.ListN.{length, getD, take, length-take}
+use Rattle.octets.specs.Arrays.{pad}
+use Rattle.octets.specs.Choice.{if_then_else_}
+use Rattle.octets.specs.Each.{Octets}
+use Rattle.octets.specs.Lent.{Making, refused, made}
+use Rattle.octets.specs.declared.Checked.{Checked}
+use Rattle.octets.specs.declared.Refusal.the-variants.{UserDataTooLong, AddressTooLong}
+use Rattle.octets.specs.declared.Written.{Written}
+use Rattle.octets.proofs.Laws.{take-pad}
+use Rattle.octets.proofs.Table.{below}
+use Rattle.coding.specs.Coding.{codingOf, dataOctets, checkedData, dataWith, dataOf}
+use Rattle.coding.proofs.Laws.{data-held, data-at-most}
+use Rattle.time.specs.Time.{timeIn}
+use Rattle.address.specs.declared.AddressCheck.{AddressCheck}
+use Rattle.address.specs.Address.{typeOfNumber, planOf, textIn, addressIn, addressWith, addressOctets, octetsOr, canonicalAddress, addressMaking, encoding}
+use Rattle.address.specs.Parts.{checkOf}
+use Rattle.address.proofs.Checks.{encoding-parts}
+use Rattle.address.proofs.Laws.{Field as AddressField, canonical-reads, canonical-field, text-short, read-written, address-equal}
+use Rattle.layout.specs.Demand.{Demand3}
+use Rattle.layout.specs.Layout.{first, octet, octets, any, address, userData, isSet, messageType, kept, Field, standsAs, joined, anyPastLimit}
+use Rattle.layout.proofs.Demand.{Answers, Writes, demand3}
+use Rattle.layout.proofs.Makes.{Makes}
+use Rattle.submit.specs.declared.SmsSubmit.{SmsSubmit}
+use Rattle.submit.specs.Submit.{flag, formatIn, periodSize, periodIn, ofFormat, periodOctets, headerSize, inCount, readable, textWith, submitted, bits, behindCoding, behindFirst, line, submit, octetsIn, making, flagsOf, addressLength, digitsLength, headerLength, lengthIf, lengthsFit, submitting}
+use Rattle.submit.specs.Parts.{Destination, Parts, parts}
+use Rattle.submit.proofs.Period.{digitsCount, digitsBeside, Held, period-held}
+use Rattle.submit.proofs.Reading.{kept-whole}
+use Rattle.submit.proofs.Text.{readable-short}
+use Rattle.submit.proofs.Writing.{by-parts, data-against, address-against, all-made}
+
+-- the octets of the parts
+abbrev addressOf : Option Destination → List ℕ
+addressOf none = []
+addressOf (some d) = octetsOr [] (addressOctets (d .ton) (d .npi) (d .text))
+
+abbrev octetsOf : Parts → List ℕ
+octetsOf p =
+    (flag (p .rp) 128 + flag (p .udhi) 64 + flag (p .srr) 32 + flag (p .rd) 4 + 8 * p .vpf + 1) ∷ p .mr
+    ∷ (addressOf (p .destination) ++ (p .pid ∷ p .dcs ∷ (periodOctets (p .period) (p .digits) (p .enhanced) ++ (p .udl ∷ p .ud))))
+
+-- a first octet with MTI 1 is written as it was
+abbrev firstOf : ℕ → ℕ
+firstOf f = flag (isSet 7 f) 128 + flag (isSet 6 f) 64 + flag (isSet 5 f) 32 + flag (isSet 2 f) 4 + 8 * formatIn f + 1
+
+implied : (a b : Bool) → (not a || b) ≡ true → a ≡ true → b ≡ true
+implied true b e h = e
+implied false b e h = absurd (false≢true h)
+
+first-back : (f : ℕ) → f < 256 → messageType f ≡ 1 → firstOf f ≡ f
+first-back f h m = eqb-true _ _ (implied _ _ (below (λ y. not (eqb (messageType y) 1) || eqb (firstOf y) y) 256 refl f h) (eq-eqb _ _ m))
+
+-- the canonical octets of an address are their own
+canonical-twice : (f : List ℕ) → AddressField f → canonicalAddress (canonicalAddress f) ≡ canonicalAddress f
+canonical-twice f w = address-equal (canonicalAddress f) f (canonical-field f w) w .0 (canonical-reads f w)
+
+module _ (f : ℕ) (small : f < 256) (mti : messageType f ≡ 1) (mr : ℕ) (da : List ℕ) (whole : AddressField da) (own : canonicalAddress da ≡ da) (pid dcs : ℕ) (vp : List ℕ) (held : Held (formatIn f) vp)
+    (udl : ℕ) (few : udl < 256) (ud : List ℕ) (size : dataOctets (codingOf dcs) udl ≡ length ud) (h : ℕ) (fits : h ≤ length ud) (counted : inCount (codingOf dcs) udl h ≡ true) where
+  abbrev sent : SmsSubmit
+  sent = submitted f mr da pid dcs vp udl ud h
+
+  abbrev string : List ℕ
+  string = f ∷ mr ∷ (da ++ (pid ∷ dcs ∷ (vp ++ (udl ∷ ud))))
+
+  at-most : length ud ≤ 255
+  at-most = omega (arith, data-at-most (codingOf dcs) udl)
+
+  part-octets : octetsOf (parts sent) ≡ string
+  unfolding submitted addressIn addressWith canonicalAddress
+  part-octets = rw (first-back f small mti, take-pad 290 (textIn da), held .counted, data-held ud, own)
+
+  header-few : (b : Bool) → lengthIf b (length (take h ud)) ≤ 255
+  header-few true = rw length-take (omega (arith, at-most))
+  header-few false = omega arith
+
+  all-fit : lengthsFit sent ≡ true
+  unfolding submitted addressIn addressWith dataWith textWith timeIn
+  all-fit =
+      rw (
+        le-leb _ 290 (text-short da whole),
+        le-leb (digitsCount (formatIn f) vp) 14 (held .few),
+        le-leb (length ud) 255 at-most,
+        le-leb _ 255 (header-few (isSet 6 f)),
+        le-leb _ 510 (readable-short (codingOf dcs) udl h ud (omega arith) fits counted (sym size)),
+      )
+
+  -- what the writer makes of it
+  abbrev checks : Making Written
+  checks =
+      making (flagsOf sent) (messageType f) (formatIn f) mr true (typeOfNumber (getD da 1 0)) (planOf (getD da 1 0)) (textIn da) pid dcs (periodIn (formatIn f) vp) (digitsBeside (formatIn f) vp)
+      (pad 7 (ofFormat 1 (formatIn f) vp)) udl ud
+
+  by-checks : submitting sent ≡ checks
+  unfolding submitted addressIn addressWith
+  by-checks = by-parts sent all-fit ∙ rw (take-pad 290 (textIn da), data-held ud)
+
+  -- the address alone
+  address-made : addressMaking (typeOfNumber (getD da 1 0)) (planOf (getD da 1 0)) (textIn da) ≡ (if ltb 12 (length da) then refused AddressTooLong else made da (Written.Done (length da)))
+  unfolding addressIn addressWith
+  address-made =
+      ap (addressMaking (typeOfNumber (getD da 1 0)) (planOf (getD da 1 0))) (sym (take-pad 290 (textIn da))) ∙ sym (encoding-parts (addressIn da) (text-short da whole)) ∙ read-written da whole ∙ rw own
+
+  data-checks : (b : Bool) → ltb 140 (length ud) ≡ b → checkedData dcs udl (length ud) ≡ (if b then Checked.Against UserDataTooLong else Checked.Fine)
+  unfolding checkedData
+  data-checks true q = rw (eq-eqb _ _ (sym size), lt-leb (length ud) 140 (ltb-true _ _ q))
+  data-checks false q = rw (eq-eqb _ _ (sym size), le-leb (length ud) 140 (ltb-false _ _ q))
+
+  made-string : checkOf (addressMaking (typeOfNumber (getD da 1 0)) (planOf (getD da 1 0)) (textIn da)) ≡ AddressCheck.Fine (getD da 0 0) → ltb 140 (length ud) ≡ false
+      → submitting sent ≡ made string (Written.Done (length string))
+  unfolding canonicalAddress submitted
+  made-string fine q = by-checks ∙ all-made _ _ _ _ _ _ _ _ _ _ _ _ _ _ _ mti (sym (held .format)) refl (data-checks false q) fine (held .time) ∙ rw (first-back f small mti, held .octets, own)
+
+  answers : Answers (submitting sent) string (ltb 12 (length da) || (ltb 140 (length ud) || false))
+  answers = by (ltb 12 (length da)) refl (ltb 140 (length ud)) refl
+    where
+      too-long : ltb 140 (length ud) ≡ true → submitting sent ≡ refused UserDataTooLong
+      too-long q = by-checks ∙ data-against _ _ _ _ _ _ _ _ _ _ _ _ _ _ _ mti (sym (held .format)) refl (data-checks true q)
+
+      by : (a : Bool) → ltb 12 (length da) ≡ a → (b : Bool) → ltb 140 (length ud) ≡ b → Answers (submitting sent) string (a || (b || false))
+      by true p true q = (UserDataTooLong, too-long q)
+      by false p true q = (UserDataTooLong, too-long q)
+      by true p false q = (AddressTooLong, by-checks ∙ address-against _ _ _ _ _ _ _ _ _ _ _ _ _ _ _ mti (sym (held .format)) refl (data-checks false q) (ap checkOf address-made ∙ rw p))
+      by false p false q = made-string (ap checkOf address-made ∙ rw p) q
+
+submit-writes : Makes (Writes parts submitting octetsOf) line
+unfolding line behindFirst behindCoding
+submit-writes x lx m mr lmr a wa pid lpid dcs ldcs vp ovp nvp udl ludl ud oud nud fits counted =
+    let f = kept bits x in
+    let small : f < 256 = omega (arith, kept-whole x lx) in
+    let mti : messageType f ≡ 1 = eqb-true _ _ m in
+    let held = period-held (formatIn f) vp (omega arith) nvp ovp in
+    record {
+      octets = rw append-nil (part-octets f small mti mr (canonicalAddress a) (canonical-field a wa) (canonical-twice a wa) pid dcs vp held udl ludl ud nud (headerSize (isSet 6 f) ud) (leb-true _ _ fits) counted);
+      answer = rw append-nil (answers f small mti mr (canonicalAddress a) (canonical-field a wa) (canonical-twice a wa) pid dcs vp held udl ludl ud nud (headerSize (isSet 6 f) ud) (leb-true _ _ fits) counted);
+    }
+
+pub submit-demand : Demand3 parts submit submitting false
+submit-demand = demand3 parts submitting octetsOf line submit-writes

@@ -1,0 +1,8 @@
+pub mod Period
+pub mod Text
+pub mod Parts
+pub mod Reading
+pub mod Writing
+pub mod Demand
+pub mod Limits
+pub mod Known

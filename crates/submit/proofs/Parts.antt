@@ -1,0 +1,74 @@
+-- Parts of a string, as the code cuts them out, and the record that they make.
+-- Assumes nothing.
+use Prim.Native.Nat.{ℕ, zero, suc, _+_, _-_, _/_, _%_, _≤_}
+use mathlib.Core.Bool.{true}
+use mathlib.Core.Path.{_≡_, refl, ap}
+use mathlib.Core.List.{List, [], _∷_}
+use native.Mathlib.Nat.{le-of-suc-le-suc}
+use native.Mathlib.Omega.{arith}
+use lib.Dec.{eqb}
+use lib.ListN.{length, take, drop, length-drop}
+use lib.Seq.{length-take-le, take-nil}
+use Rattle.octets.specs.Arrays.{pad}
+use Rattle.octets.specs.Each.{Octets}
+use Rattle.coding.specs.declared.UserData.{UserData}
+use Rattle.coding.specs.Coding.{codingOf, dataWith}
+use Rattle.time.specs.declared.Time.{Time}
+use Rattle.time.specs.Time.{timeIn}
+use Rattle.address.specs.declared.SMSAddress.{SMSAddress}
+use Rattle.address.specs.Address.{addressIn, addressSize, canonicalAddress}
+use Rattle.address.proofs.Laws.{canonical-reads}
+use Rattle.layout.specs.Layout.{address, cut}
+use Rattle.layout.proofs.Fields.{octets-take, octets-drop, cut-whole}
+use Rattle.submit.specs.declared.SmsSubmit.{SmsSubmit}
+use Rattle.submit.specs.declared.SubmitText.{SubmitText}
+use Rattle.submit.specs.declared.ValidityPeriod.{ValidityPeriod}
+use Rattle.submit.specs.Submit.{formatIn, periodIn, ofFormat, readable, textWith, submitted}
+
+module _ (at n : ℕ) (s : List ℕ) where
+  pub part-is : take (at + n - at) (drop at s) ≡ take n (drop at s)
+  part-is = let e : at + n - at ≡ n = omega arith in rw e
+
+  pub part-size : at + n ≤ length s → length (take n (drop at s)) ≡ n
+  part-size h = length-take-le n (drop at s) (rw length-drop (omega arith))
+
+-- the start of a start
+pub take-less : (h n : ℕ) (xs : List ℕ) → h ≤ n → take h (take n xs) ≡ take h xs
+take-less zero n xs le = refl
+take-less (suc h) zero xs le = absurd (omega arith)
+take-less (suc h) (suc n) [] le = refl
+take-less (suc h) (suc n) (x ∷ xs) le = ap (λ (l : List ℕ). x ∷ l) (take-less h n xs (le-of-suc-le-suc le))
+
+-- the canonical octets of an address that is there are read as it is
+pub address-there : (s : List ℕ) → Octets s → (at : ℕ) → at + addressSize (drop at s) ≤ length s → addressIn (canonicalAddress (cut address (drop at s))) ≡ addressIn (take (addressSize (drop at s)) (drop at s))
+address-there s o at h =
+    canonical-reads (cut address (drop at s)) (record { octets = octets-take (addressSize (drop at s)) (drop at s) (octets-drop at s o); whole = cut-whole address (drop at s) (rw length-drop (omega arith)) })
+
+-- the record, from its parts
+pub message-is : (f mr : ℕ) (da : List ℕ) (pid dcs : ℕ) (vp : List ℕ) (udl : ℕ) (ud : List ℕ) (h : ℕ)
+    → {destination : SMSAddress} → destination ≡ addressIn da → {period : ValidityPeriod} → period ≡ periodIn (formatIn f) vp → {time : Time} → time ≡ timeIn (ofFormat 3 (formatIn f) vp)
+    → {enhanced : List ℕ} → enhanced ≡ pad 7 (ofFormat 1 (formatIn f) vp) → {raw : UserData} → raw ≡ dataWith ud → {header : UserData} → header ≡ dataWith (take h ud)
+    → {text : SubmitText} → text ≡ textWith (readable (codingOf dcs) udl h ud)
+    → _≡_ {A = SmsSubmit} (record {
+      «tp_rp» = eqb (f / 128 % 2) 1;
+      «tp_udhi» = eqb (f / 64 % 2) 1;
+      «tp_srr» = eqb (f / 32 % 2) 1;
+      «tp_mti» = f % 4;
+      «tp_rd» = eqb (f / 4 % 2) 1;
+      «tp_vpf» = f / 8 % 4;
+      «tp_mr» = mr;
+      «has_destination_address» = true;
+      «tp_destination_address» = destination;
+      «tp_pid» = pid;
+      «tp_dcs» = dcs;
+      «tp_validity_period» = period;
+      «validity_period_digits» = time;
+      «validity_period_octets» = enhanced;
+      «tp_user_data_length» = udl;
+      «tp_user_data_raw» = raw;
+      «has_user_data_header» = eqb (f / 64 % 2) 1;
+      «tp_user_data_header» = header;
+      «tp_user_data» = text;
+    }) (submitted f mr da pid dcs vp udl ud h)
+unfolding submitted
+message-is f mr da pid dcs vp udl ud h a p t e r d x = rw (a, p, t, e, r, d, x)

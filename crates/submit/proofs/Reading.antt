@@ -1,0 +1,135 @@
+-- What the line comes to, field by field.
+-- Assumes nothing.
+use Prim.Native.Nat.{ℕ, _+_, _*_, _/_, _%_, _^_, _≤_, _<_}
+use mathlib.Core.Path.{_≡_, refl, sym, ap, _∙_}
+use mathlib.Core.Bool.{Bool, true, false}
+use mathlib.Core.List.{List, [], _∷_}
+use native.Mathlib.Omega.{arith}
+use borrow.Author.Tests.{eqb-true, le-leb, lt-leb}
+use lib.Dec.{eqb, leb}
+use lib.ListN.{length, getD, take, drop, length-drop}
+use lib.Seq.{length-take-le}
+use Rattle.octets.specs.Each.{Octets}
+use Rattle.octets.specs.Places.{octetAt, spanAt}
+use Rattle.octets.specs.declared.Octet.{Octet}
+use Rattle.octets.specs.declared.Outcome.{Outcome}
+use Rattle.octets.specs.declared.Place.{Place}
+use Rattle.octets.specs.declared.Refusal.{Refusal}
+use Rattle.octets.specs.declared.Refusal.the-variants.{OctetsEnd, WrongMessageType, HeaderNotWhole, HeaderPassesCount}
+use Rattle.octets.specs.declared.Span.{Span}
+use Rattle.octets.proofs.Places.{octet-read, span-there}
+use Rattle.octets.proofs.Table.{below}
+use Rattle.coding.specs.Coding.{codingOf, dataOctets}
+use Rattle.address.specs.Address.{addressSize, canonicalAddress}
+use Rattle.address.specs.Parts.{fieldAt}
+use Rattle.layout.specs.Layout.{any, upTo, address, userData, isSet, field, require, done, cut, kept, messageType, Reached, reached, halted, read, readFrom}
+use Rattle.layout.proofs.Steps.{message-goes-on, message-differs, message-ends, octet-goes-on, octet-ends, span-goes-on, span-ends, address-goes-on, address-ends, require-holds, require-fails, done-reached}
+use Rattle.submit.specs.declared.SmsSubmit.{SmsSubmit}
+use Rattle.submit.specs.declared.SubmitRead.{SubmitRead}
+use Rattle.submit.specs.Submit.{formatIn, periodSize, headerSize, inCount, submitted, behindCoding, bits, behindFirst, line, submit, answer, unread}
+
+-- ---- the answer
+
+pub answer-ends : {x : Reached SmsSubmit} {why : Refusal} → x ≡ halted why → unread why ≡ answer x
+unfolding answer
+answer-ends e = rw e
+
+pub answer-done : {x : Reached SmsSubmit} {r q : SmsSubmit} {n : ℕ} → x ≡ reached r n → q ≡ r → _≡_ {A = SubmitRead} (record { outcome = Outcome.Done; message = q; «octets_read» = n }) (answer x)
+unfolding answer
+answer-done e p = rw (e, p)
+
+-- ---- the fields behind TP-DCS
+
+module _ (s : List ℕ) (f mr : ℕ) (da : List ℕ) (pid dcs : ℕ) (p : Place) (size : ℕ) (size-is : size ≡ periodSize (formatIn f)) where
+  abbrev rest : Reached SmsSubmit
+  rest = readFrom (behindCoding f mr da pid dcs) s (p .at)
+
+  pub no-period : {why : Refusal} → spanAt s p size ≡ Span.Refused why → rest ≡ halted OctetsEnd
+  unfolding behindCoding
+  no-period e = rw (← size-is) (span-ends s p size e any _)
+
+  module _ {vp : ℕ} {p₂ : Place} (e₁ : spanAt s p size ≡ Span.There vp p₂) where
+    pub no-udl : {why : Refusal} → octetAt s p₂ ≡ Octet.Refused why → rest ≡ halted OctetsEnd
+    unfolding behindCoding
+    no-udl e = rw (← size-is) (span-goes-on s p size e₁ any _ ∙ octet-ends s p₂ e _)
+
+    module _ {udl : ℕ} {p₃ : Place} (e₂ : octetAt s p₂ ≡ Octet.Read udl p₃) (n : ℕ) (n-is : n ≡ dataOctets (codingOf dcs) udl) where
+      abbrev period : List ℕ
+      period = take (periodSize (formatIn f)) (drop (p .at) s)
+
+      two : rest ≡ readFrom (field (userData n) λ ud. let h = headerSize (isSet 6 f) ud in
+          require HeaderNotWhole (leb h (length ud)) (require HeaderPassesCount (inCount (codingOf dcs) udl h) (done (submitted f mr da pid dcs period udl ud h)))) s (p₃ .at)
+      unfolding behindCoding
+      two = rw (← size-is, n-is) (span-goes-on s p size e₁ any _ ∙ octet-goes-on s p₂ e₂ _)
+
+      pub no-data : {why : Refusal} → spanAt s p₃ n ≡ Span.Refused why → rest ≡ halted OctetsEnd
+      no-data e = two ∙ span-ends s p₃ n e (upTo 140) _
+
+      module _ {ud : ℕ} {p₄ : Place} (e₃ : spanAt s p₃ n ≡ Span.There ud p₄) (h : ℕ) (h-is : h ≡ headerSize (isSet 6 f) (take n (drop (p₃ .at) s))) where
+        three : rest ≡ readFrom (require HeaderNotWhole (leb h n) (require HeaderPassesCount (inCount (codingOf dcs) udl h) (done (submitted f mr da pid dcs period udl (take n (drop (p₃ .at) s)) h)))) s (p₄ .at)
+        three = two ∙ span-goes-on s p₃ n e₃ (upTo 140) _ ∙ rw (← h-is, length-take-le n (drop (p₃ .at) s) (span-there s p₃ n e₃ .0))
+
+        pub not-whole : n < h → rest ≡ halted HeaderNotWhole
+        not-whole l = three ∙ require-fails s (p₄ .at) (lt-leb h n l) HeaderNotWhole _
+
+        module _ (fits : h ≤ n) where
+          pub passes-count : inCount (codingOf dcs) udl h ≡ false → rest ≡ halted HeaderPassesCount
+          passes-count c = three ∙ require-holds s (p₄ .at) (le-leb h n fits) HeaderNotWhole _ ∙ require-fails s (p₄ .at) c HeaderPassesCount _
+
+          pub all-there : inCount (codingOf dcs) udl h ≡ true → rest ≡ reached (submitted f mr da pid dcs period udl (take n (drop (p₃ .at) s)) h) (p₄ .at)
+          all-there c = three ∙ require-holds s (p₄ .at) (le-leb h n fits) HeaderNotWhole _ ∙ require-holds s (p₄ .at) c HeaderPassesCount _ ∙ done-reached s _ _
+
+-- ---- the first octet to TP-DCS
+
+-- the line names every bit of the first octet
+pub kept-whole : (x : ℕ) → x < 256 → kept bits x ≡ x
+unfolding kept
+kept-whole x h = eqb-true _ _ (below (λ y. eqb (kept bits y) y) 256 refl x h)
+
+module _ (s : List ℕ) (o : Octets s) where
+  abbrev start : Place
+  start = record { at = 0 }
+
+  pub no-first : {why : Refusal} → octetAt s start ≡ Octet.Refused why → read submit s ≡ halted OctetsEnd
+  unfolding read line behindFirst
+  no-first e = message-ends s start e 1 bits behindFirst
+
+  module _ {b : ℕ} {p : Place} (e₁ : octetAt s start ≡ Octet.Read b p) where
+    pub other-type : (messageType b ≡ 1 → ⊥) → read submit s ≡ halted WrongMessageType
+    unfolding read line behindFirst
+    other-type d = message-differs s start e₁ 1 bits refl behindFirst d
+
+    module _ (m : messageType b ≡ 1) where
+      pub no-mr : {why : Refusal} → octetAt s p ≡ Octet.Refused why → read submit s ≡ halted OctetsEnd
+      unfolding read line behindFirst
+      no-mr e = message-goes-on s start e₁ 1 bits refl behindFirst m ∙ octet-ends s p e _
+
+      module _ {mr : ℕ} {p₂ : Place} (e₂ : octetAt s p ≡ Octet.Read mr p₂) where
+        pub no-address : {why : Refusal} → fieldAt s p₂ ≡ Span.Refused why → read submit s ≡ halted OctetsEnd
+        unfolding read line behindFirst
+        no-address e = message-goes-on s start e₁ 1 bits refl behindFirst m ∙ octet-goes-on s p e₂ _ ∙ address-ends s p₂ e _
+
+        module _ {da : ℕ} {p₃ : Place} (e₃ : fieldAt s p₂ ≡ Span.There da p₃) where
+          pub no-pid : {why : Refusal} → octetAt s p₃ ≡ Octet.Refused why → read submit s ≡ halted OctetsEnd
+          unfolding read line behindFirst
+          no-pid e = message-goes-on s start e₁ 1 bits refl behindFirst m ∙ octet-goes-on s p e₂ _ ∙ address-goes-on s p₂ e₃ _ ∙ octet-ends s p₃ e _
+
+          module _ {pid : ℕ} {p₄ : Place} (e₄ : octetAt s p₃ ≡ Octet.Read pid p₄) where
+            pub no-dcs : {why : Refusal} → octetAt s p₄ ≡ Octet.Refused why → read submit s ≡ halted OctetsEnd
+            unfolding read line behindFirst
+            no-dcs e = message-goes-on s start e₁ 1 bits refl behindFirst m ∙ octet-goes-on s p e₂ _ ∙ address-goes-on s p₂ e₃ _ ∙ octet-goes-on s p₃ e₄ _ ∙ octet-ends s p₄ e _
+
+            module _ {dcs : ℕ} {p₅ : Place} (e₅ : octetAt s p₄ ≡ Octet.Read dcs p₅) where
+              pub to-dcs : read submit s ≡ readFrom (behindCoding b mr (canonicalAddress (cut address (drop da s))) pid dcs) s (p₅ .at)
+              unfolding read line behindFirst fieldAt spanAt
+              to-dcs =
+                  let whole : kept bits b ≡ b = kept-whole b (rw (octet-read s start e₁ .1) (o 0)) in
+                  message-goes-on s start e₁ 1 bits refl behindFirst m ∙ octet-goes-on s p e₂ _ ∙ address-goes-on s p₂ e₃ _ ∙ octet-goes-on s p₃ e₄ _ ∙ octet-goes-on s p₄ e₅ _
+                  ∙ rw (whole, span-there s p₂ _ e₃ .1)
+
+              -- the address and the place lie in the string
+              pub room : (da + addressSize (drop da s) ≤ length s) × (p₅ .at ≤ length s)
+              unfolding fieldAt spanAt
+              room =
+                  let (whole, at, to) = span-there s p₂ _ e₃ in
+                  (rw at (omega (arith, whole, length-drop (p₂ .at) s, octet-read s p e₂)), omega (arith, octet-read s p₄ e₅))
