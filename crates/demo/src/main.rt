@@ -2,6 +2,11 @@
 use libc::STDOUT_FILENO;
 use tpdu::Outcome;
 use tpdu::SMSAddress;
+use tpdu::SmsDeliver;
+use tpdu::SmsDeliverReport;
+use tpdu::SubmitText;
+use tpdu::Time;
+use tpdu::UserData;
 use tpdu::UserDataCoding;
 use tpdu::Written;
 
@@ -238,6 +243,119 @@ fn show_times_and_addresses() {
     show_address(5, 0, b"twelve chars");
 }
 
+fn say_time(time: Time) {
+    let digits = time.digits;
+    say(b" ");
+    say(&digits);
+}
+
+fn say_text(text: SubmitText) {
+    let octets = text.octets;
+    say_first(&octets, text.length);
+    say(b"\n");
+}
+
+// A DELIVER that is read and written back.
+fn show_deliver(data: &[u8]) {
+    say(b"deliver");
+    say_first(data, data.len());
+    say(b":");
+    let read = SmsDeliver::decode(data);
+    let outcome = read.outcome;
+    if taken(outcome) {
+        let message = read.message;
+        say_time(message.tp_service_centre_timestamp);
+        let mut out = [0u8; 173];
+        let w = message.encode(&mut out);
+        show_written(w, &out);
+    }
+}
+
+// A DELIVER of zeros, with so many octets of user data.
+fn show_deliver_of(udl: u8, length: usize) {
+    say(b"deliver, UDL ");
+    io::print_decimal(STDOUT_FILENO, udl as u64);
+    say(b":");
+    let address = in_array(b"12345");
+    let originator = SMSAddress {
+        ton: 1,
+        npi: 1,
+        address,
+        address_length: 5,
+    };
+    let time = Time {
+        digits: [b'0'; 14],
+        length: 14,
+    };
+    let data = UserData {
+        octets: [0u8; 255],
+        length,
+    };
+    let message = SmsDeliver {
+        tp_rp: false,
+        tp_udhi: false,
+        tp_sri: false,
+        tp_lp: false,
+        tp_mms: true,
+        tp_mti: 0,
+        tp_originating_address: originator,
+        tp_pid: 0,
+        tp_dcs: 0,
+        tp_service_centre_timestamp: time,
+        tp_user_data_length: udl,
+        tp_user_data: data,
+    };
+    let mut out = [0u8; 173];
+    let w = message.encode(&mut out);
+    show_written(w, &out);
+}
+
+// A SUBMIT: the number of octets read, and its header and text.
+fn show_submit(data: &[u8]) {
+    say(b"submit");
+    say_first(data, data.len());
+    say(b":");
+    let read = tpdu::decode_sms_submit_tpdu(data);
+    let outcome = read.outcome;
+    if taken(outcome) {
+        say(b" ");
+        io::print_decimal(STDOUT_FILENO, read.octets_read as u64);
+        say(b" octets, text");
+        let message = read.message;
+        say_text(message.tp_user_data);
+    }
+}
+
+// A DELIVER-REPORT of an RP-ERROR that is read and written back.
+fn show_error(data: &[u8]) {
+    say(b"deliver report, error");
+    say_first(data, data.len());
+    say(b":");
+    let read = SmsDeliverReport::decode_for_rp_error(data);
+    let outcome = read.outcome;
+    if taken(outcome) {
+        let message = read.message;
+        let mut out = [0u8; 173];
+        let w = message.encode(&mut out);
+        show_written(w, &out);
+    }
+}
+
+// Messages: known ones and the limits of DELIVER's data, SUBMIT's refusals 18 and 17, a stopped report, and refusals 2 and 3.
+fn show_messages() {
+    show_deliver(b"\x04\x05\x91\x21\x43\xF5\x00\x00\x42\x20\x51\x21\x03\x54\x00\x02\xC1\x20\xFF");
+    show_deliver(b"\x04\x05\x91\x21");
+    show_deliver(b"\x01\x05\x91\x21");
+    show_deliver_of(160, 140);
+    show_deliver_of(161, 141);
+    show_submit(b"\x01\x07\x05\x91\x21\x43\xF5\x00\x00\x02\xC1\x20");
+    show_submit(b"\x41\x07\x05\x91\x21\x43\xF5\x00\x00\x01\x00");
+    show_submit(b"\x41\x07\x05\x91\x21\x43\xF5\x00\x00\x00");
+    show_error(b"\x04");
+    show_error(b"\x00\xFF\x00");
+    show_error(b"\x40\xD0\x07\x00\x04\x01\x21");
+}
+
 // The known messages of these parts.
 fn show_known() {
     show_coding(0x0C);
@@ -280,6 +398,7 @@ fn main() {
     show_reading_refused();
     show_packing_refused();
     show_times_and_addresses();
+    show_messages();
     show_alphabet();
     show_extension();
 }

@@ -13,8 +13,12 @@ use Rattle.octets.specs.Texts.{codes}
 use Rattle.time.specs.Time.{timeOctets, timeDigits, timestamp, inCalendar, hexDigit, hexValue}
 use Rattle.address.specs.Address.{digitCharacters, digitCharacter, digitValue, isDigit, withoutF, valueText, textIn, addressIn, addressWith, addressOctets, canonicalAddress, addressMaking, encoding}
 use Rattle.header.specs.Header.{unpackedWithHeader, packingWithHeader, shown}
+use Rattle.coding.specs.Coding.{dataWith}
+use Rattle.layout.specs.Layout.{read, readFrom, reading, after, stops, kept, indicatorSize}
+use Rattle.parameters.specs.Line.{parameters}
+use Rattle.deliver_report.specs.DeliverReport.{answer, reported, errorLine}
 use Rattle.known.specs.Rows.{Holds, All, none, _also_, rows}
 
 pub known : All rows
-unfolding Holds codingOf characterSet numberOf digitsOf septetsIn packedSeptets rowWith indexOf character escaped utf8 textOf afterEscape unpacked shownText extendedCode codeOf same twoOctets threeOctets firstCharacter before behind scan packedBehind packing unpackedWithHeader packingWithHeader shown codes each timeOctets timeDigits timestamp inCalendar hexDigit hexValue semiOctets inPairs digitCharacters digitCharacter digitValue isDigit withoutF valueText textIn addressIn addressWith addressOctets canonicalAddress addressMaking encoding pad
-known = refl also refl also refl also refl also refl also refl also refl also refl also refl also refl also refl also refl also refl also refl also refl also refl also refl also refl also none
+unfolding Holds codingOf characterSet numberOf digitsOf septetsIn packedSeptets rowWith indexOf character escaped utf8 textOf afterEscape unpacked shownText extendedCode codeOf same twoOctets threeOctets firstCharacter before behind scan packedBehind packing unpackedWithHeader packingWithHeader shown codes each timeOctets timeDigits timestamp inCalendar hexDigit hexValue semiOctets inPairs digitCharacters digitCharacter digitValue isDigit withoutF valueText textIn addressIn addressWith addressOctets canonicalAddress addressMaking encoding pad dataWith read readFrom reading after stops kept indicatorSize parameters answer reported errorLine
+known = refl also refl also refl also refl also refl also refl also refl also refl also refl also refl also refl also refl also refl also refl also refl also refl also refl also refl also refl also none

@@ -14,6 +14,8 @@ use Rattle.text.specs.Reading.{unpacked, shown as shownText}
 use Rattle.text.specs.Writing.{packing, packedAs}
 use Rattle.time.specs.Time.{timeOctets, timeDigits, timestamp}
 use Rattle.address.specs.Address.{addressWith, addressIn, encoding, canonicalAddress}
+use Rattle.layout.specs.Layout.{read}
+use Rattle.deliver_report.specs.DeliverReport.{error, answer}
 use Rattle.header.specs.Header.{unpackedWithHeader, packingWithHeader, shown}
 
 pub data Row : Type 0 where
@@ -37,6 +39,8 @@ pub data Row : Type 0 where
   readsAddress : List ℕ → ℕ → ℕ → List ℕ → Row
   -- an address field and its canonical octets
   canonical : List ℕ → List ℕ → Row
+  -- two DELIVER-REPORTs of an RP-ERROR that are the same record
+  sameReport : List ℕ → List ℕ → Row
 
 -- what a row says
 unfoldable pub Holds : Row → Type 0
@@ -51,6 +55,7 @@ Holds (zone z ds) = drop 12 (timestamp 24 2 15 12 30 45 z .digits) ≡ ds
 Holds (writesAddress ton npi text octets) = encoding (addressWith ton npi text) ≡ made octets (Written.Done (length octets))
 Holds (readsAddress f ton npi text) = addressIn f ≡ addressWith ton npi text
 Holds (canonical f octets) = canonicalAddress f ≡ octets
+Holds (sameReport s t) = answer (read error s) ≡ answer (read error t)
 
 abbrev pub rows : List Row
 rows =
@@ -80,6 +85,8 @@ rows =
     canonical (0x03 ∷ 0x91 ∷ 0xf1 ∷ 0x02 ∷ []) (0x02 ∷ 0x91 ∷ 0x21 ∷ []) ∷
     -- type 5 plan 0 "AB" is 04 D0 41 21
     writesAddress 5 0 (codes "AB") (0x04 ∷ 0xd0 ∷ 0x41 ∷ 0x21 ∷ []) ∷
+    -- RP-ERROR DELIVER-REPORT 04 is the same record as 00 FF 00
+    sameReport (0x04 ∷ []) (0x00 ∷ 0xff ∷ 0x00 ∷ []) ∷
     []
 
 infixr 5 _also_
