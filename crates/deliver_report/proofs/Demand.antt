@@ -1,23 +1,23 @@
 -- Demand 3 of document 01 for the two readers of SMS-DELIVER-REPORT and their writer.
 -- Assumes nothing.
 use Prim.Native.Nat.{ℕ, zero, suc, _≤_}
-use mathlib.Core.Path.{_≡_, refl, sym, ap, _∙_}
+use mathlib.Core.Path.{_≡_, refl, ap, _∙_}
 use mathlib.Core.Bool.{Bool, true, false, _||_}
 use mathlib.Core.List.{List, [], _∷_, _++_, append-nil}
 use native.Mathlib.Omega.{arith}
 use borrow.Author.Tests.{le-leb, eqb-true, eqb-false}
-use lib.Dec.{eqb, leb}
 use lib.ListN.{length}
+use Rattle.octets.specs.Choice.{if_then_else_}
 use Rattle.octets.specs.Each.{Octets}
 use Rattle.octets.specs.Checks.{checked}
 use Rattle.octets.proofs.Laws.{take-pad}
 use Rattle.coding.specs.Coding.{dataWith}
 use Rattle.layout.specs.Demand.{Demand3}
-use Rattle.layout.specs.Layout.{octet, first, indicator, bit, isSet, messageType, kept, indicatorSize, Field, standsAs, joined, anyPastLimit, reached, after, reading, readFrom, fieldsOf}
-use Rattle.layout.proofs.Makes.{Makes, makes-then}
-use Rattle.layout.proofs.Demand.{Writes, demand3, stopped-in-line, demand3-stopping}
+use Rattle.layout.specs.Layout.{octet, first, indicator, bit, isSet, messageType, kept, indicatorSize, Field, standsAs, joined, anyPastLimit, reached, after, reading, readFrom, fieldsOf, stops, read, canonicalOf, unwritable}
+use Rattle.layout.proofs.Makes.{Makes, makes, makes-then}
+use Rattle.layout.proofs.Demand.{Answers, Writes, Stopped, demand3, stopped-in-line, demand3-stopping}
 use Rattle.layout.proofs.FirstOctet.{kept-type, kept-bit}
-use Rattle.parameters.specs.Line.{Parameters, parameters, parametersOctets}
+use Rattle.parameters.specs.Line.{Parameters, parameters}
 use Rattle.parameters.specs.Optional.{octetsHeld}
 use Rattle.parameters.specs.declared.OptionalOctet.{OptionalOctet}
 use Rattle.parameters.specs.declared.OptionalOctet.the-variants.{Absent, Present}
@@ -98,7 +98,24 @@ are-octets (suc zero) = omega arith
 are-octets (suc (suc zero)) = omega arith
 are-octets (suc (suc (suc i))) = omega arith
 
+-- so it is beside the line's records, and is written
+stands-beside : Stopped parts reporting errorLine (0x00 ∷ 0xff ∷ 0x00 ∷ []) stopped false
+stands-beside = let (e, j, n) = stands-in-line in rw n at (stopped-in-line parts reporting partsOctets errorLine error-makes (0x00 ∷ 0xff ∷ 0x00 ∷ []) stopped are-octets e j)
+
 pub error-demand3 : Demand3 parts error reporting false
-error-demand3 =
-    let (e, j, n) = stands-in-line in
-    demand3-stopping parts reporting partsOctets errorLine error-makes 0 _ stopped false (rw n at (stopped-in-line parts reporting partsOctets errorLine error-makes (0x00 ∷ 0xff ∷ 0x00 ∷ []) stopped are-octets e j))
+error-demand3 = demand3-stopping parts reporting partsOctets errorLine error-makes 0 (0x00 ∷ 0xff ∷ 0x00 ∷ []) stopped false stands-beside
+
+-- ---- what the writer makes of a record that was read, whatever the buffer
+
+pub ack-answers : (s : List ℕ) → Octets s → (r : SmsDeliverReport) (n : ℕ) → read ack s ≡ reached r n → Answers (reporting r) (canonicalOf ack s) (unwritable ack false s)
+unfolding read readFrom canonicalOf unwritable
+ack-answers s o r n e = makes Canonical ackLine ack-makes s 0 o e .answer
+
+pub error-answers : (s : List ℕ) → Octets s → (r : SmsDeliverReport) (n : ℕ) → read error s ≡ reached r n → Answers (reporting r) (canonicalOf error s) (unwritable error false s)
+unfolding read readFrom canonicalOf unwritable
+error-answers s o r n e = by (stops 0 s) e
+  where
+    by : (b : Bool) → (if b then reached stopped 1 else reading errorLine s 0) ≡ reached r n
+        → Answers (reporting r) (if b then 0x00 ∷ 0xff ∷ 0x00 ∷ [] else joined (fieldsOf errorLine s)) (if b then false else anyPastLimit (fieldsOf errorLine s))
+    by true e = let z : stopped ≡ r = cc in rw z at (stands-beside .answer)
+    by false e = makes Canonical errorLine error-makes s 0 o e .answer

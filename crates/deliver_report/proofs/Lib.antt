@@ -1,3 +1,5 @@
 pub mod Reading
 pub mod Writing
 pub mod Demand
+pub mod Back
+pub mod Rewriting

@@ -1,8 +1,8 @@
 -- The readers of SMS-DELIVER-REPORT, field by field.
 -- Assumes nothing.
 use Prim.Native.Nat.{ℕ, _-_, _≤_, _<_}
-use mathlib.Core.Path.{_≡_, refl, sym, ap, _∙_}
-use mathlib.Core.Bool.{Bool, true, false, not, _&&_}
+use mathlib.Core.Path.{_≡_, refl, ap, _∙_}
+use mathlib.Core.Bool.{Bool, false, not, _&&_}
 use mathlib.Core.List.{List, [], _∷_}
 use native.Mathlib.Omega.{arith}
 use borrow.Author.Tests.{eq-eqb, ne-eqb}
@@ -19,7 +19,7 @@ use Rattle.octets.specs.declared.Refusal.{Refusal}
 use Rattle.octets.specs.declared.Refusal.the-variants.{OctetsEnd, WrongMessageType}
 use Rattle.octets.proofs.Places.{octet-read, octet-refused}
 use Rattle.coding.specs.Coding.{dataWith}
-use Rattle.layout.specs.Layout.{any, isSet, messageType, Format, one, Reached, reached, halted, readFrom, indicatorAt, stops, read}
+use Rattle.layout.specs.Layout.{any, isSet, messageType, Format, one, reached, halted, readFrom, indicatorAt, stops, read}
 use Rattle.layout.proofs.FirstOctet.{kept-bit}
 use Rattle.layout.proofs.Laws.{within-from}
 use Rattle.layout.proofs.Steps.{message-goes-on, message-differs, message-ends, octet-goes-on, octet-ends, indicator-goes-on, indicator-ends, then-goes-on, then-ends, done-reached}

@@ -1,16 +1,18 @@
 -- SMS-DELIVER-REPORT (TS 23.040 §9.2.2.1a): its two lines, its readers' answers, and what its writer makes.
 use Prim.Native.Nat.{ℕ}
+use mathlib.Core.Path.{_≡_, refl}
 use mathlib.Core.Bool.{Bool, true, false}
 use mathlib.Core.List.{List, [], _∷_, _++_}
 use lib.Dec.{leb}
 use lib.ListN.{length}
 use Rattle.octets.specs.Checks.{Check, _unless_, checked}
-use Rattle.octets.specs.Lent.{Making}
+use Rattle.octets.specs.Lent.{Making, made, lend}
 use Rattle.octets.specs.declared.Outcome.{Outcome}
-use Rattle.octets.specs.declared.Refusal.the-variants.{LengthTooLarge}
+use Rattle.octets.specs.declared.Refusal.{Refusal}
+use Rattle.octets.specs.declared.Refusal.the-variants.{LengthTooLarge, OctetsEnd, WrongMessageType}
 use Rattle.octets.specs.declared.Written.{Written}
-use Rattle.coding.specs.Coding.{dataWith, dataOf}
-use Rattle.layout.specs.Layout.{indicator, isSet, leading, Format, field, done, _then_, message, one, Reached, reached, halted, Layout, plain, stopping}
+use Rattle.coding.specs.Coding.{codingOf, characterSet, dataOctets, dataWith, dataOf}
+use Rattle.layout.specs.Layout.{indicator, indicatorSize, kept, isSet, leading, Format, field, done, _then_, message, one, Reached, reached, halted, Layout, plain, stopping, stops, after, reading, readFrom, read, fieldsOf, canonicalOf, unwritable}
 use Rattle.parameters.specs.Checking.{indicatorChecks, dataChecks}
 use Rattle.parameters.specs.Line.{Parameters, parameters, parametersOctets}
 use Rattle.parameters.specs.Optional.{octetsHeld}
@@ -57,10 +59,22 @@ ack = plain ackLine
 abbrev pub error : Layout SmsDeliverReport
 error = stopping 0 (0x00 ∷ 0xff ∷ 0x00 ∷ []) stopped errorLine
 
+-- the layout of a report's outcome: RP-ERROR if it holds a cause, else RP-ACK
+abbrev pub outcomeOf : OptionalOctet → Layout SmsDeliverReport
+outcomeOf Absent = ack
+outcomeOf (Present cause) = error
+
 -- what a reader answers: the blank record on a refusal
 unfoldable pub answer : Reached SmsDeliverReport → DeliverReportRead
 answer (reached r n) = record { outcome = Outcome.Done; message = r }
 answer (halted why) = record { outcome = Outcome.Refused why; message = reported false Absent 0 noParameters }
+
+-- the stopped RP-ERROR 04 gives the record of 00 FF 00; an RP-ACK with UDHI, an extended indicator 85, PID 11 and two septets
+known-reports : (read error (0x04 ∷ []) ≡ reached stopped 1) × (read error (0x00 ∷ 0xff ∷ 0x00 ∷ []) ≡ reached stopped 3) × (read ack (0x01 ∷ 0x00 ∷ []) ≡ halted WrongMessageType) × (read ack (0x00 ∷ []) ≡ halted OctetsEnd)
+    × (read ack (0x40 ∷ 0x85 ∷ 0x00 ∷ 0x11 ∷ 0x02 ∷ 0x41 ∷ 0x21 ∷ []) ≡ reached (reported true Absent 0x85 (record { pid = Present 0x11; dcs = Absent; udl = Present 2; ud = 0x41 ∷ 0x21 ∷ [] })) 7)
+    × (canonicalOf ack (0x40 ∷ 0x85 ∷ 0x00 ∷ 0x11 ∷ 0x02 ∷ 0x41 ∷ 0x21 ∷ []) ≡ 0x40 ∷ 0x85 ∷ 0x11 ∷ 0x02 ∷ 0x41 ∷ 0x21 ∷ [])
+unfolding ackLine errorLine read readFrom reading after stops canonicalOf fieldsOf parameters kept indicatorSize codingOf characterSet dataOctets
+known-reports = (refl, refl, refl, refl, refl, refl)
 
 -- ---- writing
 
@@ -72,9 +86,13 @@ firstOctet false = 0
 abbrev pub octetsIn : Bool → OptionalOctet → ℕ → Parameters → List ℕ
 octetsIn udhi cause pi p = firstOctet udhi ∷ (octetsHeld cause ++ (pi ∷ parametersOctets p))
 
--- what a writer makes of the parts: 13, 14, 7, 8, 15
+-- 13, 14, 7, 8, 15
+abbrev pub partsChecks : ℕ → Parameters → List Check
+partsChecks pi p = indicatorChecks pi (p .pid) (p .dcs) (p .udl) ++ dataChecks (p .dcs) (p .udl) (length (p .ud))
+
+-- what a writer makes of the parts
 unfoldable pub making : Bool → OptionalOctet → ℕ → Parameters → Making Written
-making udhi cause pi p = checked (indicatorChecks pi (p .pid) (p .dcs) (p .udl) ++ dataChecks (p .dcs) (p .udl) (length (p .ud))) (octetsIn udhi cause pi p)
+making udhi cause pi p = checked (partsChecks pi p) (octetsIn udhi cause pi p)
 
 -- the parameters of a record
 abbrev pub parametersOf : SmsDeliverReport → Parameters
@@ -83,10 +101,9 @@ parametersOf r = record { pid = r .«tp_pid»; dcs = r .«tp_dcs»; udl = r .«t
 -- of a record: 1 first
 unfoldable pub reporting : SmsDeliverReport → Making Written
 reporting r =
-    let p = parametersOf r in
     checked
-    ((LengthTooLarge unless leb (r .«tp_user_data» .length) 255) ∷ (indicatorChecks (r .«tp_parameter_indicator») (p .pid) (p .dcs) (p .udl) ++ dataChecks (p .dcs) (p .udl) (length (p .ud))))
-    (octetsIn (r .«tp_udhi») (r .«tp_failure_cause») (r .«tp_parameter_indicator») p)
+    ((LengthTooLarge unless leb (r .«tp_user_data» .length) 255) ∷ partsChecks (r .«tp_parameter_indicator») (parametersOf r))
+    (octetsIn (r .«tp_udhi») (r .«tp_failure_cause») (r .«tp_parameter_indicator») (parametersOf r))
 
 -- ---- the parts of a record
 
@@ -109,3 +126,12 @@ parts r = record {
 
 abbrev pub partsOctets : Parts → List ℕ
 partsOctets q = octetsIn (q .udhi) (q .cause) (q .indicator) (q .parameters)
+
+-- ---- reading and writing back
+
+-- what becomes of a string s and a lent buffer: the reader's refusal; a refusal where what is read can't be written; else the canonical octets
+pub record Rewrites (l : Layout SmsDeliverReport) (s buffer : List ℕ) (answer : Written) (after : List ℕ) : Type 0 where
+  pub halts : (why : Refusal) → read l s ≡ halted why → (answer ≡ Written.Refused why) × (after ≡ buffer)
+  pub refuses : (r : SmsDeliverReport) (n : ℕ) → read l s ≡ reached r n → unwritable l false s ≡ true → (why : Refusal) × (answer ≡ Written.Refused why) × (after ≡ buffer)
+  pub writes : (r : SmsDeliverReport) (n : ℕ) → read l s ≡ reached r n → unwritable l false s ≡ false
+      → (answer, after) ≡ lend Written.Refused (made (canonicalOf l s) (Written.Done (length (canonicalOf l s)))) buffer

@@ -1,6 +1,6 @@
 // SMS-DELIVER-REPORT (TS 23.040 §9.2.2.1a), the acknowledgement of an SMS-DELIVER or SMS-STATUS-REPORT.
 ghost use mathlib.Core.Path.{_≡_};
-ghost use mathlib.Core.Bool.{Bool, false};
+ghost use mathlib.Core.Bool.{false};
 ghost use Prim.Native.Nat.{_+_, _≤_};
 ghost use lib.ListN.{length};
 ghost use Rattle.octets.specs.Lent.{Wrote, lend};
@@ -8,7 +8,7 @@ ghost use Rattle.layout.specs.Layout.{read, readFrom};
 ghost use mathlib.Core.List.{_∷_, _++_};
 ghost use Rattle.parameters.specs.Optional.{held, octetsHeld};
 ghost use Rattle.parameters.specs.Line.{parametersOctets};
-ghost use Rattle.deliver_report.specs.DeliverReport.{reported, noParameters, rest, ack, error, answer, firstOctet, octetsIn, making, reporting};
+ghost use Rattle.deliver_report.specs.DeliverReport.{reported, noParameters, rest, ack, error, answer, firstOctet, octetsIn, making, reporting, Rewrites};
 use coding::UserData;
 use octets::Checked;
 use octets::Octet;
@@ -184,13 +184,13 @@ impl SmsDeliverReport {
         ensures { λ r. ⌜ r ≡ answer (read error (now («data» .entry))) ⌝ }
     {
         let start = Place { at: 0 };
-        let Octet::Read(first, place) = start.octet(data) else {
+        let Octet::Read(first_byte, place) = start.octet(data) else {
             return refused(Refusal::OctetsEnd);
         };
-        if first % 4 != MTI_DELIVER {
+        if first_byte % 4 != MTI_DELIVER {
             return refused(Refusal::WrongMessageType);
         }
-        if first & REPORT_UNUSED_BITS != 0 {
+        if first_byte & REPORT_UNUSED_BITS != 0 {
             return cause_alone(
                 Outcome::Done,
                 OptionalOctet::Present(FAILURE_CAUSE_UNSPECIFIED),
@@ -202,7 +202,7 @@ impl SmsDeliverReport {
         decode_rest(
             data,
             next,
-            first / 64 % 2 == 1,
+            first_byte / 64 % 2 == 1,
             OptionalOctet::Present(cause),
         )
     }
@@ -231,4 +231,30 @@ impl SmsDeliverReport {
             out,
         )
     }
+}
+
+// Reads a report carried in an RP-ACK, and writes it back.
+pub fn canonical_deliver_report_ack(data: &[u8], out: &mut [u8]) -> Written
+    ensures { λ r. ⌜ Rewrites ack (now («data» .entry)) (now (out .entry)) r (now (out .exit)) ⌝ }
+{
+    let read = SmsDeliverReport::decode_for_rp_ack(data);
+    let outcome = read.outcome;
+    let message = read.message;
+    if let Outcome::Refused(r) = outcome {
+        return Written::Refused(r);
+    }
+    message.encode(out)
+}
+
+// Reads a report carried in an RP-ERROR, and writes it back.
+pub fn canonical_deliver_report_error(data: &[u8], out: &mut [u8]) -> Written
+    ensures { λ r. ⌜ Rewrites error (now («data» .entry)) (now (out .entry)) r (now (out .exit)) ⌝ }
+{
+    let read = SmsDeliverReport::decode_for_rp_error(data);
+    let outcome = read.outcome;
+    let message = read.message;
+    if let Outcome::Refused(r) = outcome {
+        return Written::Refused(r);
+    }
+    message.encode(out)
 }

@@ -10,7 +10,7 @@ use lib.Dec.{leb, ltb}
 use lib.ListN.{length}
 use Rattle.octets.specs.Choice.{if_then_else_}
 use Rattle.octets.specs.Checks.{Check, _unless_, checked}
-use Rattle.octets.specs.Lent.{Making, refused, made}
+use Rattle.octets.specs.Lent.{refused, made}
 use Rattle.octets.specs.declared.Checked.{Checked}
 use Rattle.octets.specs.declared.Refusal.{Refusal}
 use Rattle.octets.specs.declared.Refusal.the-variants.{IndicatorExtended, UserDataTooLong}

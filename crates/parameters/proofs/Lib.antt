@@ -2,3 +2,4 @@ pub mod Indicator
 pub mod Reading
 pub mod Made
 pub mod Checking
+pub mod Back

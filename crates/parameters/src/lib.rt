@@ -1,6 +1,5 @@
 // What the reports share: TP-Parameter-Indicator and the parameters that it announces (TS 23.040 §9.2.3.27).
 ghost use mathlib.Core.Path.{_≡_};
-ghost use mathlib.Core.Bool.{Bool};
 ghost use Prim.Native.Nat.{_+_, _≤_};
 ghost use lib.ListN.{length};
 ghost use Rattle.octets.specs.Lent.{Wrote};

@@ -1,7 +1,6 @@
 -- `deliver_report::decode_rest` meets its contract: indicator, then parameters.
 -- Assumes nothing.
-use Prim.Native.Nat.{_≤_}
-use mathlib.Core.Path.{_≡_, sym, ap, _∙_}
+use mathlib.Core.Path.{sym, ap, _∙_}
 use native.Mathlib.Omega.{arith}
 use borrow.Author.Needs.{needs}
 use Rattle.deliver_report.specs.DeliverReport.{answer}

@@ -1,7 +1,6 @@
 -- `deliver_report::encode_parts` meets its contract: each check that fails refuses; then the size, and the octets.
 -- Assumes nothing.
-use Prim.Native.Nat.{_≤_, _<_}
-use mathlib.Core.Path.{_≡_, sym, _∙_}
+use mathlib.Core.Path.{sym, _∙_}
 use native.Mathlib.Omega.{arith}
 use borrow.Author.Needs.{needs}
 use Rattle.parameters.proofs.Made.{one-at-most}
@@ -26,7 +25,6 @@ add-if1-2 c = let s = c .before .before .before .before .before .before .before 
 returns-3 : tie.Need-returns-3
 returns-3 c =
     let d = c .before .before .before .before .before in
-    let a = c .before .before .before .before .before .before .before .before .before .before .before .args in
     short _ _ _ _ _ (sym (d .before .before .before .check-parameter-indicator .ensures) ∙ d .before .enum-told .given .1) (sym (d .check-data .ensures) ∙ c .before .before .before .enum-told2 .given .1)
     (rw size-is (omega arith))
 

@@ -1,6 +1,5 @@
 -- `parameters::check_data` meets its contract: the tests are the definition's.
 -- Assumes nothing.
-use mathlib.Core.Path.{_≡_, ap, _∙_}
 use borrow.Author.Needs.{needs}
 use borrow.Author.Tests.{eq-eqb, ne-eqb}
 use Rattle.coding.specs.Coding.{checkedData}

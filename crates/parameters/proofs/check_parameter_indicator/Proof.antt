@@ -1,7 +1,7 @@
 -- `parameters::check_parameter_indicator` meets its contract: the tests are the definition's.
 -- Assumes nothing.
-use Prim.Native.Nat.{ℕ, _+_, _*_, _%_, _≤_}
-use mathlib.Core.Path.{_≡_, refl, sym, _∙_}
+use Prim.Native.Nat.{ℕ, _+_, _*_, _%_}
+use mathlib.Core.Path.{_≡_}
 use borrow.Author.Tests.{eq-eqb, ne-eqb}
 use native.Mathlib.Omega.{arith}
 use Rattle.octets.specs.declared.Checked.{Checked}

@@ -1,9 +1,6 @@
 -- `parameters::put_parameters` meets its contract: one part behind the other.
 -- Assumes nothing.
-use mathlib.Core.Path.{_≡_}
-use mathlib.Core.List.{append-assoc}
 use borrow.Author.Needs.{needs}
-use native.Mathlib.Omega.{arith}
 use Rattle.octets.proofs.Laws.{wrote-then}
 use Rattle.parameters.proofs.put_parameters.Statement.{statement}
 use Rattle.parameters.proofs.put_parameters.Tie as tie

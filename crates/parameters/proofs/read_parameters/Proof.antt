@@ -1,9 +1,7 @@
 -- `parameters::read_parameters` meets its contract: one step for each parameter.
 -- Assumes nothing.
-use Prim.Native.Nat.{ℕ}
-use mathlib.Core.Path.{_≡_, sym, ap, _∙_}
+use mathlib.Core.Path.{sym, _∙_}
 use borrow.Author.Needs.{needs}
-use Rattle.coding.specs.Coding.{codingOf, dataOctets}
 use Rattle.parameters.proofs.Reading.{no-pid, no-dcs, no-udl, no-data, data-short, whole}
 use Rattle.parameters.proofs.read_parameters.Statement.{statement}
 use Rattle.parameters.proofs.read_parameters.Tie as tie

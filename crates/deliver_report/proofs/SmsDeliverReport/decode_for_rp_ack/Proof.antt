@@ -1,6 +1,6 @@
 -- `SmsDeliverReport::decode_for_rp_ack` meets its contract: first octet, then the rest.
 -- Assumes nothing.
-use mathlib.Core.Path.{_≡_, sym, ap, _∙_}
+use mathlib.Core.Path.{sym, ap, _∙_}
 use borrow.Author.Needs.{needs}
 use Rattle.deliver_report.specs.DeliverReport.{answer}
 use Rattle.deliver_report.proofs.Reading.{ack-no-first, ack-other, ack-goes-on}
