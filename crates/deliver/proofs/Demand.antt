@@ -23,12 +23,13 @@ use Rattle.time.proofs.Laws.{octets-back, digits-time, length-digits, time-held
 use Rattle.address.specs.Address.{addressIn, addressWith, addressOctets, canonicalAddress, octetsOr, textIn, textHeld, addressChecks}
 use Rattle.address.proofs.Laws.{canonical-reads, octets-again, length-short, read-checked, Field as AddressField}
 use Rattle.layout.specs.Demand.{Demand3}
-use Rattle.layout.specs.Layout.{messageType, kept, isSet, Field}
+use Rattle.layout.specs.Layout.{messageType, kept, isSet, Field, reached, read, canonicalOf, unwritable}
 use Rattle.layout.proofs.Makes.{Makes}
-use Rattle.layout.proofs.Demand.{Answers, Writes, demand3}
+use Rattle.layout.proofs.Demand.{Answers, Writes, demand3, answers-plain}
+use Rattle.layout.proofs.Rewriting.{Told}
 use Rattle.deliver.proofs.Writing.{by-parts}
 use Rattle.deliver.specs.declared.SmsDeliver.{SmsDeliver}
-use Rattle.deliver.specs.Deliver.{bits, delivered, behindAddress, line, deliver, flag, octetsIn, making, flagsOf, delivering, Parts, parts}
+use Rattle.deliver.specs.Deliver.{bits, delivered, behindAddress, line, deliver, answer, unread, flag, octetsIn, making, flagsOf, delivering, Parts, parts}
 
 -- ---- the parts alone
 
@@ -107,3 +108,11 @@ delivered-makes x hx mti f wf pid hp dcs hd t ot wt udl hu d od wd = record {
 -- demand 3 of DELIVER
 pub deliver-demand3 : Demand3 parts deliver delivering false
 deliver-demand3 = demand3 parts delivering octetsOf line delivered-makes
+
+-- what the writer makes of a record that was read, whatever the buffer
+pub deliver-answers : (s : List ℕ) → Octets s → (r : SmsDeliver) (n : ℕ) → read deliver s ≡ reached r n → Answers (delivering r) (canonicalOf deliver s) (unwritable deliver false s)
+deliver-answers = answers-plain parts delivering octetsOf line delivered-makes
+
+pub told : Told answer (λ m. m .outcome) (λ m. m .message)
+unfolding answer unread
+told = record { when-done = λ r n. (refl, refl); when-halted = λ why. refl }

@@ -1,11 +1,12 @@
 // SMS-DELIVER (TS 23.040 §9.2.2.1).
 ghost use mathlib.Core.Path.{_≡_};
-ghost use mathlib.Core.Bool.{true};
+ghost use mathlib.Core.Bool.{true, false};
 ghost use mathlib.Core.List.{List, [], _∷_, _++_};
 ghost use Prim.Native.Nat.{_+_, _*_, _/_, _%_, _≤_, _<_};
 ghost use lib.ListN.{length, take, drop};
 ghost use Rattle.octets.specs.Lent.{Wrote, lend};
 ghost use Rattle.layout.specs.Layout.{read, readFrom, kept, cut, address as addressKind};
+ghost use Rattle.layout.specs.Demand.{Rewrites};
 ghost use Rattle.time.specs.Time.{isTime};
 ghost use Rattle.address.specs.Address.{addressMaking, addressSize, canonicalAddress};
 ghost use Rattle.address.specs.Parts.{checkOf};
@@ -286,4 +287,17 @@ impl SmsDeliver {
         };
         behind_address(data, first, oa, place2)
     }
+}
+
+// Reads a message, and writes it back.
+pub fn canonical_deliver(data: &[u8], out: &mut [u8]) -> Written
+    ensures { λ r. ⌜ Rewrites deliver false (now («data» .entry)) (now (out .entry)) r (now (out .exit)) ⌝ }
+{
+    let read = SmsDeliver::decode(data);
+    let outcome = read.outcome;
+    let message = read.message;
+    if let Outcome::Refused(r) = outcome {
+        return Written::Refused(r);
+    }
+    message.encode(out)
 }

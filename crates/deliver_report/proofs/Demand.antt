@@ -7,15 +7,15 @@ use mathlib.Core.List.{List, [], _∷_, _++_, append-nil}
 use native.Mathlib.Omega.{arith}
 use borrow.Author.Tests.{le-leb, eqb-true, eqb-false}
 use lib.ListN.{length}
-use Rattle.octets.specs.Choice.{if_then_else_}
 use Rattle.octets.specs.Each.{Octets}
 use Rattle.octets.specs.Checks.{checked}
 use Rattle.octets.proofs.Laws.{take-pad}
 use Rattle.coding.specs.Coding.{dataWith}
 use Rattle.layout.specs.Demand.{Demand3}
-use Rattle.layout.specs.Layout.{octet, first, indicator, bit, isSet, messageType, kept, indicatorSize, Field, standsAs, joined, anyPastLimit, reached, after, reading, readFrom, fieldsOf, stops, read, canonicalOf, unwritable}
-use Rattle.layout.proofs.Makes.{Makes, makes, makes-then}
-use Rattle.layout.proofs.Demand.{Answers, Writes, Stopped, demand3, stopped-in-line, demand3-stopping}
+use Rattle.layout.specs.Layout.{octet, first, indicator, bit, isSet, messageType, kept, indicatorSize, Field, standsAs, joined, anyPastLimit, reached, after, reading, readFrom, fieldsOf, read, canonicalOf, unwritable}
+use Rattle.layout.proofs.Makes.{Makes, makes-then}
+use Rattle.layout.proofs.Demand.{Answers, Writes, Stopped, demand3, stopped-in-line, demand3-stopping, answers-plain, answers-stopping}
+use Rattle.layout.proofs.Rewriting.{Told}
 use Rattle.layout.proofs.FirstOctet.{kept-type, kept-bit}
 use Rattle.parameters.specs.Line.{Parameters, parameters}
 use Rattle.parameters.specs.Optional.{octetsHeld}
@@ -23,7 +23,7 @@ use Rattle.parameters.specs.declared.OptionalOctet.{OptionalOctet}
 use Rattle.parameters.specs.declared.OptionalOctet.the-variants.{Absent, Present}
 use Rattle.parameters.proofs.Checking.{answers}
 use Rattle.parameters.proofs.Made.{Held, parameters-make, joined-append, past-append}
-use Rattle.deliver_report.specs.DeliverReport.{reported, rest, ackLine, errorLine, stopped, ack, error, firstOctet, octetsIn, making, reporting, parts, partsOctets}
+use Rattle.deliver_report.specs.DeliverReport.{reported, rest, ackLine, errorLine, stopped, ack, error, answer, firstOctet, octetsIn, making, reporting, parts, partsOctets}
 use Rattle.deliver_report.specs.declared.SmsDeliverReport.{SmsDeliverReport}
 
 abbrev Canonical : SmsDeliverReport → List Field → Type 0
@@ -108,14 +108,12 @@ error-demand3 = demand3-stopping parts reporting partsOctets errorLine error-mak
 -- ---- what the writer makes of a record that was read, whatever the buffer
 
 pub ack-answers : (s : List ℕ) → Octets s → (r : SmsDeliverReport) (n : ℕ) → read ack s ≡ reached r n → Answers (reporting r) (canonicalOf ack s) (unwritable ack false s)
-unfolding read readFrom canonicalOf unwritable
-ack-answers s o r n e = makes Canonical ackLine ack-makes s 0 o e .answer
+ack-answers = answers-plain parts reporting partsOctets ackLine ack-makes
 
 pub error-answers : (s : List ℕ) → Octets s → (r : SmsDeliverReport) (n : ℕ) → read error s ≡ reached r n → Answers (reporting r) (canonicalOf error s) (unwritable error false s)
-unfolding read readFrom canonicalOf unwritable
-error-answers s o r n e = by (stops 0 s) e
-  where
-    by : (b : Bool) → (if b then reached stopped 1 else reading errorLine s 0) ≡ reached r n
-        → Answers (reporting r) (if b then 0x00 ∷ 0xff ∷ 0x00 ∷ [] else joined (fieldsOf errorLine s)) (if b then false else anyPastLimit (fieldsOf errorLine s))
-    by true e = let z : stopped ≡ r = cc in rw z at (stands-beside .answer)
-    by false e = makes Canonical errorLine error-makes s 0 o e .answer
+error-answers = answers-stopping parts reporting partsOctets errorLine error-makes 0 (0x00 ∷ 0xff ∷ 0x00 ∷ []) stopped false stands-beside
+
+-- its readers' answers
+pub told : Told answer (λ m. m .outcome) (λ m. m .message)
+unfolding answer
+told = record { when-done = λ r n. (refl, refl); when-halted = λ why. refl }

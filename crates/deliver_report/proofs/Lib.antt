@@ -2,4 +2,3 @@ pub mod Reading
 pub mod Writing
 pub mod Demand
 pub mod Back
-pub mod Rewriting

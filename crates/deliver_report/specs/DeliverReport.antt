@@ -6,13 +6,12 @@ use mathlib.Core.List.{List, [], _∷_, _++_}
 use lib.Dec.{leb}
 use lib.ListN.{length}
 use Rattle.octets.specs.Checks.{Check, _unless_, checked}
-use Rattle.octets.specs.Lent.{Making, made, lend}
+use Rattle.octets.specs.Lent.{Making}
 use Rattle.octets.specs.declared.Outcome.{Outcome}
-use Rattle.octets.specs.declared.Refusal.{Refusal}
 use Rattle.octets.specs.declared.Refusal.the-variants.{LengthTooLarge, OctetsEnd, WrongMessageType}
 use Rattle.octets.specs.declared.Written.{Written}
 use Rattle.coding.specs.Coding.{codingOf, characterSet, dataOctets, dataWith, dataOf}
-use Rattle.layout.specs.Layout.{indicator, indicatorSize, kept, isSet, leading, Format, field, done, _then_, message, one, Reached, reached, halted, Layout, plain, stopping, stops, after, reading, readFrom, read, fieldsOf, canonicalOf, unwritable}
+use Rattle.layout.specs.Layout.{indicator, indicatorSize, kept, isSet, leading, Format, field, done, _then_, message, one, Reached, reached, halted, Layout, plain, stopping, stops, after, reading, readFrom, read, fieldsOf, canonicalOf}
 use Rattle.parameters.specs.Checking.{indicatorChecks, dataChecks}
 use Rattle.parameters.specs.Line.{Parameters, parameters, parametersOctets}
 use Rattle.parameters.specs.Optional.{octetsHeld}
@@ -126,12 +125,3 @@ parts r = record {
 
 abbrev pub partsOctets : Parts → List ℕ
 partsOctets q = octetsIn (q .udhi) (q .cause) (q .indicator) (q .parameters)
-
--- ---- reading and writing back
-
--- what becomes of a string s and a lent buffer: the reader's refusal; a refusal where what is read can't be written; else the canonical octets
-pub record Rewrites (l : Layout SmsDeliverReport) (s buffer : List ℕ) (answer : Written) (after : List ℕ) : Type 0 where
-  pub halts : (why : Refusal) → read l s ≡ halted why → (answer ≡ Written.Refused why) × (after ≡ buffer)
-  pub refuses : (r : SmsDeliverReport) (n : ℕ) → read l s ≡ reached r n → unwritable l false s ≡ true → (why : Refusal) × (answer ≡ Written.Refused why) × (after ≡ buffer)
-  pub writes : (r : SmsDeliverReport) (n : ℕ) → read l s ≡ reached r n → unwritable l false s ≡ false
-      → (answer, after) ≡ lend Written.Refused (made (canonicalOf l s) (Written.Done (length (canonicalOf l s)))) buffer

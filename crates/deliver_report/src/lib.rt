@@ -5,10 +5,11 @@ ghost use Prim.Native.Nat.{_+_, _≤_};
 ghost use lib.ListN.{length};
 ghost use Rattle.octets.specs.Lent.{Wrote, lend};
 ghost use Rattle.layout.specs.Layout.{read, readFrom};
+ghost use Rattle.layout.specs.Demand.{Rewrites};
 ghost use mathlib.Core.List.{_∷_, _++_};
 ghost use Rattle.parameters.specs.Optional.{held, octetsHeld};
 ghost use Rattle.parameters.specs.Line.{parametersOctets};
-ghost use Rattle.deliver_report.specs.DeliverReport.{reported, noParameters, rest, ack, error, answer, firstOctet, octetsIn, making, reporting, Rewrites};
+ghost use Rattle.deliver_report.specs.DeliverReport.{reported, noParameters, rest, ack, error, answer, firstOctet, octetsIn, making, reporting};
 use coding::UserData;
 use octets::Checked;
 use octets::Octet;
@@ -235,7 +236,7 @@ impl SmsDeliverReport {
 
 // Reads a report carried in an RP-ACK, and writes it back.
 pub fn canonical_deliver_report_ack(data: &[u8], out: &mut [u8]) -> Written
-    ensures { λ r. ⌜ Rewrites ack (now («data» .entry)) (now (out .entry)) r (now (out .exit)) ⌝ }
+    ensures { λ r. ⌜ Rewrites ack false (now («data» .entry)) (now (out .entry)) r (now (out .exit)) ⌝ }
 {
     let read = SmsDeliverReport::decode_for_rp_ack(data);
     let outcome = read.outcome;
@@ -248,7 +249,7 @@ pub fn canonical_deliver_report_ack(data: &[u8], out: &mut [u8]) -> Written
 
 // Reads a report carried in an RP-ERROR, and writes it back.
 pub fn canonical_deliver_report_error(data: &[u8], out: &mut [u8]) -> Written
-    ensures { λ r. ⌜ Rewrites error (now («data» .entry)) (now (out .entry)) r (now (out .exit)) ⌝ }
+    ensures { λ r. ⌜ Rewrites error false (now («data» .entry)) (now (out .entry)) r (now (out .exit)) ⌝ }
 {
     let read = SmsDeliverReport::decode_for_rp_error(data);
     let outcome = read.outcome;

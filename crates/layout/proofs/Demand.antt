@@ -77,6 +77,11 @@ module _ {R P : Type 0} (parts : R → P) (write : R → Making Written) where
         writes = λ s r n o e. lent (write r) _ _ (of-read s o e .answer);
       }
 
+      -- what the writer makes of a record that was read, whatever the buffer
+      pub answers-plain : (s : List ℕ) → Octets s → (r : R) (n : ℕ) → read (plain line) s ≡ reached r n → Answers (write r) (canonicalOf (plain line) s) (unwritable (plain line) false s)
+      unfolding read readFrom canonicalOf unwritable
+      answers-plain s o r n e = of-read s o e .answer
+
       -- these octets are themselves a string of the line, which stands as it is and is read as the stopped record
       pub stopped-in-line : {n : ℕ} (stands : List ℕ) (z : R) → Octets stands → readFrom line stands 0 ≡ reached z n → joined (fieldsOf line stands) ≡ stands → Stopped line stands z (anyPastLimit (fieldsOf line stands))
       stopped-in-line {n} stands z o e c = record {
@@ -113,3 +118,8 @@ module _ {R P : Type 0} (parts : R → P) (write : R → Making Written) where
           equals = λ s t. alike-if (stops mti s) (stops mti t) s t;
           writes = λ s r n o e. lent (write r) _ _ (answers-if (stops mti s) s r n o e);
         }
+
+        pub answers-stopping : (s : List ℕ) → Octets s → (r : R) (n : ℕ) → read (stopping mti stands z line) s ≡ reached r n
+            → Answers (write r) (canonicalOf (stopping mti stands z line) s) (unwritable (stopping mti stands z line) refuses s)
+        unfolding read canonicalOf unwritable
+        answers-stopping s o r n = answers-if (stops mti s) s r n o
