@@ -1,13 +1,13 @@
 -- Demand 3 of SMS-SUBMIT.
 -- Assumes nothing.
-use Prim.Native.Nat.{ℕ, _+_, _*_, _/_, _%_, _≤_, _<_}
+use Prim.Native.Nat.{ℕ, _+_, _*_, _≤_, _<_}
 use mathlib.Core.Path.{_≡_, refl, sym, ap, _∙_}
 use mathlib.Core.Bool.{Bool, true, false, not, _||_, false≢true}
 use mathlib.Core.List.{List, [], _∷_, _++_, append-nil}
 use mathlib.Core.Option.{Option, none, some}
 use native.Mathlib.Omega.{arith}
-use borrow.Author.Tests.{eqb-true, eq-eqb, le-leb, lt-leb, le-ltb, leb-true, ltb-true, ltb-false}
-use lib.Dec.{eqb, leb, ltb}
+use borrow.Author.Tests.{eqb-true, eq-eqb, le-leb, lt-leb, leb-true, ltb-true, ltb-false}
+use lib.Dec.{eqb, ltb}
 use lib.ListN.{length, getD, take, length-take}
 use Rattle.octets.specs.Arrays.{pad}
 use Rattle.octets.specs.Choice.{if_then_else_}
@@ -18,20 +18,21 @@ use Rattle.octets.specs.declared.Refusal.the-variants.{UserDataTooLong, Address
 use Rattle.octets.specs.declared.Written.{Written}
 use Rattle.octets.proofs.Laws.{take-pad}
 use Rattle.octets.proofs.Table.{below}
-use Rattle.coding.specs.Coding.{codingOf, dataOctets, checkedData, dataWith, dataOf}
+use Rattle.coding.specs.Coding.{codingOf, dataOctets, checkedData, dataWith}
 use Rattle.coding.proofs.Laws.{data-held, data-at-most}
 use Rattle.time.specs.Time.{timeIn}
 use Rattle.address.specs.declared.AddressCheck.{AddressCheck}
-use Rattle.address.specs.Address.{typeOfNumber, planOf, textIn, addressIn, addressWith, addressOctets, octetsOr, canonicalAddress, addressMaking, encoding}
+use Rattle.address.specs.Address.{typeOfNumber, planOf, textIn, addressIn, addressWith, addressOctets, octetsOr, canonicalAddress, addressMaking}
 use Rattle.address.specs.Parts.{checkOf}
 use Rattle.address.proofs.Checks.{encoding-parts}
 use Rattle.address.proofs.Laws.{Field as AddressField, canonical-reads, canonical-field, text-short, read-written, address-equal}
 use Rattle.layout.specs.Demand.{Demand3}
-use Rattle.layout.specs.Layout.{first, octet, octets, any, address, userData, isSet, messageType, kept, Field, standsAs, joined, anyPastLimit}
-use Rattle.layout.proofs.Demand.{Answers, Writes, demand3}
+use Rattle.layout.specs.Layout.{first, octet, octets, address, isSet, messageType, kept, reached, read, canonicalOf, unwritable}
+use Rattle.layout.proofs.Demand.{Answers, Writes, demand3, answers-plain}
+use Rattle.layout.proofs.Rewriting.{Told}
 use Rattle.layout.proofs.Makes.{Makes}
 use Rattle.submit.specs.declared.SmsSubmit.{SmsSubmit}
-use Rattle.submit.specs.Submit.{flag, formatIn, periodSize, periodIn, ofFormat, periodOctets, headerSize, inCount, readable, textWith, submitted, bits, behindCoding, behindFirst, line, submit, octetsIn, making, flagsOf, addressLength, digitsLength, headerLength, lengthIf, lengthsFit, submitting}
+use Rattle.submit.specs.Submit.{flag, formatIn, periodIn, ofFormat, periodOctets, headerSize, inCount, textWith, submitted, bits, behindCoding, behindFirst, line, submit, answer, unread, making, flagsOf, lengthIf, lengthsFit, submitting}
 use Rattle.submit.specs.Parts.{Destination, Parts, parts}
 use Rattle.submit.proofs.Period.{digitsCount, digitsBeside, Held, period-held}
 use Rattle.submit.proofs.Reading.{kept-whole}
@@ -143,5 +144,13 @@ submit-writes x lx m mr lmr a wa pid lpid dcs ldcs vp ovp nvp udl ludl ud oud nu
       answer = rw append-nil (answers f small mti mr (canonicalAddress a) (canonical-field a wa) (canonical-twice a wa) pid dcs vp held udl ludl ud nud (headerSize (isSet 6 f) ud) (leb-true _ _ fits) counted);
     }
 
-pub submit-demand : Demand3 parts submit submitting false
-submit-demand = demand3 parts submitting octetsOf line submit-writes
+pub submit-demand3 : Demand3 parts submit submitting false
+submit-demand3 = demand3 parts submitting octetsOf line submit-writes
+
+-- what the writer makes of a record that was read, whatever the buffer
+pub submit-answers : (s : List ℕ) → Octets s → (r : SmsSubmit) (n : ℕ) → read submit s ≡ reached r n → Answers (submitting r) (canonicalOf submit s) (unwritable submit false s)
+submit-answers = answers-plain parts submitting octetsOf line submit-writes
+
+pub told : Told answer (λ m. m .outcome) (λ m. m .message)
+unfolding answer unread
+told = record { when-done = λ r n. (refl, refl); when-halted = λ why. refl }

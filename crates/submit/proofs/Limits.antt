@@ -1,18 +1,26 @@
--- Limits of what is read.
+-- Limits of what is read and written.
 -- Assumes nothing.
-use Prim.Native.Nat.{ℕ, _≤_, _<_}
-use mathlib.Core.Path.{_≡_, refl, sym}
+use Prim.Native.Nat.{ℕ, _≤_}
+use mathlib.Core.Path.{_≡_, sym}
+use mathlib.Core.Bool.{Bool, true, false}
 use mathlib.Core.List.{List}
 use native.Mathlib.Omega.{arith}
 use borrow.Author.Tests.{leb-true}
-use lib.ListN.{length}
+use lib.Dec.{eqb}
+use lib.ListN.{length, take, length-append}
+use Rattle.octets.specs.Choice.{if_then_else_}
+use Rattle.octets.specs.Lent.{made}
+use Rattle.octets.specs.declared.Refusal.the-variants.{LengthTooLarge}
+use Rattle.octets.specs.declared.Written.{Written}
 use Rattle.octets.specs.Each.{Octets}
 use Rattle.coding.specs.Coding.{codingOf}
 use Rattle.layout.specs.Layout.{isSet, kept, Field, reached, read, readFrom}
 use Rattle.layout.proofs.Laws.{within-read}
 use Rattle.layout.proofs.Makes.{Makes, makes}
 use Rattle.submit.specs.declared.SmsSubmit.{SmsSubmit}
-use Rattle.submit.specs.Submit.{headerSize, textWith, submitted, bits, behindCoding, behindFirst, line, submit}
+use Rattle.submit.specs.Submit.{formatOf, periodSize, digitsLength, lengthsFit, submitting, headerSize, textWith, submitted, bits, behindCoding, behindFirst, line, submit}
+use Rattle.submit.proofs.Period.{period-size}
+use Rattle.submit.proofs.Writing.{holds, all-passed}
 use Rattle.submit.proofs.Text.{readable-short}
 
 short : Makes (λ (r : SmsSubmit) (cs : List Field). r .«tp_user_data» .length ≤ 510) line
@@ -29,3 +37,21 @@ module _ (s : List ℕ) {r : SmsSubmit} {n : ℕ} (e : read submit s ≡ reached
   pub text-at-most : Octets s → r .«tp_user_data» .length ≤ 510
   unfolding read readFrom
   text-at-most o = makes _ line short s 0 o e
+
+-- ---- no message that is written passes 173 octets
+
+at-most-seven : (v : ℕ) → periodSize v ≤ 7
+unfolding periodSize
+at-most-seven v = by (eqb v 0) (eqb v 2)
+  where
+    by : (a b : Bool) → (if a then 0 else if b then 1 else 7) ≤ 7
+    by true b = omega arith
+    by false true = omega arith
+    by false false = omega arith
+
+pub written-at-most : (r : SmsSubmit) → length (r .«validity_period_octets») ≡ 7 → (xs : List ℕ) (w : Written) → submitting r ≡ made xs w → length xs ≤ 173
+unfolding submitting
+written-at-most r seven xs w e =
+    let p = all-passed _ _ _ _ _ _ _ _ _ _ _ _ _ _ _ xs w (holds LengthTooLarge (lengthsFit r) e .1) in
+    let vp = period-size (r .«tp_validity_period») (take (digitsLength r) (r .«validity_period_digits» .digits)) (r .«validity_period_octets») (p .time) seven in
+    rw (← p .octets-are) (simp length-append (omega (arith, p .few, p .short, vp, at-most-seven (formatOf (r .«tp_validity_period»)))))

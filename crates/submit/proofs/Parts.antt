@@ -8,7 +8,7 @@ use native.Mathlib.Nat.{le-of-suc-le-suc}
 use native.Mathlib.Omega.{arith}
 use lib.Dec.{eqb}
 use lib.ListN.{length, take, drop, length-drop}
-use lib.Seq.{length-take-le, take-nil}
+use lib.Seq.{length-take-le}
 use Rattle.octets.specs.Arrays.{pad}
 use Rattle.octets.specs.Each.{Octets}
 use Rattle.coding.specs.declared.UserData.{UserData}

@@ -1,14 +1,14 @@
 -- A validity period by its format.
 -- Assumes nothing.
 use Prim.Native.Nat.{ℕ, zero, suc, _≤_, _<_}
-use mathlib.Core.Path.{_≡_, refl, sym, ap, _∙_}
+use mathlib.Core.Path.{_≡_, refl, sym, _∙_}
 use mathlib.Core.Bool.{true}
 use mathlib.Core.List.{List, [], _∷_}
 use native.Mathlib.Omega.{arith}
 use lib.Dec.{eqb}
 use lib.ListN.{length, take}
-use lib.Seq.{take-all}
 use Rattle.octets.specs.Arrays.{pad}
+use Rattle.octets.specs.Choice.{if_then_else_}
 use Rattle.octets.specs.Each.{Octets}
 use Rattle.octets.proofs.Laws.{take-pad, pad-full}
 use Rattle.time.specs.Time.{timeIn, timeDigits}
@@ -35,7 +35,7 @@ digitsBeside v vp = take (digitsCount v vp) (timeIn (ofFormat 3 v vp) .digits)
 
 -- the seven octets beside it that count
 abbrev pub enhancedBeside : ℕ → List ℕ → List ℕ
-enhancedBeside v vp = take (lengthIf (eqb (formatOf (periodIn v vp)) 1) 7) (pad 7 (ofFormat 1 v vp))
+enhancedBeside v vp = if eqb (formatOf (periodIn v vp)) 1 then pad 7 (ofFormat 1 v vp) else []
 
 pub record Held (v : ℕ) (vp : List ℕ) : Type 0 where
   pub format : formatOf (periodIn v vp) ≡ v
@@ -50,7 +50,7 @@ period-held zero [] l n o = record { format = refl; time = refl; few = omega ari
 period-held zero (x ∷ vp) l n o = absurd (omega arith)
 period-held (suc zero) vp l n o =
     let full = pad-full 7 vp (sym n) in
-    record { format = refl; time = refl; few = omega arith; octets = full; counted = rw full (take-all 7 vp (omega arith)) }
+    record { format = refl; time = refl; few = omega arith; octets = full; counted = full }
 period-held (suc (suc zero)) [] l n o = absurd (omega arith)
 period-held (suc (suc zero)) (x ∷ []) l n o = record { format = refl; time = refl; few = omega arith; octets = refl; counted = refl }
 period-held (suc (suc zero)) (x ∷ y ∷ vp) l n o = absurd (omega arith)

@@ -1,13 +1,13 @@
 -- What the line comes to, field by field.
 -- Assumes nothing.
-use Prim.Native.Nat.{ℕ, _+_, _*_, _/_, _%_, _^_, _≤_, _<_}
-use mathlib.Core.Path.{_≡_, refl, sym, ap, _∙_}
-use mathlib.Core.Bool.{Bool, true, false}
-use mathlib.Core.List.{List, [], _∷_}
+use Prim.Native.Nat.{ℕ, _+_, _≤_, _<_}
+use mathlib.Core.Path.{_≡_, refl, _∙_}
+use mathlib.Core.Bool.{true, false}
+use mathlib.Core.List.{List}
 use native.Mathlib.Omega.{arith}
 use borrow.Author.Tests.{eqb-true, le-leb, lt-leb}
 use lib.Dec.{eqb, leb}
-use lib.ListN.{length, getD, take, drop, length-drop}
+use lib.ListN.{length, take, drop, length-drop}
 use lib.Seq.{length-take-le}
 use Rattle.octets.specs.Each.{Octets}
 use Rattle.octets.specs.Places.{octetAt, spanAt}

@@ -1,12 +1,12 @@
 -- What the writer makes, check by check.
 -- Assumes nothing.
-use Prim.Native.Nat.{ℕ, _+_, _*_, _/_, _≤_}
+use Prim.Native.Nat.{ℕ, _+_, _*_, _/_, _≤_, _<_}
 use mathlib.Core.Path.{_≡_, refl, _∙_}
-use mathlib.Core.Bool.{Bool, true, false}
+use mathlib.Core.Bool.{Bool, true, false, _&&_}
 use mathlib.Core.List.{List, [], _∷_, _++_}
 use mathlib.Core.Logic.{⊎-elim}
 use native.Mathlib.Omega.{arith}
-use borrow.Author.Tests.{eq-eqb, ne-eqb, leb-true}
+use borrow.Author.Tests.{eqb-true, eq-eqb, ne-eqb, leb-true}
 use lib.Dec.{eqb, leb}
 use lib.ListN.{length, take, length-append}
 use Rattle.octets.proofs.Choice.{chosen, and-true}
@@ -14,17 +14,18 @@ use Rattle.octets.specs.Checks.{_unless_, checked, afterChecked}
 use Rattle.octets.specs.Lent.{Making, refused, made}
 use Rattle.octets.specs.declared.Checked.{Checked}
 use Rattle.octets.specs.declared.Refusal.{Refusal}
-use Rattle.octets.specs.declared.Refusal.the-variants.{LengthTooLarge, WrongMessageType, ValidityFormatDisagrees, NoDestination, NotATime}
+use Rattle.octets.specs.declared.Refusal.the-variants.{LengthTooLarge, WrongMessageType, ValidityFormatDisagrees, NoDestination, UserDataLengthDisagrees, UserDataTooLong, NumberTypeOrPlanTooLarge, NotInAlphabet, AddressTooLong, NotATime}
 use Rattle.octets.specs.declared.Written.{Written}
 use Rattle.coding.specs.Coding.{codingOf, dataOctets, checkedData, dataOf}
 use Rattle.coding.proofs.Laws.{data-checked}
 use Rattle.address.specs.declared.AddressCheck.{AddressCheck}
-use Rattle.address.specs.Address.{addressChecks, addressMaking}
+use Rattle.octets.specs.Choice.{if_then_else_}
+use Rattle.address.specs.Address.{isSome, addressOctets, octetsOr, addressChecks, addressMaking}
 use Rattle.address.specs.Parts.{checkOf}
 use Rattle.address.proofs.Checks.{afterCheck, address-checked, fine-size}
 use Rattle.submit.specs.declared.SmsSubmit.{SmsSubmit}
 use Rattle.submit.specs.declared.ValidityPeriod.{ValidityPeriod}
-use Rattle.submit.specs.Submit.{formatOf, periodSize, periodOctets, timeHolds, octetsIn, making, flagsOf, addressLength, digitsLength, headerLength, lengthsFit, submitting}
+use Rattle.submit.specs.Submit.{formatOf, periodSize, periodOctets, timeHolds, octetsIn, making, flagsOf, addressLength, digitsLength, lengthsFit, submitting}
 use Rattle.submit.proofs.Period.{period-size}
 
 -- user data that pass are few
@@ -87,6 +88,53 @@ module _ (flags mti vpf mr : ℕ) (there : Bool) (ton npi : ℕ) (text : List �
                   let a = fine-size ton npi text l fine in
                   let v : length (periodOctets period digits enhanced) ≡ periodSize vpf = period-size period digits enhanced h n ∙ rw f in
                   simp (length-append) (omega arith)
+
+-- a check that may refuse has held
+pub holds : {m : Making Written} {xs : List ℕ} {w : Written} (why : Refusal) (t : Bool) → (if t then m else refused why) ≡ made xs w → (t ≡ true) × (m ≡ made xs w)
+holds why true e = (refl, e)
+holds why false e = let z : _≡_ {A = ℕ} 0 1 = cc in absurd (omega arith)
+
+-- where octets are written, every check has held
+pub record Passed (flags mti vpf mr : ℕ) (there : Bool) (ton npi : ℕ) (text : List ℕ) (pid dcs : ℕ) (period : ValidityPeriod) (digits enhanced : List ℕ) (udl : ℕ) (ud xs : List ℕ) : Type 0 where
+  pub mti-is : mti ≡ 1
+  pub format-is : vpf ≡ formatOf period
+  pub there-is : there ≡ true
+  pub size-is : length ud ≡ dataOctets (codingOf dcs) udl
+  pub few : length ud ≤ 140
+  pub ton-is : ton < 8
+  pub npi-is : npi < 16
+  pub spelled : isSome (addressOctets ton npi text) ≡ true
+  pub short : length (octetsOr [] (addressOctets ton npi text)) ≤ 12
+  pub time : timeHolds period digits ≡ true
+  pub octets-are : octetsIn (flags + 8 * vpf + 1) mr ton npi text pid dcs (periodOctets period digits enhanced) udl ud ≡ xs
+
+pub all-passed : (flags mti vpf mr : ℕ) (there : Bool) (ton npi : ℕ) (text : List ℕ) (pid dcs : ℕ) (period : ValidityPeriod) (digits enhanced : List ℕ) (udl : ℕ) (ud xs : List ℕ) (w : Written)
+    → making flags mti vpf mr there ton npi text pid dcs period digits enhanced udl ud ≡ made xs w → Passed flags mti vpf mr there ton npi text pid dcs period digits enhanced udl ud xs
+unfolding making checked
+all-passed flags mti vpf mr there ton npi text pid dcs period digits enhanced udl ud xs w e =
+    let (m, e1) = holds WrongMessageType (eqb mti 1) e in
+    let (v, e2) = holds ValidityFormatDisagrees (eqb vpf (formatOf period)) e1 in
+    let (d, e3) = holds NoDestination there e2 in
+    let (n, e4) = holds UserDataLengthDisagrees (eqb (length ud) (dataOctets (codingOf dcs) udl)) e3 in
+    let (few, e5) = holds UserDataTooLong (leb (length ud) 140) e4 in
+    let (t, e6) = holds NumberTypeOrPlanTooLarge (leb ton 7 && leb npi 15) e5 in
+    let (a, e7) = holds NotInAlphabet (isSome (addressOctets ton npi text)) e6 in
+    let (short, e8) = holds AddressTooLong (leb (length (octetsOr [] (addressOctets ton npi text))) 12) e7 in
+    let (time, e9) = holds NotATime (timeHolds period digits) e8 in
+    let (ton-le, npi-le) = and-true (leb ton 7) (leb npi 15) t in
+    record {
+      mti-is = eqb-true _ _ m;
+      format-is = eqb-true _ _ v;
+      there-is = d;
+      size-is = eqb-true _ _ n;
+      few = leb-true _ _ few;
+      ton-is = omega (arith, leb-true ton 7 ton-le);
+      npi-is = omega (arith, leb-true npi 15 npi-le);
+      spelled = a;
+      short = leb-true _ _ short;
+      time = time;
+      octets-are = cc;
+    }
 
 -- a record: its lengths first
 module _ (r : SmsSubmit) where

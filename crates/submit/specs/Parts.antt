@@ -1,23 +1,24 @@
 -- The parts of a SUBMIT: what lies behind a length, belongs to an absent part or to a validity format not held is none (document 01, "Forms that can't cross over").
-use Prim.Native.Nat.{ℕ, _+_, _*_}
-use mathlib.Core.Bool.{Bool, true, false}
-use mathlib.Core.List.{List, [], _∷_, _++_}
+use Prim.Native.Nat.{ℕ}
+use mathlib.Core.Bool.{Bool}
+use mathlib.Core.List.{List, []}
 use mathlib.Core.Option.{Option, none, some}
 use lib.Dec.{eqb}
 use lib.ListN.{take}
 use Rattle.octets.specs.Choice.{if_then_else_}
 use Rattle.coding.specs.Coding.{dataOf}
-use Rattle.address.specs.Address.{addressOctets, octetsOr, textHeld}
+use Rattle.address.specs.Address.{textHeld}
 use Rattle.address.specs.declared.SMSAddress.{SMSAddress}
 use Rattle.submit.specs.declared.SmsSubmit.{SmsSubmit}
 use Rattle.submit.specs.declared.ValidityPeriod.{ValidityPeriod}
-use Rattle.submit.specs.Submit.{flagsOf, formatOf, periodOctets, lengthIf, digitsLength}
+use Rattle.submit.specs.Submit.{formatOf, addressLength, digitsLength, headerLength}
 
 pub record Destination : Type 0 where
   pub ton : ℕ
   pub npi : ℕ
   pub text : List ℕ
 
+-- with the lengths that count
 pub record Parts : Type 0 where
   pub rp : Bool
   pub udhi : Bool
@@ -36,13 +37,18 @@ pub record Parts : Type 0 where
   pub ud : List ℕ
   pub header : Option (List ℕ)
   pub text : List ℕ
+  pub addressLength : ℕ
+  pub digitsLength : ℕ
+  pub udLength : ℕ
+  pub headerLength : ℕ
+  pub textLength : ℕ
 
 abbrev pub destinationOf : SMSAddress → Destination
 destinationOf a = record { ton = a .ton; npi = a .npi; text = textHeld a }
 
 -- the seven octets of the enhanced format
 abbrev pub enhancedOf : SmsSubmit → List ℕ
-enhancedOf r = take (lengthIf (eqb (formatOf (r .«tp_validity_period»)) 1) 7) (r .«validity_period_octets»)
+enhancedOf r = if eqb (formatOf (r .«tp_validity_period»)) 1 then r .«validity_period_octets» else []
 
 abbrev pub parts : SmsSubmit → Parts
 parts r = record {
@@ -63,4 +69,9 @@ parts r = record {
   ud = dataOf (r .«tp_user_data_raw»);
   header = if r .«has_user_data_header» then some (dataOf (r .«tp_user_data_header»)) else none;
   text = take (r .«tp_user_data» .length) (r .«tp_user_data» .octets);
+  addressLength = addressLength r;
+  digitsLength = digitsLength r;
+  udLength = r .«tp_user_data_raw» .length;
+  headerLength = headerLength r;
+  textLength = r .«tp_user_data» .length;
 }

@@ -6,9 +6,8 @@ use lib.Dec.{eqb, leb}
 use lib.ListN.{length, take, drop}
 use Rattle.octets.specs.Arrays.{pad}
 use Rattle.octets.specs.Choice.{if_then_else_}
-use Rattle.octets.specs.Checks.{Check, _unless_, checked}
+use Rattle.octets.specs.Checks.{_unless_, checked}
 use Rattle.octets.specs.Lent.{Making, refused}
-use Rattle.octets.specs.declared.Checked.{Checked}
 use Rattle.octets.specs.declared.Outcome.{Outcome}
 use Rattle.octets.specs.declared.Refusal.{Refusal}
 use Rattle.octets.specs.declared.Refusal.the-variants.{LengthTooLarge, WrongMessageType, ValidityFormatDisagrees, NoDestination, NotATime, HeaderNotWhole, HeaderPassesCount}
@@ -19,8 +18,8 @@ use Rattle.coding.specs.declared.UserDataCoding.the-variants.{Gsm7Bit, EightBit
 use Rattle.septets.specs.Septets.{septetsIn, headerSeptets, fillBits}
 use Rattle.text.specs.Reading.{textOf}
 use Rattle.header.specs.Header.{headerOctets}
-use Rattle.time.specs.Time.{isTime, timeOctets, timeIn, digitsOf}
-use Rattle.address.specs.Address.{addressIn, addressWith, addressOctets, octetsOr, addressChecks, textHeld}
+use Rattle.time.specs.Time.{isTime, timeOctets, timeIn}
+use Rattle.address.specs.Address.{addressIn, addressWith, addressOctets, octetsOr, addressChecks}
 use Rattle.layout.specs.Layout.{Format, Layout, plain, Reached, reached, halted, message, field, one, require, done, address, octets, any, userData, isSet, leading, messageType}
 use Rattle.submit.specs.declared.SmsSubmit.{SmsSubmit}
 use Rattle.submit.specs.declared.SubmitRead.{SubmitRead}

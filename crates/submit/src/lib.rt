@@ -1,6 +1,6 @@
 // SMS-SUBMIT (TS 23.040 §9.2.2.2).
 ghost use mathlib.Core.Path.{_≡_};
-ghost use mathlib.Core.Bool.{true};
+ghost use mathlib.Core.Bool.{true, false};
 ghost use mathlib.Core.List.{List, [], _∷_, _++_};
 ghost use Prim.Native.Nat.{_+_, _-_, _*_, _/_, _%_, _≤_, _<_};
 ghost use lib.ListN.{length, take, drop};
@@ -10,6 +10,7 @@ ghost use Rattle.coding.specs.Coding.{codingOf, dataOctets, dataWith};
 ghost use Rattle.septets.specs.Septets.{headerSeptets, fillBits, septetsIn};
 ghost use Rattle.text.specs.Reading.{textOf};
 ghost use Rattle.time.specs.Time.{timeIn};
+ghost use Rattle.layout.specs.Demand.{Rewrites};
 ghost use Rattle.layout.specs.Layout.{read, readFrom, cut, isSet, address as addressKind};
 ghost use Rattle.address.specs.Address.{addressMaking, addressSize, canonicalAddress};
 ghost use Rattle.address.specs.Parts.{checkOf};
@@ -582,4 +583,17 @@ impl SmsSubmit {
             out,
         )
     }
+}
+
+// Reads a message, and writes it back.
+pub fn canonical_submit(data: &[u8], out: &mut [u8]) -> Written
+    ensures { λ r. ⌜ Rewrites submit false (now («data» .entry)) (now (out .entry)) r (now (out .exit)) ⌝ }
+{
+    let read = decode_sms_submit_tpdu(data);
+    let outcome = read.outcome;
+    let message = read.message;
+    if let Outcome::Refused(r) = outcome {
+        return Written::Refused(r);
+    }
+    message.encode(out)
 }

@@ -18,9 +18,10 @@ use Rattle.coding.specs.Coding.{dataWith}
 use Rattle.time.specs.Time.{isTime, timeDigits, timeIn}
 use Rattle.time.proofs.Laws.{octets-back, digits-time, length-digits, time-held}
 use Rattle.layout.specs.Demand.{Demand3}
-use Rattle.layout.specs.Layout.{octet, octets, any, first, indicator, bit, isSet, messageType, kept, Field, standsAs, joined, anyPastLimit}
+use Rattle.layout.specs.Layout.{octet, octets, any, first, indicator, bit, isSet, messageType, kept, Field, standsAs, joined, anyPastLimit, reached, read, canonicalOf, unwritable}
 use Rattle.layout.proofs.Makes.{Makes, makes-then}
-use Rattle.layout.proofs.Demand.{Writes, demand3, stopped-apart, demand3-stopping}
+use Rattle.layout.proofs.Demand.{Answers, Writes, Stopped, demand3, stopped-apart, demand3-stopping, answers-plain, answers-stopping}
+use Rattle.layout.proofs.Rewriting.{Told}
 use Rattle.layout.proofs.FirstOctet.{kept-type, kept-bit}
 use Rattle.parameters.specs.Checking.{indicatorChecks, dataChecks}
 use Rattle.parameters.specs.Line.{Parameters, parameters, parametersOctets}
@@ -29,7 +30,7 @@ use Rattle.parameters.specs.declared.OptionalOctet.{OptionalOctet}
 use Rattle.parameters.specs.declared.OptionalOctet.the-variants.{Absent, Present}
 use Rattle.parameters.proofs.Checking.{answers}
 use Rattle.parameters.proofs.Made.{Held, parameters-make, joined-append, past-append}
-use Rattle.submit_report.specs.SubmitReport.{reported, rest, ackLine, errorLine, stopped, ack, error, octetsIn, making, reporting, Parts, parts, partsOctets}
+use Rattle.submit_report.specs.SubmitReport.{reported, rest, ackLine, errorLine, stopped, ack, error, answer, octetsIn, making, reporting, Parts, parts, partsOctets}
 use Rattle.submit_report.specs.declared.SmsSubmitReport.{SmsSubmitReport}
 use Rattle.submit_report.proofs.Writing.{by-parts}
 
@@ -127,5 +128,21 @@ stopped-refused : reporting stopped ≡ refused NotATime
 unfolding reporting reported timeIn timeDigits dataWith making checked indicatorChecks isTime
 stopped-refused = refl
 
+stands-apart : Stopped parts reporting errorLine (0x01 ∷ 0xff ∷ 0x00 ∷ []) stopped true
+stands-apart = stopped-apart parts reporting errorLine (0x01 ∷ 0xff ∷ 0x00 ∷ []) stopped apart stopped-refused
+
 pub error-demand3 : Demand3 parts error reporting true
-error-demand3 = demand3-stopping parts reporting partsOctets errorLine error-makes 1 _ stopped true (stopped-apart parts reporting errorLine (0x01 ∷ 0xff ∷ 0x00 ∷ []) stopped apart stopped-refused)
+error-demand3 = demand3-stopping parts reporting partsOctets errorLine error-makes 1 (0x01 ∷ 0xff ∷ 0x00 ∷ []) stopped true stands-apart
+
+-- ---- what the writer makes of a record that was read, whatever the buffer
+
+pub ack-answers : (s : List ℕ) → Octets s → (r : SmsSubmitReport) (n : ℕ) → read ack s ≡ reached r n → Answers (reporting r) (canonicalOf ack s) (unwritable ack false s)
+ack-answers = answers-plain parts reporting partsOctets ackLine ack-makes
+
+pub error-answers : (s : List ℕ) → Octets s → (r : SmsSubmitReport) (n : ℕ) → read error s ≡ reached r n → Answers (reporting r) (canonicalOf error s) (unwritable error true s)
+error-answers = answers-stopping parts reporting partsOctets errorLine error-makes 1 (0x01 ∷ 0xff ∷ 0x00 ∷ []) stopped true stands-apart
+
+-- its readers' answers
+pub told : Told answer (λ m. m .outcome) (λ m. m .message)
+unfolding answer
+told = record { when-done = λ r n. (refl, refl); when-halted = λ why. refl }

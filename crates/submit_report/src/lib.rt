@@ -1,9 +1,10 @@
 // SMS-SUBMIT-REPORT (TS 23.040 §9.2.2.2a), the acknowledgement of an SMS-SUBMIT or SMS-COMMAND.
 ghost use mathlib.Core.Path.{_≡_};
-ghost use mathlib.Core.Bool.{true};
+ghost use mathlib.Core.Bool.{true, false};
 ghost use Prim.Native.Nat.{_+_, _*_, _≤_};
 ghost use lib.ListN.{length};
 ghost use Rattle.octets.specs.Lent.{Wrote, lend};
+ghost use Rattle.layout.specs.Demand.{Rewrites};
 ghost use Rattle.layout.specs.Layout.{read, readFrom};
 ghost use mathlib.Core.List.{_∷_, _++_};
 ghost use Rattle.time.specs.Time.{isTime, timeOctets};
@@ -251,4 +252,30 @@ impl SmsSubmitReport {
             out,
         )
     }
+}
+
+// Reads a report carried in an RP-ACK, and writes it back.
+pub fn canonical_submit_report_ack(data: &[u8], out: &mut [u8]) -> Written
+    ensures { λ r. ⌜ Rewrites ack false (now («data» .entry)) (now (out .entry)) r (now (out .exit)) ⌝ }
+{
+    let read = SmsSubmitReport::decode_for_rp_ack(data);
+    let outcome = read.outcome;
+    let message = read.message;
+    if let Outcome::Refused(r) = outcome {
+        return Written::Refused(r);
+    }
+    message.encode(out)
+}
+
+// Reads a report carried in an RP-ERROR, and writes it back.
+pub fn canonical_submit_report_error(data: &[u8], out: &mut [u8]) -> Written
+    ensures { λ r. ⌜ Rewrites error true (now («data» .entry)) (now (out .entry)) r (now (out .exit)) ⌝ }
+{
+    let read = SmsSubmitReport::decode_for_rp_error(data);
+    let outcome = read.outcome;
+    let message = read.message;
+    if let Outcome::Refused(r) = outcome {
+        return Written::Refused(r);
+    }
+    message.encode(out)
 }

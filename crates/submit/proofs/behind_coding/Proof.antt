@@ -1,15 +1,15 @@
 -- `submit::behind_coding` meets its contract: field by field, as the line has them.
 -- Assumes nothing.
-use Prim.Native.Nat.{ℕ, _+_, _-_, _≤_, _<_}
-use mathlib.Core.Path.{_≡_, refl, sym, ap, _∙_}
-use mathlib.Core.Bool.{Bool, true, false}
+use Prim.Native.Nat.{ℕ, _+_, _-_, _≤_}
+use mathlib.Core.Path.{_≡_, sym, ap, _∙_}
+use mathlib.Core.Bool.{Bool}
 use mathlib.Core.List.{List}
 use native.Mathlib.Omega.{arith}
 use borrow.Author.Needs.{needs}
 use borrow.Author.Tests.{not-true, not-false}
 use denote.Ref.{now}
 use lib.ListN.{length, take, drop, length-drop}
-use Rattle.octets.specs.Places.{octetAt, spanAt}
+use Rattle.octets.specs.Places.{spanAt}
 use Rattle.octets.specs.declared.Place.{Place}
 use Rattle.octets.specs.declared.Span.{Span}
 use Rattle.octets.proofs.Places.{octet-read, span-there}

@@ -1,6 +1,5 @@
 -- `submit::check_period` meets its contract: only an absolute period has digits.
 -- Assumes nothing.
-use mathlib.Core.Path.{_∙_, sym}
 use borrow.Author.Needs.{needs}
 use Rattle.submit.proofs.check_period.Statement.{statement}
 use Rattle.submit.proofs.check_period.Tie as tie

@@ -1,9 +1,7 @@
 -- `submit::decode_sms_submit_tpdu` meets its contract: field by field, as the line has them.
 -- Assumes nothing.
-use Prim.Native.Nat.{ℕ}
-use mathlib.Core.Path.{_≡_, sym, _∙_}
+use mathlib.Core.Path.{sym, _∙_}
 use borrow.Author.Needs.{needs}
-use Rattle.submit.specs.Submit.{answer}
 use Rattle.submit.proofs.Reading.{answer-ends, no-first, other-type, no-mr, no-address, no-pid, no-dcs, to-dcs, room}
 use Rattle.submit.proofs.decode_sms_submit_tpdu.Statement.{statement}
 use Rattle.submit.proofs.decode_sms_submit_tpdu.Tie as tie

@@ -1,6 +1,6 @@
 -- `submit::encode_parts` meets its contract: each answer is a case of what the writer makes.
 -- Assumes nothing.
-use Prim.Native.Nat.{ℕ, _+_, _/_, _≤_, _<_}
+use Prim.Native.Nat.{ℕ, _+_, _/_}
 use mathlib.Core.Path.{_≡_, sym, _∙_}
 use mathlib.Core.Bool.{true}
 use mathlib.Core.List.{List}

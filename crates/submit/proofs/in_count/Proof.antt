@@ -1,6 +1,5 @@
 -- `submit::in_count` meets its contract: only 7-bit coding counts septets.
 -- Assumes nothing.
-use native.Mathlib.Omega.{arith}
 use borrow.Author.Needs.{needs}
 use Rattle.submit.specs.Submit.{inCount}
 use Rattle.submit.proofs.in_count.Statement.{statement}

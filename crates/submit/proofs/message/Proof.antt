@@ -1,12 +1,11 @@
 -- `submit::message` meets its contract: part by part.
 -- Assumes nothing.
-use Prim.Native.Nat.{ℕ, _+_, _≤_}
-use mathlib.Core.Path.{_≡_, refl, sym, _∙_}
+use mathlib.Core.Path.{sym, _∙_}
 use native.Mathlib.Omega.{arith}
 use borrow.Author.Needs.{needs}
 use denote.Ref.{now}
-use lib.ListN.{length, take, drop}
-use Rattle.coding.specs.Coding.{codingOf, dataOctets}
+use lib.ListN.{drop}
+use Rattle.coding.specs.Coding.{codingOf}
 use Rattle.coding.proofs.Laws.{data-at-most}
 use Rattle.submit.proofs.Parts.{part-is, part-size, take-less, address-there, message-is}
 use Rattle.submit.proofs.message.Statement.{statement}

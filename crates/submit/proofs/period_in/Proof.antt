@@ -1,9 +1,6 @@
 -- `submit::period_in` meets its contract: by the format.
 -- Assumes nothing.
-use Prim.Native.Nat.{ℕ, _<_}
-use mathlib.Core.Path.{_≡_, refl}
 use native.Mathlib.Omega.{arith}
-use borrow.Author.Needs.{needs}
 use borrow.Author.Tests.{ne-eqb}
 use Rattle.submit.specs.Submit.{periodSize, periodIn}
 use Rattle.submit.proofs.period_in.Statement.{statement}

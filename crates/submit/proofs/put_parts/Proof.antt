@@ -1,13 +1,12 @@
 -- `submit::put_parts` meets its contract: one part behind the other.
 -- Assumes nothing.
-use Prim.Native.Nat.{ℕ, _+_, _/_, _≤_}
+use Prim.Native.Nat.{ℕ, _+_}
 use mathlib.Core.Path.{_≡_}
 use mathlib.Core.List.{List, [], _∷_, _++_, append-assoc}
 use native.Mathlib.Omega.{arith}
 use borrow.Author.Needs.{needs}
 use denote.Ref.{now}
-use lib.ListN.{length}
-use Rattle.octets.proofs.Laws.{Chain, chain-start, chain-step}
+use Rattle.octets.proofs.Laws.{chain-start, chain-step}
 use Rattle.address.specs.Address.{addressOctets, octetsOr}
 use Rattle.address.proofs.Checks.{fine-size}
 use Rattle.submit.specs.Submit.{periodOctets}

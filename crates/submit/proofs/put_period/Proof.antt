@@ -1,14 +1,9 @@
 -- `submit::put_period` meets its contract: by the format.
 -- Assumes nothing.
-use Prim.Native.Nat.{ℕ, _+_, _≤_}
-use mathlib.Core.Path.{_≡_, refl, ap}
-use native.Mathlib.Nat.{add-zero}
+use mathlib.Core.Path.{refl}
 use native.Mathlib.Omega.{arith}
 use borrow.Author.Needs.{needs}
-use lib.ListN.{length}
-use denote.Ref.{now}
-use Rattle.submit.specs.declared.ValidityPeriod.{ValidityPeriod}
-use Rattle.submit.specs.Submit.{formatOf, periodSize, timeHolds}
+use Rattle.submit.specs.Submit.{periodSize}
 use Rattle.submit.proofs.put_period.Statement.{statement}
 use Rattle.submit.proofs.put_period.Tie as tie
 

@@ -1,12 +1,8 @@
 -- `submit::put_readable` meets its contract: by the coding.
 -- Assumes nothing.
-use Prim.Native.Nat.{ℕ, _+_, _*_, _/_, _≤_}
-use mathlib.Core.Path.{_≡_, refl}
 use native.Mathlib.Omega.{arith}
 use borrow.Author.Needs.{needs}
 use borrow.Author.Tests.{leb-true}
-use denote.Ref.{now}
-use lib.ListN.{length}
 use Rattle.coding.specs.Coding.{dataOctets}
 use Rattle.coding.proofs.Laws.{data-at-most}
 use Rattle.submit.specs.Submit.{inCount, readable}

@@ -1,13 +1,12 @@
 -- `submit::put_text` meets its contract: the header, and the text behind it.
 -- Assumes nothing.
-use Prim.Native.Nat.{ℕ, _+_, _-_, _*_, _/_, _≤_}
-use mathlib.Core.Path.{_≡_, refl, sym, ap, _∙_}
-use mathlib.Core.List.{List}
+use Prim.Native.Nat.{_-_, _*_, _≤_}
+use mathlib.Core.Path.{_≡_, sym}
 use native.Mathlib.Omega.{arith}
 use borrow.Author.Needs.{needs}
 use denote.Ref.{now}
 use lib.ListN.{length, take, drop}
-use lib.Seq.{length-take-le, length-sets}
+use lib.Seq.{length-take-le}
 use Rattle.octets.proofs.Laws.{chain-start, wrote-then}
 use Rattle.septets.specs.Septets.{septetsIn, headerSeptets, fillBits}
 use Rattle.text.specs.Reading.{textOf}

@@ -1,6 +1,5 @@
 -- `submit::validity_octets` meets its contract: by the format.
 -- Assumes nothing.
-use Prim.Native.Nat.{ℕ, _≤_}
 use native.Mathlib.Omega.{arith}
 use borrow.Author.Tests.{eq-eqb, ne-eqb}
 use Rattle.submit.specs.Submit.{periodSize}
