@@ -39,10 +39,6 @@ pub inside : {pi size : ℕ} {pid dcs udl : OptionalOctet} {q t : Place} (s : Li
     → parametersAnswer (readFrom (parameters pi) s (q .at)) ≡ ParametersRead.Read pid dcs udl size t → Told s (q .at) pi pid dcs udl size t × (t .at ≤ length s)
 inside {pi} {q = q} s p r o e = let told = parameters-told s (q .at) pi o e in (told, within-from (parameters pi) s (q .at) (indicator-within s p r) (told .is))
 
--- as many octets as there are between two places
-pub stored : {octets : List ℕ} (size e : ℕ) (xs : List ℕ) → size ≤ e → octets ≡ pad 255 (take (e - (e - size)) xs) → octets ≡ pad 255 (take size xs)
-stored size e xs h d = let n : e - (e - size) ≡ size = omega arith in rw n at d
-
 module _ (s : List ℕ) (p : Place) (udhi : Bool) (cause : OptionalOctet) where
   pub no-indicator : {why : Refusal} → indicatorAt s p ≡ Octet.Refused why → readFrom (rest udhi cause) s (p .at) ≡ halted OctetsEnd
   no-indicator e = indicator-ends s p e _

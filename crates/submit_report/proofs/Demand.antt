@@ -1,6 +1,6 @@
 -- Demand 3 of document 01 for the two readers of SMS-SUBMIT-REPORT and their writer.
 -- Assumes nothing.
-use Prim.Native.Nat.{ℕ, _+_, _*_, _≤_, _<_}
+use Prim.Native.Nat.{ℕ, _+_, _*_, _≤_}
 use mathlib.Core.Path.{_≡_, refl, sym, ap, _∙_}
 use mathlib.Core.Bool.{Bool, true, false, _||_}
 use mathlib.Core.List.{List, [], _∷_, _++_, append-nil}
@@ -24,7 +24,7 @@ use Rattle.layout.proofs.Demand.{Answers, Writes, Stopped, demand3, stopped-apa
 use Rattle.layout.proofs.Rewriting.{Told}
 use Rattle.layout.proofs.FirstOctet.{kept-type, kept-bit}
 use Rattle.parameters.specs.Checking.{indicatorChecks, dataChecks}
-use Rattle.parameters.specs.Line.{Parameters, parameters, parametersOctets}
+use Rattle.parameters.specs.Line.{Parameters, parameters}
 use Rattle.parameters.specs.Optional.{octetsHeld}
 use Rattle.parameters.specs.declared.OptionalOctet.{OptionalOctet}
 use Rattle.parameters.specs.declared.OptionalOctet.the-variants.{Absent, Present}

@@ -1,14 +1,14 @@
 -- The readers of SMS-SUBMIT-REPORT, field by field.
 -- Assumes nothing.
-use Prim.Native.Nat.{ℕ, _+_, _-_, _≤_, _<_}
-use mathlib.Core.Path.{_≡_, refl, sym, ap, _∙_}
-use mathlib.Core.Bool.{true, false, not, _&&_}
+use Prim.Native.Nat.{ℕ, _+_, _-_, _≤_}
+use mathlib.Core.Path.{_≡_, refl, ap, _∙_}
+use mathlib.Core.Bool.{not}
 use mathlib.Core.List.{List, [], _∷_}
 use native.Mathlib.Omega.{arith}
 use borrow.Author.Tests.{eq-eqb, ne-eqb}
 use lib.Bits.{bitAnd}
 use lib.Dec.{eqb}
-use lib.ListN.{length, getD, take, drop, length-drop}
+use lib.ListN.{length, take, drop, length-drop}
 use lib.Seq.{length-take-le}
 use Rattle.octets.specs.Arrays.{pad}
 use Rattle.octets.specs.Each.{Octets}
@@ -20,11 +20,11 @@ use Rattle.octets.specs.declared.Refusal.{Refusal}
 use Rattle.octets.specs.declared.Refusal.the-variants.{OctetsEnd, WrongMessageType}
 use Rattle.octets.specs.declared.Span.{Span}
 use Rattle.octets.proofs.Laws.{pad-full}
-use Rattle.octets.proofs.Places.{octet-read, span-there}
+use Rattle.octets.proofs.Places.{span-there}
 use Rattle.coding.specs.Coding.{dataWith}
 use Rattle.time.specs.Time.{timeDigits, timeIn}
 use Rattle.time.proofs.Laws.{length-digits}
-use Rattle.layout.specs.Layout.{any, bit, messageType, Format, one, Reached, reached, halted, readFrom, indicatorAt, stops, read}
+use Rattle.layout.specs.Layout.{any, bit, messageType, Format, one, reached, halted, readFrom, indicatorAt, stops, read}
 use Rattle.layout.proofs.FirstOctet.{kept-bit}
 use Rattle.layout.proofs.Laws.{within-from}
 use Rattle.layout.proofs.Steps.{message-goes-on, message-differs, message-ends, octet-goes-on, octet-ends, indicator-goes-on, indicator-ends, span-goes-on, span-ends, stops-by, stops-none, then-goes-on, then-ends, done-reached}
@@ -32,7 +32,7 @@ use Rattle.parameters.specs.Line.{parameters, parametersAnswer}
 use Rattle.parameters.specs.declared.OptionalOctet.{OptionalOctet}
 use Rattle.parameters.specs.declared.OptionalOctet.the-variants.{Absent, Present}
 use Rattle.parameters.specs.declared.ParametersRead.{ParametersRead}
-use Rattle.parameters.proofs.Reading.{Told, parameters-told, parameters-halted, indicator-within}
+use Rattle.parameters.proofs.Reading.{Told, parameters-told, parameters-halted}
 use Rattle.submit_report.specs.SubmitReport.{reported, rest, ackLine, errorLine, stopped, ack, error, answer}
 use Rattle.submit_report.specs.declared.SubmitReportRead.{SubmitReportRead}
 use Rattle.submit_report.specs.declared.SmsSubmitReport.{SmsSubmitReport}
@@ -47,10 +47,6 @@ time-inside s p e = let (h, a, to) = span-there s p 7 e in (omega (arith, length
 pub inside : {a pi size : ℕ} {pid dcs udl : OptionalOctet} {q t : Place} (s : List ℕ) (p : Place) → spanAt s p 7 ≡ Span.There a q → Octets s
     → parametersAnswer (readFrom (parameters pi) s (q .at)) ≡ ParametersRead.Read pid dcs udl size t → Told s (q .at) pi pid dcs udl size t × (t .at ≤ length s)
 inside {pi = pi} {q = q} s p r o e = let told = parameters-told s (q .at) pi o e in (told, within-from (parameters pi) s (q .at) (time-inside s p r .1) (told .is))
-
--- as many octets as there are between two places
-pub stored : {octets : List ℕ} (size e : ℕ) (xs : List ℕ) → size ≤ e → octets ≡ pad 255 (take (e - (e - size)) xs) → octets ≡ pad 255 (take size xs)
-stored size e xs h d = let n : e - (e - size) ≡ size = omega arith in rw n at d
 
 module _ (s : List ℕ) (p : Place) (udhi : ℕ) (cause : OptionalOctet) where
   pub no-indicator : {why : Refusal} → indicatorAt s p ≡ Octet.Refused why → readFrom (rest udhi cause) s (p .at) ≡ halted OctetsEnd

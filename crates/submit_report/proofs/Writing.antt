@@ -1,16 +1,16 @@
 -- How the writer of SMS-SUBMIT-REPORT ends.
 -- Assumes nothing.
 use Prim.Native.Nat.{ℕ, _+_, _≤_, _<_}
-use mathlib.Core.Path.{_≡_, refl, _∙_}
+use mathlib.Core.Path.{_≡_, _∙_}
 use mathlib.Core.Bool.{true, false}
-use mathlib.Core.List.{List, [], _∷_, _++_}
+use mathlib.Core.List.{List, _∷_, _++_}
 use native.Mathlib.Omega.{arith}
 use native.Mathlib.Nat.{zero-add}
 use borrow.Author.Tests.{le-leb, lt-leb}
 use lib.Dec.{leb}
 use lib.ListN.{length, length-append}
-use Rattle.octets.specs.Checks.{Check, _unless_, checked}
-use Rattle.octets.specs.Lent.{Making, made, refused, lend, Wrote}
+use Rattle.octets.specs.Checks.{Check, _unless_}
+use Rattle.octets.specs.Lent.{made, refused, lend, Wrote}
 use Rattle.octets.specs.declared.Checked.{Checked}
 use Rattle.octets.specs.declared.Refusal.{Refusal}
 use Rattle.octets.specs.declared.Refusal.the-variants.{LengthTooLarge, UdhiTooLarge, NotATime, OutputTooShort}

@@ -1,6 +1,6 @@
 -- SMS-SUBMIT-REPORT (TS 23.040 §9.2.2.2a): its two lines, its readers' answers, and what its writer makes.
 use Prim.Native.Nat.{ℕ, _+_, _*_}
-use mathlib.Core.Bool.{Bool, true, false, _&&_}
+use mathlib.Core.Bool.{_&&_}
 use mathlib.Core.List.{List, [], _∷_, _++_}
 use lib.Dec.{leb}
 use lib.ListN.{length}

@@ -3,8 +3,9 @@
 use mathlib.Core.Path.{sym, ap, _∙_}
 use native.Mathlib.Omega.{arith}
 use borrow.Author.Needs.{needs}
+use Rattle.parameters.proofs.Reading.{stored}
 use Rattle.deliver_report.specs.DeliverReport.{answer}
-use Rattle.deliver_report.proofs.Reading.{no-indicator, no-parameters, inside, stored, whole}
+use Rattle.deliver_report.proofs.Reading.{no-indicator, no-parameters, inside, whole}
 use Rattle.deliver_report.proofs.decode_rest.Statement.{statement}
 use Rattle.deliver_report.proofs.decode_rest.Tie as tie
 

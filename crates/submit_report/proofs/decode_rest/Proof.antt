@@ -1,11 +1,11 @@
 -- `submit_report::decode_rest` meets its contract: indicator, time, then parameters.
 -- Assumes nothing.
-use Prim.Native.Nat.{_≤_}
-use mathlib.Core.Path.{_≡_, sym, ap, _∙_}
+use mathlib.Core.Path.{sym, ap, _∙_}
 use native.Mathlib.Omega.{arith}
 use borrow.Author.Needs.{needs}
+use Rattle.parameters.proofs.Reading.{stored}
 use Rattle.submit_report.specs.SubmitReport.{answer}
-use Rattle.submit_report.proofs.Reading.{no-indicator, no-time, no-parameters, time-inside, inside, stored, whole}
+use Rattle.submit_report.proofs.Reading.{no-indicator, no-time, no-parameters, time-inside, inside, whole}
 use Rattle.submit_report.proofs.decode_rest.Statement.{statement}
 use Rattle.submit_report.proofs.decode_rest.Tie as tie
 

@@ -1,7 +1,6 @@
 -- `submit_report::encode_parts` meets its contract: each check that fails refuses; then the size, and the octets.
 -- Assumes nothing.
-use Prim.Native.Nat.{_≤_, _<_}
-use mathlib.Core.Path.{_≡_, sym, _∙_}
+use mathlib.Core.Path.{sym, _∙_}
 use native.Mathlib.Omega.{arith}
 use borrow.Author.Needs.{needs}
 use denote.Ref.{now}

@@ -1,6 +1,6 @@
 -- `SmsSubmitReport::decode_for_rp_ack` meets its contract: first octet, then the rest.
 -- Assumes nothing.
-use mathlib.Core.Path.{_≡_, sym, ap, _∙_}
+use mathlib.Core.Path.{sym, ap, _∙_}
 use borrow.Author.Needs.{needs}
 use Rattle.submit_report.specs.SubmitReport.{answer}
 use Rattle.submit_report.proofs.Reading.{ack-no-first, ack-other, ack-goes-on}

@@ -1,6 +1,5 @@
 -- `SmsSubmitReport::encode` meets its contract: the lengths first, then the parts.
 -- Assumes nothing.
-use Prim.Native.Nat.{_≤_}
 use mathlib.Core.Path.{_≡_, sym, _∙_}
 use native.Mathlib.Omega.{arith}
 use borrow.Author.Needs.{needs}
