@@ -12,7 +12,7 @@ use Rattle.octets.specs.declared.Refusal.{Refusal}
 use Rattle.octets.specs.declared.Refusal.the-variants.{LengthTooLarge, WrongMessageType, NotATime}
 use Rattle.octets.specs.declared.Written.{Written}
 use Rattle.coding.specs.Coding.{codingOf, dataOctets, dataChecks, dataWith, dataOf}
-use Rattle.time.specs.Time.{isTime, timeOctets, timeIn, digitsOf}
+use Rattle.time.specs.Time.{isTime, timeOctets, timeIn, digitsOf, capitals}
 use Rattle.address.specs.Address.{addressIn, addressWith, addressOctets, octetsOr, addressChecks, textHeld}
 use Rattle.layout.specs.Layout.{Format, Layout, plain, Reached, reached, halted, message, field, one, time, done, address, userData, isSet, messageType}
 use Rattle.deliver.specs.declared.SmsDeliver.{SmsDeliver}
@@ -150,4 +150,26 @@ parts r = record {
   udl = r .«tp_user_data_length»;
   dataLength = r .«tp_user_data» .length;
   userData = dataOf (r .«tp_user_data»);
+}
+
+-- the same parts with the time's letters capital: what a writer wrote reads back so (document 01, demand 2)
+abbrev pub capitalised : Parts → Parts
+capitalised p = record {
+  rp = p .rp;
+  udhi = p .udhi;
+  sri = p .sri;
+  lp = p .lp;
+  mms = p .mms;
+  mti = p .mti;
+  ton = p .ton;
+  npi = p .npi;
+  textLength = p .textLength;
+  text = p .text;
+  pid = p .pid;
+  dcs = p .dcs;
+  timeLength = p .timeLength;
+  digits = capitals (p .digits);
+  udl = p .udl;
+  dataLength = p .dataLength;
+  userData = p .userData;
 }

@@ -13,6 +13,8 @@ use Rattle.submit_report.specs.SubmitReport.{parts as submitReportParts, ack as
 use Rattle.submit_report.proofs.Demand.{ack-demand3 as submit-ack, error-demand3 as submit-error}
 use Rattle.deliver_report.specs.DeliverReport.{parts as deliverReportParts, ack as deliverReportAck, error as deliverReportError, reporting as deliverReporting}
 use Rattle.deliver_report.proofs.Demand.{ack-demand3 as deliver-ack, error-demand3 as deliver-error}
+use Rattle.status_report.specs.StatusReport.{parts as statusReportParts, statusReport, reporting as statusReporting}
+use Rattle.status_report.proofs.Demand.{status-report-demand3}
 
 -- `decode_sms_submit_tpdu`
 pub of-submit : Demand3 submitParts submit submitting false
@@ -37,3 +39,7 @@ of-deliver-report-ack = deliver-ack
 -- `SmsDeliverReport::decode_for_rp_error`
 pub of-deliver-report-error : Demand3 deliverReportParts deliverReportError deliverReporting false
 of-deliver-report-error = deliver-error
+
+-- `SmsStatusReport::decode`
+pub of-status-report : Demand3 statusReportParts statusReport statusReporting false
+of-status-report = status-report-demand3

@@ -11,7 +11,7 @@ use Rattle.octets.specs.declared.Outcome.{Outcome}
 use Rattle.octets.specs.declared.Refusal.the-variants.{LengthTooLarge, UdhiTooLarge, NotATime}
 use Rattle.octets.specs.declared.Written.{Written}
 use Rattle.coding.specs.Coding.{dataWith, dataOf}
-use Rattle.time.specs.Time.{isTime, timeOctets, timeIn, digitsOf}
+use Rattle.time.specs.Time.{isTime, timeOctets, timeIn, digitsOf, capitals}
 use Rattle.layout.specs.Layout.{indicator, bit, leading, Format, field, time, done, _then_, message, one, Reached, reached, halted, Layout, plain, stopping}
 use Rattle.parameters.specs.Checking.{indicatorChecks, dataChecks}
 use Rattle.parameters.specs.Line.{Parameters, parameters, parametersOctets}
@@ -64,6 +64,11 @@ ack = plain ackLine
 abbrev pub error : Layout SmsSubmitReport
 error = stopping 1 (0x01 ∷ 0xff ∷ 0x00 ∷ []) stopped errorLine
 
+-- the layout of a report's outcome: RP-ERROR if it holds a cause, else RP-ACK
+abbrev pub outcomeOf : OptionalOctet → Layout SmsSubmitReport
+outcomeOf Absent = ack
+outcomeOf (Present cause) = error
+
 -- what a reader answers: the blank record on a refusal
 unfoldable pub answer : Reached SmsSubmitReport → SubmitReportRead
 answer (reached r n) = record { outcome = Outcome.Done; message = r }
@@ -114,6 +119,18 @@ parts r = record {
   digits = digitsOf (r .«tp_service_centre_timestamp»);
   parameters = parametersOf r;
   dataLength = r .«tp_user_data» .length;
+}
+
+-- the parts that are read of what was written: the same, with the time's letters capital (document 01, demand 2)
+abbrev pub capitalised : Parts → Parts
+capitalised q = record {
+  udhi = q .udhi;
+  cause = q .cause;
+  indicator = q .indicator;
+  timeLength = q .timeLength;
+  digits = capitals (q .digits);
+  parameters = q .parameters;
+  dataLength = q .dataLength;
 }
 
 abbrev pub partsOctets : Parts → List ℕ

@@ -1,0 +1,196 @@
+-- What the line comes to, field by field; and the record of fields that are there.
+-- Assumes nothing.
+use Prim.Native.Nat.{ℕ, _+_, _-_, _/_, _%_, _≤_, _<_}
+use mathlib.Core.Path.{_≡_, refl, sym, _∙_}
+use mathlib.Core.List.{List}
+use native.Mathlib.Omega.{arith}
+use lib.Dec.{eqb}
+use lib.ListN.{length, take, drop, length-drop}
+use lib.Seq.{length-take-le}
+use Rattle.octets.specs.Arrays.{pad}
+use Rattle.octets.specs.Each.{Octets}
+use Rattle.octets.specs.Places.{octetAt, spanAt}
+use Rattle.octets.specs.declared.Octet.{Octet}
+use Rattle.octets.specs.declared.Outcome.{Outcome}
+use Rattle.octets.specs.declared.Place.{Place}
+use Rattle.octets.specs.declared.Refusal.{Refusal}
+use Rattle.octets.specs.declared.Refusal.the-variants.{OctetsEnd, WrongMessageType}
+use Rattle.octets.specs.declared.Span.{Span}
+use Rattle.octets.proofs.Laws.{pad-full}
+use Rattle.octets.proofs.Places.{octet-read, span-there}
+use Rattle.coding.specs.Coding.{dataWith}
+use Rattle.time.specs.Time.{timeDigits, timeIn}
+use Rattle.time.proofs.Laws.{length-digits}
+use Rattle.address.specs.Address.{addressIn, addressSize, canonicalAddress}
+use Rattle.address.specs.Parts.{fieldAt}
+use Rattle.address.specs.declared.SMSAddress.{SMSAddress}
+use Rattle.address.proofs.Laws.{canonical-reads}
+use Rattle.layout.specs.Layout.{Format, any, address, field, one, cut, kept, messageType, Reached, reached, halted, read, readFrom, indicatorAt}
+use Rattle.layout.proofs.Fields.{octets-take, octets-drop, cut-whole}
+use Rattle.layout.proofs.FirstOctet.{kept-bit}
+use Rattle.layout.proofs.Laws.{within-from}
+use Rattle.layout.proofs.Steps.{message-goes-on, message-differs, message-ends, octet-goes-on, octet-ends, span-goes-on, span-ends, address-goes-on, address-ends, indicator-goes-on, indicator-ends, end-reached, end-not-reached, then-goes-on, then-ends, done-reached}
+use Rattle.parameters.specs.Line.{Parameters, parameters, parametersAnswer}
+use Rattle.parameters.specs.declared.OptionalOctet.{OptionalOctet}
+use Rattle.parameters.specs.declared.OptionalOctet.the-variants.{Absent, Present}
+use Rattle.parameters.specs.declared.ParametersRead.{ParametersRead}
+use Rattle.parameters.proofs.Reading.{Told, parameters-told, parameters-halted, indicator-within}
+use Rattle.status_report.specs.declared.SmsStatusReport.{SmsStatusReport}
+use Rattle.status_report.specs.declared.StatusReportRead.{StatusReportRead}
+use Rattle.status_report.specs.StatusReport.{bits, reported, noParameters, behindStatus, behindAddress, line, statusReport, answer, unread}
+
+-- ---- the answer
+
+pub answer-ends : {x : Reached SmsStatusReport} {why : Refusal} → x ≡ halted why → unread why ≡ answer x
+unfolding answer
+answer-ends e = rw e
+
+pub answer-done : {x : Reached SmsStatusReport} {r q : SmsStatusReport} {n : ℕ} → x ≡ reached r n → q ≡ r → _≡_ {A = StatusReportRead} (record { outcome = Outcome.Done; message = q }) (answer x)
+unfolding answer
+answer-done e p = rw (e, p)
+
+-- ---- behind status
+
+-- the parameters, and that the place reached is inside the string
+pub inside : {pi size : ℕ} {pid dcs udl : OptionalOctet} {q t : Place} (s : List ℕ) (p : Place) → indicatorAt s p ≡ Octet.Read pi q → Octets s
+    → parametersAnswer (readFrom (parameters pi) s (q .at)) ≡ ParametersRead.Read pid dcs udl size t → Told s (q .at) pi pid dcs udl size t × (t .at ≤ length s)
+inside {pi} {q = q} s p r o e = let told = parameters-told s (q .at) pi o e in (told, within-from (parameters pi) s (q .at) (indicator-within s p r) (told .is))
+
+module _ (s : List ℕ) (make : OptionalOctet → Parameters → SmsStatusReport) (p : Place) where
+  abbrev tail : Reached SmsStatusReport
+  tail = readFrom (behindStatus make) s (p .at)
+
+  pub ended : length s ≤ p .at → tail ≡ reached (make Absent noParameters) (p .at)
+  unfolding behindStatus
+  ended h = end-reached s (p .at) _ _ h ∙ done-reached s _ _
+
+  module _ (h : p .at < length s) where
+    pub no-indicator : {why : Refusal} → indicatorAt s p ≡ Octet.Refused why → tail ≡ halted OctetsEnd
+    unfolding behindStatus
+    no-indicator e = end-not-reached s (p .at) _ _ h ∙ indicator-ends s p e _
+
+    module _ {pi : ℕ} {q : Place} (r : indicatorAt s p ≡ Octet.Read pi q) where
+      pub no-parameters : {why : Refusal} → parametersAnswer (readFrom (parameters pi) s (q .at)) ≡ ParametersRead.Refused why → tail ≡ halted why
+      unfolding behindStatus
+      no-parameters e = end-not-reached s (p .at) _ _ h ∙ indicator-goes-on s p r _ ∙ then-ends s (parameters pi) (q .at) (parameters-halted s (q .at) pi e) _
+
+      pub whole : {pid dcs udl : OptionalOctet} {size : ℕ} {t : Place} → Told s (q .at) pi pid dcs udl size t
+          → tail ≡ reached (make (Present pi) (record { pid = pid; dcs = dcs; udl = udl; ud = take size (drop (t .at - size) s) })) (t .at)
+      unfolding behindStatus
+      whole told = end-not-reached s (p .at) _ _ h ∙ indicator-goes-on s p r _ ∙ then-goes-on s (parameters pi) (q .at) (told .is) _ ∙ done-reached s _ _
+
+-- ---- the fields behind the address
+
+module _ (s : List ℕ) (f mr : ℕ) (ra : List ℕ) (p : Place) where
+  abbrev rest : Reached SmsStatusReport
+  rest = readFrom (behindAddress f mr ra) s (p .at)
+
+  pub no-time : {why : Refusal} → spanAt s p 7 ≡ Span.Refused why → rest ≡ halted OctetsEnd
+  unfolding behindAddress
+  no-time e = span-ends s p 7 e any _
+
+  module _ {scts : ℕ} {p₂ : Place} (e₁ : spanAt s p 7 ≡ Span.There scts p₂) where
+    pub no-discharge : {why : Refusal} → spanAt s p₂ 7 ≡ Span.Refused why → rest ≡ halted OctetsEnd
+    unfolding behindAddress
+    no-discharge e = span-goes-on s p 7 e₁ any _ ∙ span-ends s p₂ 7 e any _
+
+    module _ {dt : ℕ} {p₃ : Place} (e₂ : spanAt s p₂ 7 ≡ Span.There dt p₃) where
+      pub no-status : {why : Refusal} → octetAt s p₃ ≡ Octet.Refused why → rest ≡ halted OctetsEnd
+      unfolding behindAddress
+      no-status e = span-goes-on s p 7 e₁ any _ ∙ span-goes-on s p₂ 7 e₂ any _ ∙ octet-ends s p₃ e _
+
+      pub to-status : {st : ℕ} {p₄ : Place} → octetAt s p₃ ≡ Octet.Read st p₄ → readFrom (behindStatus (reported f mr ra (take 7 (drop scts s)) (take 7 (drop dt s)) st)) s (p₄ .at) ≡ rest
+      unfolding behindAddress
+      to-status e =
+          rw (span-there s p 7 e₁ .1, span-there s p₂ 7 e₂ .1)
+          (sym (span-goes-on s p 7 e₁ any _ ∙ span-goes-on s p₂ 7 e₂ any _ ∙ octet-goes-on s p₃ e _))
+
+-- a span that is there lies in the string, and so does the place behind it
+pub span-inside : (s : List ℕ) (p q : Place) (n a : ℕ) → spanAt s p n ≡ Span.There a q → p .at ≤ length s → (a + n ≤ length s) × (q .at ≤ length s)
+span-inside s p q n a e h = let t = span-there s p n e in (omega (arith, t .0, t .1, length-drop (p .at) s), omega (arith, t .0, t .2, length-drop (p .at) s))
+
+-- ---- the first octet, the reference and the address
+
+module _ (s : List ℕ) where
+  abbrev start : Place
+  start = record { at = 0 }
+
+  abbrev behindFirst : ℕ → Format SmsStatusReport
+  behindFirst f = one λ mr. field address λ ra. behindAddress f mr ra
+
+  pub no-first : {why : Refusal} → octetAt s start ≡ Octet.Refused why → read statusReport s ≡ halted OctetsEnd
+  unfolding read line
+  no-first e = message-ends s start e 2 bits behindFirst
+
+  module _ {b : ℕ} {p : Place} (e : octetAt s start ≡ Octet.Read b p) where
+    pub other-type : (messageType b ≡ 2 → ⊥) → read statusReport s ≡ halted WrongMessageType
+    unfolding read line
+    other-type d = message-differs s start e 2 bits refl behindFirst d
+
+    module _ (m : messageType b ≡ 2) where
+      pub no-reference : {why : Refusal} → octetAt s p ≡ Octet.Refused why → read statusReport s ≡ halted OctetsEnd
+      unfolding read line
+      no-reference d = message-goes-on s start e 2 bits refl behindFirst m ∙ octet-ends s p d _
+
+      module _ {mr : ℕ} {p₂ : Place} (e₂ : octetAt s p ≡ Octet.Read mr p₂) where
+        pub no-address : {why : Refusal} → fieldAt s p₂ ≡ Span.Refused why → read statusReport s ≡ halted OctetsEnd
+        unfolding read line
+        no-address d = message-goes-on s start e 2 bits refl behindFirst m ∙ octet-goes-on s p e₂ _ ∙ address-ends s p₂ d (behindAddress (kept bits b) mr)
+
+        pub to-address : {ra : ℕ} {q : Place} → fieldAt s p₂ ≡ Span.There ra q
+            → (ra + addressSize (drop ra s) ≤ length s) × (q .at ≤ length s) × (read statusReport s ≡ readFrom (behindAddress (kept bits b) mr (canonicalAddress (cut address (drop ra s)))) s (q .at))
+        unfolding read line fieldAt spanAt
+        to-address {ra} {q} d =
+            let (whole, at, to) = span-there s p₂ _ d in
+            let room : ra + addressSize (drop ra s) ≤ length s = rw at (omega (arith, whole, length-drop (p₂ .at) s, octet-read s p e₂)) in
+            let past : q .at ≤ length s = omega (arith, to, whole, length-drop (p₂ .at) s, octet-read s p e₂) in
+            (room, past, message-goes-on s start e 2 bits refl behindFirst m ∙ octet-goes-on s p e₂ _ ∙ address-goes-on s p₂ d (behindAddress (kept bits b) mr) ∙ rw (sym at))
+
+-- ---- the record
+
+pub message-is : (s : List ℕ) → Octets s → (first mr ra scts dt st : ℕ) (pi pid dcs udl : OptionalOctet) (ud n : ℕ) → ra + addressSize (drop ra s) ≤ length s → scts + 7 ≤ length s → dt + 7 ≤ length s → ud + n ≤ length s
+    → (a : SMSAddress) → a ≡ addressIn (take (addressSize (drop ra s)) (drop ra s)) → (ds : List ℕ) → ds ≡ timeDigits (take 7 (drop scts s)) → (es : List ℕ) → es ≡ timeDigits (take 7 (drop dt s))
+    → (xs : List ℕ) → xs ≡ pad 255 (take (ud + n - ud) (drop ud s))
+    → _≡_ {A = SmsStatusReport} (record {
+      «tp_udhi» = eqb (first / 64 % 2) 1;
+      «tp_srq» = eqb (first / 32 % 2) 1;
+      «tp_lp» = eqb (first / 8 % 2) 1;
+      «tp_mms» = eqb (first / 4 % 2) 1;
+      «tp_mr» = mr;
+      «tp_recipient_address» = a;
+      «tp_service_centre_timestamp» = record { digits = ds; length = 14 };
+      «tp_discharge_time» = record { digits = es; length = 14 };
+      «tp_status» = st;
+      «tp_parameter_indicator» = pi;
+      «tp_pid» = pid;
+      «tp_dcs» = dcs;
+      «tp_user_data_length» = udl;
+      «tp_user_data» = record { octets = xs; length = n };
+    })
+    (reported (kept bits first) mr (canonicalAddress (cut address (drop ra s))) (take 7 (drop scts s)) (take 7 (drop dt s)) st pi (record { pid = pid; dcs = dcs; udl = udl; ud = take n (drop ud s) }))
+unfolding reported timeIn dataWith
+message-is s o first mr ra scts dt st pi pid dcs udl ud n wa wt wu wd a ea ds ed es ee xs ex =
+    let whole = cut-whole address (drop ra s) (rw length-drop (omega arith)) in
+    let octets = octets-take (addressSize (drop ra s)) (drop ra s) (octets-drop ra s o) in
+    let same = canonical-reads (cut address (drop ra s)) (record { octets = octets; whole = whole }) in
+    let seven : length (timeDigits (take 7 (drop scts s))) ≡ 14 = length-digits _ ∙ rw (length-take-le 7 (drop scts s) (rw length-drop (omega arith))) in
+    let again : length (timeDigits (take 7 (drop dt s))) ≡ 14 = length-digits _ ∙ rw (length-take-le 7 (drop dt s) (rw length-drop (omega arith))) in
+    let many : ud + n - ud ≡ n = omega arith in
+    let size : length (take n (drop ud s)) ≡ n = length-take-le n (drop ud s) (rw length-drop (omega arith)) in
+    rw (
+      kept-bit bits refl 6 refl first,
+      kept-bit bits refl 5 refl first,
+      kept-bit bits refl 3 refl first,
+      kept-bit bits refl 2 refl first,
+      same,
+      ea,
+      ed,
+      ee,
+      ex,
+      many,
+      seven,
+      again,
+      size,
+      pad-full 14 (timeDigits (take 7 (drop scts s))) seven,
+      pad-full 14 (timeDigits (take 7 (drop dt s))) again,
+    )

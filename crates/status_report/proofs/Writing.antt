@@ -1,0 +1,143 @@
+-- What the writer makes, check by check.
+-- Assumes nothing.
+use Prim.Native.Nat.{ℕ, _+_, _/_, _≤_, _<_}
+use mathlib.Core.Path.{_≡_, refl, sym, ap, _∙_}
+use mathlib.Core.Bool.{Bool, true, false}
+use mathlib.Core.List.{List}
+use native.Mathlib.Omega.{arith}
+use native.Mathlib.Nat.{zero-add}
+use borrow.Author.Tests.{eq-eqb, ne-eqb, lt-ltb, le-ltb}
+use lib.ListN.{length, length-append}
+use lib.Seq.{length-sets}
+use Rattle.octets.specs.Checks.{checked}
+use Rattle.octets.specs.Lent.{Making, refused, made, lend, Wrote}
+use Rattle.octets.specs.declared.Checked.{Checked}
+use Rattle.octets.specs.declared.Refusal.{Refusal}
+use Rattle.octets.specs.declared.Refusal.the-variants.{LengthTooLarge, ParametersWithoutIndicator, OutputTooShort}
+use Rattle.octets.specs.declared.Written.{Written}
+use Rattle.octets.proofs.Laws.{lent-refused, lent-short, lent-done}
+use Rattle.time.specs.Time.{isTime, timeOctets, digitsOf}
+use Rattle.time.proofs.Laws.{length-octets, time-means}
+use Rattle.address.specs.declared.AddressCheck.{AddressCheck}
+use Rattle.address.specs.Address.{addressMaking, textHeld}
+use Rattle.address.specs.Parts.{checkOf}
+use Rattle.address.proofs.Checks.{afterCheck, address-checked, fine-size}
+use Rattle.parameters.specs.Checking.{found, indicatorChecks, dataChecks}
+use Rattle.parameters.specs.Line.{Parameters, parametersOctets}
+use Rattle.parameters.specs.Optional.{held}
+use Rattle.parameters.specs.declared.OptionalOctet.{OptionalOctet}
+use Rattle.parameters.specs.declared.OptionalOctet.the-variants.{Absent, Present}
+use Rattle.parameters.proofs.Checking.{passed, against, all-passed, one-against}
+use Rattle.status_report.specs.StatusReport.{octetsIn, optionalChecks, checksBehind, making, firstOf, parametersOf, reporting}
+use Rattle.status_report.specs.declared.SmsStatusReport.{SmsStatusReport}
+
+-- ---- indicator, parameters and user data
+
+module _ (p : Parameters) where
+  octets-count : length (parametersOctets p) ≡ held (p .pid) + held (p .dcs) + held (p .udl) + length (p .ud)
+  octets-count = simp length-append (omega arith)
+
+  module _ {n : ℕ} (e : n ≡ held (p .pid) + held (p .dcs) + held (p .udl) + length (p .ud)) where
+    pub none-against : (n ≡ 0 → ⊥) → Checked.Against ParametersWithoutIndicator ≡ found (optionalChecks Absent p)
+    unfolding optionalChecks
+    none-against h = rw (octets-count, ← e, ne-eqb n 0 h)
+
+    pub none-fine : n ≡ 0 → Checked.Fine ≡ found (optionalChecks Absent p)
+    unfolding optionalChecks
+    none-fine h = rw (octets-count, ← e, eq-eqb n 0 h)
+
+  module _ (i : ℕ) where
+    pub indicator-against : {why : Refusal} → found (indicatorChecks i (p .pid) (p .dcs) (p .udl)) ≡ Checked.Against why → Checked.Against why ≡ found (optionalChecks (Present i) p)
+    unfolding optionalChecks
+    indicator-against e = sym (against _ (indicatorChecks i (p .pid) (p .dcs) (p .udl)) e)
+
+    pub indicator-fine : found (indicatorChecks i (p .pid) (p .dcs) (p .udl)) ≡ Checked.Fine → found (dataChecks (p .dcs) (p .udl) (length (p .ud))) ≡ found (optionalChecks (Present i) p)
+    unfolding optionalChecks
+    indicator-fine e = sym (passed _ (indicatorChecks i (p .pid) (p .dcs) (p .udl)) e)
+
+-- ---- sizes
+
+pub kept-length : {at next : ℕ} {xs l after : List ℕ} → Wrote at xs l next after → length after ≡ length l
+kept-length {at} {xs = xs} {l} w = ap length (w .list) ∙ length-sets l at xs
+
+pub time-size : (digits : List ℕ) → isTime digits ≡ true → length (timeOctets digits) ≡ 7
+time-size digits t = length-octets digits ∙ rw (time-means digits .0 t .0)
+
+-- ---- both times passed
+
+module _ (scts dt : List ℕ) (pi : OptionalOctet) (p : Parameters) where
+  pub times-are : found (checksBehind scts dt pi p) ≡ Checked.Fine → (isTime scts ≡ true) × (isTime dt ≡ true)
+  times-are e = by (isTime scts) refl (isTime dt) refl
+    where
+      by : (a : Bool) → isTime scts ≡ a → (b : Bool) → isTime dt ≡ b → (isTime scts ≡ true) × (isTime dt ≡ true)
+      by true x true y = (x, y)
+      by true x false y = let f = rw (x, y) at e in let z : _≡_ {A = ℕ} 0 1 = cc in absurd (omega arith)
+      by false x b y = let f = rw x at e in let z : _≡_ {A = ℕ} 0 1 = cc in absurd (omega arith)
+
+-- ---- all parts
+
+module _ (first mr ton npi : ℕ) (text scts dt : List ℕ) (st : ℕ) (pi : OptionalOctet) (p : Parameters) (l : List ℕ) where
+  abbrev all : Making Written
+  all = making first mr ton npi text scts dt st pi p
+
+  abbrev octets : List ℕ
+  octets = octetsIn first mr ton npi text scts dt st pi p
+
+  abbrev lent : Written × List ℕ
+  lent = lend Written.Refused all l
+
+  by-address : all ≡ afterCheck (checkOf (addressMaking ton npi text)) (checked (checksBehind scts dt pi p) octets)
+  unfolding making
+  by-address = address-checked ton npi text (checksBehind scts dt pi p) octets
+
+  pub address-against : {why : Refusal} → checkOf (addressMaking ton npi text) ≡ AddressCheck.Refused why → _≡_ {A = Written × List ℕ} (Written.Refused why, l) lent
+  address-against {why} e = lent-refused Written.Refused l why (by-address ∙ rw e)
+
+  module _ {n : ℕ} (fine : checkOf (addressMaking ton npi text) ≡ AddressCheck.Fine n) where
+    pub rest-against : {why : Refusal} → found (checksBehind scts dt pi p) ≡ Checked.Against why → _≡_ {A = Written × List ℕ} (Written.Refused why, l) lent
+    rest-against {why} e = lent-refused Written.Refused l why (by-address ∙ rw fine (one-against octets (checksBehind scts dt pi p) e))
+
+    module _ (passes : found (checksBehind scts dt pi p) ≡ Checked.Fine) where
+      all-made : all ≡ made octets (Written.Done (length octets))
+      all-made = by-address ∙ rw fine (all-passed octets (checksBehind scts dt pi p) passes)
+
+      pub all-size : length octets ≡ 19 + (n + 1) / 2 + held pi + (held (p .pid) + held (p .dcs) + held (p .udl) + length (p .ud))
+      all-size =
+          let a = fine-size ton npi text n fine in
+          let (s, d) = times-are scts dt pi p passes in
+          let m = time-size scts s in
+          let k = time-size dt d in
+          simp length-append (omega arith)
+
+      pub short : length l < 19 + (n + 1) / 2 + held pi + (held (p .pid) + held (p .dcs) + held (p .udl) + length (p .ud)) → _≡_ {A = Written × List ℕ} (Written.Refused OutputTooShort, l) lent
+      short h = lent-short Written.Refused l all-made (rw all-size h)
+
+      pub written : {m : ℕ} {l′ : List ℕ} → 19 + (n + 1) / 2 + held pi + (held (p .pid) + held (p .dcs) + held (p .udl) + length (p .ud)) ≤ length l → Wrote 0 octets l m l′ → _≡_ {A = Written × List ℕ} (Written.Done m, l′) lent
+      written h w = rw (w .place, zero-add) (lent-done Written.Refused l all-made (rw all-size h) (w .list))
+
+-- ---- a record: its lengths, then its parts
+
+module _ (r : SmsStatusReport) where
+  pub address-long : 290 < r .«tp_recipient_address» .«address_length» → reporting r ≡ refused LengthTooLarge
+  unfolding reporting
+  address-long h = rw (lt-ltb 290 _ h)
+
+  module _ (a : r .«tp_recipient_address» .«address_length» ≤ 290) where
+    pub time-long : 14 < r .«tp_service_centre_timestamp» .length → reporting r ≡ refused LengthTooLarge
+    unfolding reporting
+    time-long h = rw (le-ltb 290 _ a, lt-ltb 14 _ h)
+
+    module _ (t : r .«tp_service_centre_timestamp» .length ≤ 14) where
+      pub discharge-long : 14 < r .«tp_discharge_time» .length → reporting r ≡ refused LengthTooLarge
+      unfolding reporting
+      discharge-long h = rw (le-ltb 290 _ a, le-ltb 14 _ t, lt-ltb 14 _ h)
+
+      module _ (d : r .«tp_discharge_time» .length ≤ 14) where
+        pub data-long : 255 < r .«tp_user_data» .length → reporting r ≡ refused LengthTooLarge
+        unfolding reporting
+        data-long h = rw (le-ltb 290 _ a, le-ltb 14 (r .«tp_service_centre_timestamp» .length) t, le-ltb 14 (r .«tp_discharge_time» .length) d, lt-ltb 255 _ h)
+
+        pub by-parts : r .«tp_user_data» .length ≤ 255
+            → reporting r ≡ making (firstOf r) (r .«tp_mr») (r .«tp_recipient_address» .ton) (r .«tp_recipient_address» .npi) (textHeld (r .«tp_recipient_address»)) (digitsOf (r .«tp_service_centre_timestamp»)) (digitsOf (r .«tp_discharge_time»)) (r .«tp_status») (r .«tp_parameter_indicator») (parametersOf r)
+        unfolding reporting
+        by-parts h = rw (le-ltb 290 _ a, le-ltb 14 (r .«tp_service_centre_timestamp» .length) t, le-ltb 14 (r .«tp_discharge_time» .length) d, le-ltb 255 _ h)

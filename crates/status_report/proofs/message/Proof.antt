@@ -1,0 +1,28 @@
+-- `status_report::message` meets its contract.
+-- Assumes nothing.
+use borrow.Author.Needs.{needs}
+use denote.Ref.{now}
+use Rattle.status_report.proofs.Reading.{message-is}
+use Rattle.status_report.proofs.message.Statement.{statement}
+use Rattle.status_report.proofs.message.Tie as tie
+
+returns : tie.Need-returns
+returns c =
+    let a = c .before .before .before .before .before .before .args in
+    let p = c .before .before .before .before .before .before .pre in
+    message-is (now (a .«data»)) (λ i. c .before .before .before .before .before .shared-slice-known .given i .fits) (a .first) (a .mr) (a .ra) (a .scts) (a .dt) (a .status) (a .indicator) (a .pid) (a .dcs) (a .udl) (a .ud) (a .n) (p .0) (p .1) (p .2) (p .3)
+    _ (c .before .before .before .before .decode .ensures) _ (c .before .before .before .decode-time .ensures) _ (c .before .before .decode-time2 .ensures) _ (c .stored-octets .ensures)
+
+pub message-spec : {M : Type 1} → statement M
+message-spec =
+    tie.close
+    (tie.spec
+    (λ c κs. c .before .pre .0)
+    (λ c κs. c .before .before .pre .1)
+    (λ c κs. c .before .before .before .pre .2)
+    (λ c. search needs)
+    (λ c. search needs)
+    (λ c. search needs)
+    (λ c. search needs)
+    (λ c κs. search needs)
+    returns)

@@ -1,0 +1,183 @@
+-- SMS-STATUS-REPORT (TS 23.040 §9.2.2.3): its line, its reader's answer, and what its writer makes.
+use Prim.Native.Nat.{ℕ, _+_}
+use mathlib.Core.Bool.{Bool, true, false, _||_}
+use mathlib.Core.List.{List, [], _∷_, _++_}
+use lib.Dec.{eqb, ltb}
+use lib.ListN.{length}
+use Rattle.octets.specs.Choice.{if_then_else_}
+use Rattle.octets.specs.Checks.{Check, _unless_, checked}
+use Rattle.octets.specs.Lent.{Making, refused}
+use Rattle.octets.specs.declared.Outcome.{Outcome}
+use Rattle.octets.specs.declared.Refusal.{Refusal}
+use Rattle.octets.specs.declared.Refusal.the-variants.{LengthTooLarge, NotATime, ParametersWithoutIndicator}
+use Rattle.octets.specs.declared.Written.{Written}
+use Rattle.coding.specs.Coding.{dataWith, dataOf}
+use Rattle.time.specs.Time.{isTime, timeOctets, timeIn, digitsOf}
+use Rattle.address.specs.Address.{addressIn, addressWith, addressOctets, octetsOr, addressChecks, textHeld}
+use Rattle.layout.specs.Layout.{isSet, leading, Format, field, endOr, done, _then_, message, one, time, address, Reached, reached, halted, Layout, plain}
+use Rattle.parameters.specs.Checking.{indicatorChecks, dataChecks}
+use Rattle.parameters.specs.Line.{Parameters, parameters, parametersOctets}
+use Rattle.parameters.specs.Optional.{octetsHeld}
+use Rattle.parameters.specs.declared.OptionalOctet.{OptionalOctet}
+use Rattle.parameters.specs.declared.OptionalOctet.the-variants.{Absent, Present}
+use Rattle.status_report.specs.declared.SmsStatusReport.{SmsStatusReport}
+use Rattle.status_report.specs.declared.StatusReportRead.{StatusReportRead}
+
+-- ---- reading
+
+-- the record that the fields make: first octet, reference, recipient, the two times, status; indicator, parameters
+unfoldable pub reported : ℕ → ℕ → List ℕ → List ℕ → List ℕ → ℕ → OptionalOctet → Parameters → SmsStatusReport
+reported f mr ra scts dt st pi p = record {
+  «tp_udhi» = isSet 6 f;
+  «tp_srq» = isSet 5 f;
+  «tp_lp» = isSet 3 f;
+  «tp_mms» = isSet 2 f;
+  «tp_mr» = mr;
+  «tp_recipient_address» = addressIn ra;
+  «tp_service_centre_timestamp» = timeIn scts;
+  «tp_discharge_time» = timeIn dt;
+  «tp_status» = st;
+  «tp_parameter_indicator» = pi;
+  «tp_pid» = p .pid;
+  «tp_dcs» = p .dcs;
+  «tp_user_data_length» = p .udl;
+  «tp_user_data» = dataWith (p .ud);
+}
+
+abbrev pub noParameters : Parameters
+noParameters = record { pid = Absent; dcs = Absent; udl = Absent; ud = [] }
+
+-- UDHI 6, SRQ 5, LP 3, MMS 2
+abbrev pub bits : List ℕ
+bits = 6 ∷ 5 ∷ 3 ∷ 2 ∷ []
+
+-- behind status: the end, with no indicator; or indicator and parameters (§9.2.3.27)
+unfoldable pub behindStatus : (OptionalOctet → Parameters → SmsStatusReport) → Format SmsStatusReport
+behindStatus make = endOr (done (make Absent noParameters)) λ i. parameters (leading i) then λ p. done (make (Present (leading i)) p)
+
+-- the line: MTI 2 and those bits; reference, recipient, service centre time stamp, discharge time, status
+unfoldable pub behindAddress : ℕ → ℕ → List ℕ → Format SmsStatusReport
+behindAddress f mr ra = time λ scts. time λ dt. one λ st. behindStatus (reported f mr ra scts dt st)
+
+unfoldable pub line : Format SmsStatusReport
+line = message 2 bits λ f. one λ mr. field address λ ra. behindAddress f mr ra
+
+abbrev pub statusReport : Layout SmsStatusReport
+statusReport = plain line
+
+-- the blank record
+unfoldable pub blank : SmsStatusReport
+blank = record {
+  «tp_udhi» = false;
+  «tp_srq» = false;
+  «tp_lp» = false;
+  «tp_mms» = false;
+  «tp_mr» = 0;
+  «tp_recipient_address» = addressWith 0 0 [];
+  «tp_service_centre_timestamp» = timeIn [];
+  «tp_discharge_time» = timeIn [];
+  «tp_status» = 0;
+  «tp_parameter_indicator» = Absent;
+  «tp_pid» = Absent;
+  «tp_dcs» = Absent;
+  «tp_user_data_length» = Absent;
+  «tp_user_data» = dataWith [];
+}
+
+unfoldable pub unread : Refusal → StatusReportRead
+unread r = record { outcome = Outcome.Refused r; message = blank }
+
+-- what the reader answers
+unfoldable pub answer : Reached SmsStatusReport → StatusReportRead
+answer (reached r n) = record { outcome = Outcome.Done; message = r }
+answer (halted why) = unread why
+
+-- ---- writing
+
+-- the octets of the parts, in the line's order
+abbrev pub octetsBehind : List ℕ → List ℕ → ℕ → OptionalOctet → Parameters → List ℕ
+octetsBehind scts dt st pi p = timeOctets scts ++ (timeOctets dt ++ (st ∷ (octetsHeld pi ++ parametersOctets p)))
+
+abbrev pub octetsIn : ℕ → ℕ → ℕ → ℕ → List ℕ → List ℕ → List ℕ → ℕ → OptionalOctet → Parameters → List ℕ
+octetsIn first mr ton npi text scts dt st pi p = first ∷ mr ∷ (octetsOr [] (addressOctets ton npi text) ++ octetsBehind scts dt st pi p)
+
+-- with an indicator 13, 14, 7, 8, 15; without one 16: neither parameters nor user data are held
+unfoldable pub optionalChecks : OptionalOctet → Parameters → List Check
+optionalChecks (Present i) p = indicatorChecks i (p .pid) (p .dcs) (p .udl) ++ dataChecks (p .dcs) (p .udl) (length (p .ud))
+optionalChecks Absent p = (ParametersWithoutIndicator unless eqb (length (parametersOctets p)) 0) ∷ []
+
+-- behind the address: 12 of either time, then those
+abbrev pub checksBehind : List ℕ → List ℕ → OptionalOctet → Parameters → List Check
+checksBehind scts dt pi p = (NotATime unless isTime scts) ∷ (NotATime unless isTime dt) ∷ optionalChecks pi p
+
+-- what a writer makes of the parts: first octet, reference, address, the two times, status, indicator, parameters
+unfoldable pub making : ℕ → ℕ → ℕ → ℕ → List ℕ → List ℕ → List ℕ → ℕ → OptionalOctet → Parameters → Making Written
+making first mr ton npi text scts dt st pi p = checked (addressChecks ton npi text ++ checksBehind scts dt pi p) (octetsIn first mr ton npi text scts dt st pi p)
+
+-- a flag as a bit of an octet
+abbrev pub flag : Bool → ℕ → ℕ
+flag true weight = weight
+flag false weight = 0
+
+-- MTI 2; UDHI bit 6, SRQ 5, LP 3, MMS 2
+abbrev pub firstOf : SmsStatusReport → ℕ
+firstOf r = 2 + flag (r .«tp_udhi») 64 + flag (r .«tp_srq») 32 + flag (r .«tp_lp») 8 + flag (r .«tp_mms») 4
+
+-- a length of the record passes its array
+abbrev pub tooLong : SmsStatusReport → Bool
+tooLong r =
+    ltb 290 (r .«tp_recipient_address» .«address_length») || (ltb 14 (r .«tp_service_centre_timestamp» .length) || (ltb 14 (r .«tp_discharge_time» .length) || ltb 255 (r .«tp_user_data» .length)))
+
+-- the parameters of a record
+abbrev pub parametersOf : SmsStatusReport → Parameters
+parametersOf r = record { pid = r .«tp_pid»; dcs = r .«tp_dcs»; udl = r .«tp_user_data_length»; ud = dataOf (r .«tp_user_data») }
+
+-- what the writer makes of a record
+unfoldable pub reporting : SmsStatusReport → Making Written
+reporting r =
+    if tooLong r then refused LengthTooLarge
+    else
+    making (firstOf r) (r .«tp_mr») (r .«tp_recipient_address» .ton) (r .«tp_recipient_address» .npi) (textHeld (r .«tp_recipient_address»)) (digitsOf (r .«tp_service_centre_timestamp»)) (digitsOf (r .«tp_discharge_time»))
+    (r .«tp_status») (r .«tp_parameter_indicator») (parametersOf r)
+
+-- ---- the parts of a record: what lies behind a length is none
+
+pub record Parts : Type 0 where
+  pub udhi : Bool
+  pub srq : Bool
+  pub lp : Bool
+  pub mms : Bool
+  pub mr : ℕ
+  pub ton : ℕ
+  pub npi : ℕ
+  pub textLength : ℕ
+  pub text : List ℕ
+  pub timeLength : ℕ
+  pub digits : List ℕ
+  pub dischargeLength : ℕ
+  pub discharge : List ℕ
+  pub status : ℕ
+  pub indicator : OptionalOctet
+  pub parameters : Parameters
+  pub dataLength : ℕ
+
+abbrev pub parts : SmsStatusReport → Parts
+parts r = record {
+  udhi = r .«tp_udhi»;
+  srq = r .«tp_srq»;
+  lp = r .«tp_lp»;
+  mms = r .«tp_mms»;
+  mr = r .«tp_mr»;
+  ton = r .«tp_recipient_address» .ton;
+  npi = r .«tp_recipient_address» .npi;
+  textLength = r .«tp_recipient_address» .«address_length»;
+  text = textHeld (r .«tp_recipient_address»);
+  timeLength = r .«tp_service_centre_timestamp» .length;
+  digits = digitsOf (r .«tp_service_centre_timestamp»);
+  dischargeLength = r .«tp_discharge_time» .length;
+  discharge = digitsOf (r .«tp_discharge_time»);
+  status = r .«tp_status»;
+  indicator = r .«tp_parameter_indicator»;
+  parameters = parametersOf r;
+  dataLength = r .«tp_user_data» .length;
+}

@@ -1,0 +1,128 @@
+-- Demand 2 of document 01 for SMS-SUBMIT-REPORT: what was written is read back by the reader of its outcome, with the same parts but for the time's letters, which are capital.
+-- Assumes nothing.
+use Prim.Native.Nat.{ℕ, zero, suc, _+_, _≤_}
+use mathlib.Core.Path.{_≡_, refl, sym, ap, _∙_}
+use mathlib.Core.Bool.{Bool, true, false, _&&_}
+use mathlib.Core.List.{List, [], _∷_, _++_, append-nil}
+use native.Mathlib.Omega.{arith}
+use borrow.Author.Tests.{leb-true}
+use lib.Dec.{leb}
+use lib.ListN.{length, drop, length-append}
+use lib.Seq.{length-take-le, drop-drop, take-at, drop-at}
+use Rattle.octets.specs.Checks.{_unless_}
+use Rattle.octets.specs.Choice.{if_then_else_}
+use Rattle.octets.specs.Lent.{Making, made, refused}
+use Rattle.octets.specs.declared.Checked.{Checked}
+use Rattle.octets.specs.declared.Refusal.{Refusal}
+use Rattle.octets.specs.declared.Refusal.the-variants.{LengthTooLarge, UdhiTooLarge, NotATime}
+use Rattle.octets.specs.declared.Written.{Written}
+use Rattle.octets.proofs.Laws.{take-pad}
+use Rattle.coding.specs.Coding.{dataWith, dataOf}
+use Rattle.time.specs.Time.{isTime, timeDigits, timeOctets, timeIn, digitsOf}
+use Rattle.time.proofs.Laws.{time-means, length-digits, digits-back}
+use Rattle.layout.specs.Layout.{octets, any, Format, time, reached, reading, readFrom, read}
+use Rattle.layout.proofs.Laws.{goes-on}
+use Rattle.layout.proofs.Steps.{then-goes-on, done-reached}
+use Rattle.parameters.specs.Checking.{found, indicatorChecks, dataChecks}
+use Rattle.parameters.specs.Line.{Parameters, parameters, parametersOctets}
+use Rattle.parameters.specs.Optional.{held}
+use Rattle.parameters.specs.declared.OptionalOctet.{OptionalOctet}
+use Rattle.parameters.specs.declared.OptionalOctet.the-variants.{Absent, Present}
+use Rattle.parameters.proofs.Back.{holds, both-hold, made-told, data-limit, octet-here, indicator-here, not-extended, parameters-back}
+use Rattle.parameters.proofs.Made.{one-at-most}
+use Rattle.submit_report.specs.SubmitReport.{reported, rest, outcomeOf, octetsIn, making, parametersOf, reporting, Parts, parts, capitalised}
+use Rattle.submit_report.specs.declared.SmsSubmitReport.{SmsSubmitReport}
+use Rattle.submit_report.proofs.Writing.{time-size, size-is}
+use Rattle.submit_report.proofs.Reading.{ack-goes-on, error-goes-on}
+
+-- ---- the octets of parts that pass the checks
+
+-- a time that stands at a place
+time-here : {R : Type 0} (s : List ℕ) (at : ℕ) (t more : List ℕ) → drop at s ≡ t ++ more → length t ≡ 7 → (next : List ℕ → Format R) → readFrom (time next) s at ≡ readFrom (next t) s (at + 7)
+unfolding readFrom reading
+time-here s at t more e n next = goes-on _ (octets any 7) (drop at s) at (omega (arith, ap length e, length-append t more)) ∙ rw (drop-drop 7 at s, e, take-at t more 7 n)
+
+module _ (pi : ℕ) (digits : List ℕ) (w : isTime digits ≡ true) (p : Parameters) (i : found (indicatorChecks pi (p .pid) (p .dcs) (p .udl)) ≡ Checked.Fine) (d : found (dataChecks (p .dcs) (p .udl) (length (p .ud))) ≡ Checked.Fine) where
+  rest-back : (udhi : ℕ) (cause : OptionalOctet) (s : List ℕ) (at : ℕ) → drop at s ≡ pi ∷ (timeOctets digits ++ parametersOctets p)
+      → readFrom (rest udhi cause) s at ≡ reached (reported udhi cause pi (timeOctets digits) p) (at + 1 + 7 + held (p .pid) + held (p .dcs) + held (p .udl) + length (p .ud))
+  unfolding readFrom
+  rest-back udhi cause s at e =
+      let seven = time-size digits w in
+      let t : drop (at + 1) s ≡ timeOctets digits ++ parametersOctets p = sym (drop-drop 1 at s) ∙ ap (drop 1) e in
+      let u : drop (at + 1 + 7) s ≡ parametersOctets p ++ [] = sym (drop-drop 7 (at + 1) s) ∙ ap (drop 7) t ∙ drop-at (timeOctets digits) (parametersOctets p) 7 seven ∙ sym (append-nil (parametersOctets p)) in
+      let q : readFrom (parameters pi) s (at + 1 + 7) ≡ reached p (at + 1 + 7 + held (p .pid) + held (p .dcs) + held (p .udl) + length (p .ud)) = ap (λ (l : List ℕ). reading (parameters pi) l (at + 1 + 7)) u ∙ parameters-back pi p [] (at + 1 + 7) i d in
+      indicator-here s at e _ (not-extended pi p [] 0 i d) ∙ time-here s (at + 1) (timeOctets digits) (parametersOctets p) t seven _ ∙ then-goes-on s (parameters pi) (at + 1 + 7) q _ ∙ done-reached s _ _
+
+  back : (udhi : ℕ) → udhi ≤ 1 → (cause : OptionalOctet) → (n : ℕ) × (read (outcomeOf cause) (octetsIn udhi cause pi digits p) ≡ reached (reported udhi cause pi (timeOctets digits) p) n)
+  back zero h Absent = (_, ack-goes-on (octetsIn 0 Absent pi digits p) (octet-here _ 0 refl) refl ∙ rest-back 0 Absent _ 1 refl)
+  back (suc zero) h Absent = (_, ack-goes-on (octetsIn 1 Absent pi digits p) (octet-here _ 0 refl) refl ∙ rest-back 1 Absent _ 1 refl)
+  back zero h (Present x) = (_, error-goes-on (octetsIn 0 (Present x) pi digits p) (octet-here _ 0 refl) refl refl (octet-here _ 1 refl) ∙ rest-back 0 (Present x) _ 2 refl)
+  back (suc zero) h (Present x) = (_, error-goes-on (octetsIn 1 (Present x) pi digits p) (octet-here _ 0 refl) refl refl (octet-here _ 1 refl) ∙ rest-back 1 (Present x) _ 2 refl)
+  back (suc (suc udhi)) h cause = absurd (omega arith)
+
+-- ---- a record
+
+-- what was made passed both tests of check 1
+both-fit : {os : List ℕ} {answer : Written} (a b : Bool) (why : Refusal) (m : Making Written) → (if a && b then m else refused why) ≡ made os answer → (a ≡ true) × (b ≡ true) × (m ≡ made os answer)
+both-fit true true why m e = (refl, refl, e)
+both-fit true false why m e = let z : _≡_ {A = ℕ} 0 1 = cc in absurd (omega arith)
+both-fit false b why m e = let z : _≡_ {A = ℕ} 0 1 = cc in absurd (omega arith)
+
+-- what a written record's octets are, and the checks that it passed
+record Passed (r : SmsSubmitReport) (os : List ℕ) : Type 0 where
+  pub is : octetsIn (r .«tp_udhi») (r .«tp_failure_cause») (r .«tp_parameter_indicator») (digitsOf (r .«tp_service_centre_timestamp»)) (parametersOf r) ≡ os
+  pub fits : r .«tp_user_data» .length ≤ 255
+  pub time-fits : r .«tp_service_centre_timestamp» .length ≤ 14
+  pub udhi : r .«tp_udhi» ≤ 1
+  pub indicator : found (indicatorChecks (r .«tp_parameter_indicator») (r .«tp_pid») (r .«tp_dcs») (r .«tp_user_data_length»)) ≡ Checked.Fine
+  pub timed : isTime (digitsOf (r .«tp_service_centre_timestamp»)) ≡ true
+  pub held : found (dataChecks (r .«tp_dcs») (r .«tp_user_data_length») (length (dataOf (r .«tp_user_data»)))) ≡ Checked.Fine
+
+module _ {os : List ℕ} {answer : Written} (r : SmsSubmitReport) (e : reporting r ≡ made os answer) where
+  passed : Passed r os
+  unfolding reporting making
+  passed =
+      let digits = digitsOf (r .«tp_service_centre_timestamp») in
+      let first = indicatorChecks (r .«tp_parameter_indicator») (r .«tp_pid») (r .«tp_dcs») (r .«tp_user_data_length») in
+      let more = dataChecks (r .«tp_dcs») (r .«tp_user_data_length») (length (dataOf (r .«tp_user_data»))) in
+      let (a, b, m) = both-fit (leb (r .«tp_user_data» .length) 255) (leb (r .«tp_service_centre_timestamp» .length) 14) LengthTooLarge _ e in
+      let (f, x) = made-told _ _ m in
+      let (u, g) = holds UdhiTooLarge (leb (r .«tp_udhi») 1) (first ++ ((NotATime unless isTime digits) ∷ more)) f in
+      let (i, k) = both-hold first ((NotATime unless isTime digits) ∷ more) g in
+      let (t, d) = holds NotATime (isTime digits) more k in
+      record { is = x; fits = leb-true _ _ a; time-fits = leb-true _ _ b; udhi = leb-true _ _ u; indicator = i; timed = t; held = d }
+
+  -- what was written is read back
+  pub read-back : length (r .«tp_service_centre_timestamp» .digits) ≡ 14 → length (r .«tp_user_data» .octets) ≡ 255
+      → (q : SmsSubmitReport) × (n : ℕ) × (read (outcomeOf (r .«tp_failure_cause»)) os ≡ reached q n) × (parts q ≡ capitalised (parts r))
+  unfolding reported dataWith timeIn
+  read-back f h =
+      let p = parametersOf r in
+      let time = r .«tp_service_centre_timestamp» in
+      let ds = digitsOf time in
+      let (n, t) = back (r .«tp_parameter_indicator») ds (passed .timed) p (passed .indicator) (passed .held) (r .«tp_udhi») (passed .udhi) (r .«tp_failure_cause») in
+      let l : r .«tp_user_data» .length ≤ length (r .«tp_user_data» .octets) = omega (arith, passed .fits) in
+      let c : length (p .ud) ≡ r .«tp_user_data» .length = length-take-le (r .«tp_user_data» .length) (r .«tp_user_data» .octets) l in
+      let g : time .length ≤ length (time .digits) = omega (arith, passed .time-fits) in
+      let v : length ds ≡ time .length = length-take-le (time .length) (time .digits) g in
+      let k : length (timeDigits (timeOctets ds)) ≡ time .length = omega (arith, length-digits (timeOctets ds), time-size ds (passed .timed), time-means ds .0 (passed .timed) .0, v) in
+      (reported (r .«tp_udhi») (r .«tp_failure_cause») (r .«tp_parameter_indicator») (timeOctets ds) p, n, ap (read (outcomeOf (r .«tp_failure_cause»))) (sym (passed .is)) ∙ t, rw (take-pad 255 (p .ud), c, take-pad 14 (timeDigits (timeOctets ds)), k, digits-back ds (passed .timed)))
+
+  -- and has at most 153 octets
+  pub at-most : length os ≤ 153
+  at-most =
+      rw (← passed .is, size-is _ _ _ _ _ (passed .timed))
+      (omega (
+        arith,
+        one-at-most (r .«tp_failure_cause»),
+        one-at-most (r .«tp_pid»),
+        one-at-most (r .«tp_dcs»),
+        one-at-most (r .«tp_user_data_length»),
+        data-limit (r .«tp_dcs») (r .«tp_user_data_length») (length (dataOf (r .«tp_user_data»))) (passed .held),
+      ))
+
+-- a writer's answer and octets depend on the parts alone
+pub written-alike : (r q : SmsSubmitReport) → parts r ≡ parts q → reporting r ≡ reporting q
+unfolding reporting
+written-alike r q e =
+    ap (λ (t : Parts). if leb (t .dataLength) 255 && leb (t .timeLength) 14 then making (t .udhi) (t .cause) (t .indicator) (t .digits) (t .parameters) else refused LengthTooLarge) e
