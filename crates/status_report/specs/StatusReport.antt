@@ -12,7 +12,7 @@ use Rattle.octets.specs.declared.Refusal.{Refusal}
 use Rattle.octets.specs.declared.Refusal.the-variants.{LengthTooLarge, NotATime, ParametersWithoutIndicator}
 use Rattle.octets.specs.declared.Written.{Written}
 use Rattle.coding.specs.Coding.{dataWith, dataOf}
-use Rattle.time.specs.Time.{isTime, timeOctets, timeIn, digitsOf}
+use Rattle.time.specs.Time.{isTime, timeOctets, timeIn, digitsOf, capitals}
 use Rattle.address.specs.Address.{addressIn, addressWith, addressOctets, octetsOr, addressChecks, textHeld}
 use Rattle.layout.specs.Layout.{isSet, leading, Format, field, endOr, done, _then_, message, one, time, address, Reached, reached, halted, Layout, plain}
 use Rattle.parameters.specs.Checking.{indicatorChecks, dataChecks}
@@ -180,4 +180,26 @@ parts r = record {
   indicator = r .«tp_parameter_indicator»;
   parameters = parametersOf r;
   dataLength = r .«tp_user_data» .length;
+}
+
+-- the parts that are read of what was written: the same, with the letters of both times capital (document 01, demand 2)
+abbrev pub capitalised : Parts → Parts
+capitalised p = record {
+  udhi = p .udhi;
+  srq = p .srq;
+  lp = p .lp;
+  mms = p .mms;
+  mr = p .mr;
+  ton = p .ton;
+  npi = p .npi;
+  textLength = p .textLength;
+  text = p .text;
+  timeLength = p .timeLength;
+  digits = capitals (p .digits);
+  dischargeLength = p .dischargeLength;
+  discharge = capitals (p .discharge);
+  status = p .status;
+  indicator = p .indicator;
+  parameters = p .parameters;
+  dataLength = p .dataLength;
 }
