@@ -2,31 +2,42 @@
 -- Assumes nothing.
 use Prim.Native.Nat.{ℕ, _+_, _≤_, _<_}
 use mathlib.Core.Path.{_≡_, refl, sym, ap, _∙_}
-use mathlib.Core.Bool.{Bool, true, false, _&&_, _||_}
-use mathlib.Core.List.{List, [], _∷_, _++_}
-use mathlib.Core.Option.{Option}
+use mathlib.Core.Bool.{Bool, true, false, not, _&&_, _||_, false≢true}
+use mathlib.Core.List.{List, [], _∷_, _++_, append-nil}
+use mathlib.Core.Option.{Option, none, some}
 use native.Mathlib.Omega.{arith}
-use borrow.Author.Tests.{eqb-true, leb-true, ltb-false}
+use borrow.Author.Tests.{eq-eqb, eqb-true, leb-true, ltb-false}
 use lib.Dec.{eqb, leb, ltb}
-use lib.ListN.{length, length-append}
+use lib.ListN.{length, take, drop, length-append, length-drop}
+use lib.Seq.{length-take-le, take-at, drop-at, drop-drop}
 use Rattle.octets.specs.Checks.{_unless_}
 use Rattle.octets.specs.Choice.{if_then_else_}
 use Rattle.octets.specs.Lent.{Making, refused, made}
 use Rattle.octets.specs.declared.Checked.{Checked}
 use Rattle.octets.specs.declared.Refusal.{Refusal}
-use Rattle.octets.specs.declared.Refusal.the-variants.{LengthTooLarge, NotATime, NumberTypeOrPlanTooLarge, NotInAlphabet, AddressTooLong, ParametersWithoutIndicator}
+use Rattle.octets.specs.declared.Refusal.the-variants.{LengthTooLarge, WrongMessageType, NotATime, NumberTypeOrPlanTooLarge, NotInAlphabet, AddressTooLong, ParametersWithoutIndicator}
 use Rattle.octets.specs.declared.Written.{Written}
 use Rattle.octets.proofs.Choice.{and-true}
-use Rattle.time.specs.Time.{isTime, timeOctets, digitsOf}
-use Rattle.address.specs.Address.{addressOctets, addressChecks, octetsOr, isSome, textHeld}
+use Rattle.octets.proofs.Laws.{take-pad}
+use Rattle.coding.specs.Coding.{dataWith, dataOf}
+use Rattle.coding.proofs.Laws.{data-held}
+use Rattle.time.specs.Time.{isTime, timeDigits, timeOctets, timeIn, digitsOf, capitals}
+use Rattle.time.proofs.Laws.{digits-back, length-digits, time-means, time-held}
+use Rattle.address.specs.Address.{addressIn, addressWith, addressOctets, addressSize, addressChecks, canonicalAddress, octetsOr, isSome, textIn, textHeld}
+use Rattle.address.specs.declared.SMSAddress.{SMSAddress}
+use Rattle.address.proofs.Shapes.{octets-read}
+use Rattle.layout.specs.Layout.{Kind, first, octet, octets, any, leading, address, isSet, messageType, kept, Whole, canon, Format, field, require, one, reached, reading, readFrom, read}
+use Rattle.layout.proofs.Fields.{own}
+use Rattle.layout.proofs.Laws.{goes-on}
+use Rattle.layout.proofs.Steps.{then-goes-on, done-reached, end-not-reached}
 use Rattle.parameters.specs.Checking.{found, indicatorChecks, dataChecks}
-use Rattle.parameters.specs.Line.{Parameters, parametersOctets}
+use Rattle.parameters.specs.Line.{Parameters, parameters, parametersOctets}
 use Rattle.parameters.specs.Optional.{octetsHeld, held}
 use Rattle.parameters.specs.declared.OptionalOctet.{OptionalOctet}
 use Rattle.parameters.specs.declared.OptionalOctet.the-variants.{Absent, Present}
-use Rattle.parameters.proofs.Back.{holds, both-hold, made-told, data-limit}
+use Rattle.parameters.proofs.Back.{holds, both-hold, made-told, data-limit, indicator-here, not-extended, parameters-back}
 use Rattle.parameters.proofs.Made.{one-at-most}
-use Rattle.status_report.specs.StatusReport.{octetsIn, optionalChecks, checksBehind, making, firstOf, parametersOf, reporting}
+use Rattle.status_report.specs.StatusReport.{bits, reported, behindStatus, behindAddress, line, statusReport, octetsIn, optionalChecks, checksBehind, making, flag, firstOf, parametersOf, reporting, parts, capitalised}
 use Rattle.status_report.specs.declared.SmsStatusReport.{SmsStatusReport}
 use Rattle.status_report.proofs.Writing.{time-size}
 
@@ -64,6 +75,167 @@ optional-size Absent p h = omega (arith, eqb-true (length (parametersOctets p)) 
 optional-size (Present i) p h =
     let (x, d) = both-hold (indicatorChecks i (p .pid) (p .dcs) (p .udl)) (dataChecks (p .dcs) (p .udl) (length (p .ud))) h in
     simp length-append (omega (arith, one-at-most (p .pid), one-at-most (p .dcs), one-at-most (p .udl), data-limit (p .dcs) (p .udl) (length (p .ud)) d))
+
+-- ---- the first octet
+
+abbrev firstWith : Bool → Bool → Bool → Bool → ℕ
+firstWith udhi srq lp mms = 2 + flag udhi 64 + flag srq 32 + flag lp 8 + flag mms 4
+
+-- it tells its flags and its MTI, and is its own canonical form
+record Tells (udhi srq lp mms : Bool) (f : ℕ) : Type 0 where
+  pub whole : kept bits f ≡ f
+  pub mti-is : messageType f ≡ 2
+  pub udhi-is : isSet 6 f ≡ udhi
+  pub srq-is : isSet 5 f ≡ srq
+  pub lp-is : isSet 3 f ≡ lp
+  pub mms-is : isSet 2 f ≡ mms
+
+abbrev both : (Bool → Bool) → Bool
+both test = test true && test false
+
+both-holds : (test : Bool → Bool) → both test ≡ true → (b : Bool) → test b ≡ true
+both-holds test e true = and-true (test true) (test false) e .0
+both-holds test e false = and-true (test true) (test false) e .1
+
+abbrev same : Bool → Bool → Bool
+same true b = b
+same false b = not b
+
+same-is : (a b : Bool) → same a b ≡ true → b ≡ a
+same-is true true e = refl
+same-is true false e = e
+same-is false true e = sym e
+same-is false false e = refl
+
+abbrev tells : Bool → Bool → Bool → Bool → Bool
+tells udhi srq lp mms =
+    let f = firstWith udhi srq lp mms in
+    eqb (kept bits f) f && (eqb (messageType f) 2 && (same udhi (isSet 6 f) && (same srq (isSet 5 f) && (same lp (isSet 3 f) && same mms (isSet 2 f)))))
+
+first-tells : (udhi srq lp mms : Bool) → Tells udhi srq lp mms (firstWith udhi srq lp mms)
+unfolding kept
+first-tells udhi srq lp mms =
+    let e = both-holds (tells udhi srq lp) (both-holds (λ d. both (tells udhi srq d)) (both-holds (λ c. both λ d. both (tells udhi c d)) (both-holds (λ b. both λ c. both λ d. both (tells b c d)) refl udhi) srq) lp) mms in
+    let (whole, e1) = and-true _ _ e in
+    let (mti, e2) = and-true _ _ e1 in
+    let (b, e4) = and-true _ _ e2 in
+    let (c, e5) = and-true _ _ e4 in
+    let (d, g) = and-true _ _ e5 in
+    record { whole = eqb-true _ _ whole; mti-is = eqb-true _ _ mti; udhi-is = same-is _ _ b; srq-is = same-is _ _ c; lp-is = same-is _ _ d; mms-is = same-is _ _ g }
+
+-- ---- the address
+
+some-is : (o : Option (List ℕ)) → isSome o ≡ true → o ≡ some (octetsOr [] o)
+some-is none e = absurd (false≢true e)
+some-is (some xs) e = refl
+
+module _ (ton npi : ℕ) (text oa : List ℕ) (t : ton < 8) (p : npi < 16) (is : addressOctets ton npi text ≡ some oa) where
+  address-whole : addressSize oa ≡ length oa
+  address-whole = octets-read ton npi text oa t p is .0
+
+  address-back : addressIn oa ≡ addressWith ton npi text
+  unfolding addressIn
+  address-back = octets-read ton npi text oa t p is .1
+
+  address-again : canonicalAddress oa ≡ oa
+  unfolding addressIn addressWith canonicalAddress
+  address-again =
+      let e = address-back in
+      let n = ap (λ (a : SMSAddress). a .ton) e in
+      let m = ap (λ (a : SMSAddress). a .npi) e in
+      let x : textIn oa ≡ text = sym (take-pad 290 (textIn oa)) ∙ ap textHeld e ∙ take-pad 290 text in
+      rw (n, m, x, is)
+
+-- ---- octets in the line's order are read as the fields that they are
+
+-- a whole field at the start is read, and the rest behind it
+field-read : {R : Type 0} (k : Kind) (next : List ℕ → Format R) (f rest : List ℕ) (at : ℕ) → Whole k f → reading (field k next) (f ++ rest) at ≡ reading (next (canon k f)) rest (at + length f)
+unfolding reading
+field-read k next f rest at w =
+    let n = own k f rest w in
+    goes-on _ k (f ++ rest) at (rw (n, length-append) (omega arith)) ∙ rw (n, take-at f rest (length f) refl, drop-at f rest (length f) refl)
+
+require-read : {R : Type 0} {holds : Bool} → holds ≡ true → (why : Refusal) (line : Format R) (s : List ℕ) (at : ℕ) → reading (require why holds line) s at ≡ reading line s at
+unfolding reading
+require-read e why line s at = rw e
+
+-- indicator and parameters, or the end
+none-read : (make : OptionalOctet → Parameters → SmsStatusReport) (pid dcs udl : OptionalOctet) (ud : List ℕ) (at : ℕ) → held pid + held dcs + held udl + length ud ≡ 0
+    → let p : Parameters = record { pid = pid; dcs = dcs; udl = udl; ud = ud } in reading (behindStatus make) (parametersOctets p) at ≡ reached (make Absent p) at
+unfolding behindStatus reading
+none-read make Absent Absent Absent [] at h = refl
+none-read make Absent Absent Absent (x ∷ ud) at h = absurd (omega arith)
+none-read make Absent Absent (Present x) ud at h = absurd (omega arith)
+none-read make Absent (Present x) udl ud at h = absurd (omega arith)
+none-read make (Present x) dcs udl ud at h = absurd (omega arith)
+
+module _ (make : OptionalOctet → Parameters → SmsStatusReport) (p : Parameters) (s : List ℕ) (at : ℕ) where
+  optional-read : (pi : OptionalOctet) → found (optionalChecks pi p) ≡ Checked.Fine → drop at s ≡ octetsHeld pi ++ parametersOctets p → (n : ℕ) × (readFrom (behindStatus make) s at ≡ reached (make pi p) n)
+  unfolding optionalChecks behindStatus readFrom
+  optional-read Absent h e =
+      let z = simp length-append at (eqb-true (length (parametersOctets p)) 0 (holds ParametersWithoutIndicator (eqb (length (parametersOctets p)) 0) [] h .0)) in
+      (at, ap (λ (l : List ℕ). reading (behindStatus make) l at) e ∙ none-read make (p .pid) (p .dcs) (p .udl) (p .ud) at (omega (arith, z)))
+  optional-read (Present pi) h e =
+      let (i, d) = both-hold (indicatorChecks pi (p .pid) (p .dcs) (p .udl)) (dataChecks (p .dcs) (p .udl) (length (p .ud))) h in
+      let room : at < length s = omega (arith, length-drop at s, ap length e) in
+      let u : drop (at + 1) s ≡ parametersOctets p ++ [] = sym (drop-drop 1 at s) ∙ ap (drop 1) e ∙ sym (append-nil (parametersOctets p)) in
+      let q : readFrom (parameters pi) s (at + 1) ≡ reached p (at + 1 + held (p .pid) + held (p .dcs) + held (p .udl) + length (p .ud)) = ap (λ (l : List ℕ). reading (parameters pi) l (at + 1)) u ∙ parameters-back pi p [] (at + 1) i d in
+      (at + 1 + held (p .pid) + held (p .dcs) + held (p .udl) + length (p .ud), end-not-reached s at _ _ room ∙ indicator-here s at e _ (not-extended pi p [] 0 i d) ∙ then-goes-on s (parameters pi) (at + 1) q _ ∙ done-reached s _ _)
+
+module _ (f : ℕ) (whole : kept bits f ≡ f) (mti : messageType f ≡ 2) (mr : ℕ) (ra : List ℕ) (size : addressSize ra ≡ length ra) (again : canonicalAddress ra ≡ ra) (scts : List ℕ) (seven : 7 ≡ length scts)
+    (dt : List ℕ) (also : 7 ≡ length dt) (st : ℕ) where
+  abbrev behindFirst : ℕ → Format SmsStatusReport
+  behindFirst f = one λ mr. field address λ ra. behindAddress f mr ra
+
+  to-first : (rest : List ℕ) → read statusReport (f ∷ rest) ≡ reading (behindFirst f) rest 1
+  unfolding read readFrom line
+  to-first rest =
+      field-read (first bits) (λ c. require WrongMessageType (eqb (messageType (leading c)) 2) (behindFirst (leading c))) (f ∷ []) rest 0 refl
+      ∙ rw whole (require-read (eq-eqb (messageType f) 2 mti) WrongMessageType (behindFirst f) rest 1)
+
+  to-times : (rest : List ℕ) → reading (behindFirst f) (mr ∷ (ra ++ rest)) 1 ≡ reading (behindAddress f mr ra) rest (2 + length ra)
+  to-times rest = field-read octet _ (mr ∷ []) (ra ++ rest) 1 refl ∙ field-read address (λ ra. behindAddress f mr ra) ra rest 2 size ∙ rw again
+
+  to-optional : (rest : List ℕ) (at : ℕ) → reading (behindAddress f mr ra) (scts ++ (dt ++ (st ∷ rest))) at ≡ reading (behindStatus (reported f mr ra scts dt st)) rest (at + length scts + length dt + 1)
+  unfolding behindAddress
+  to-optional rest at =
+      field-read (octets any 7) _ scts (dt ++ (st ∷ rest)) at seven ∙ field-read (octets any 7) _ dt (st ∷ rest) (at + length scts) also ∙ field-read octet _ (st ∷ []) rest (at + length scts + length dt) refl
+
+  dropped : (rest : List ℕ) → drop (2 + length ra + length scts + length dt + 1) (f ∷ mr ∷ (ra ++ (scts ++ (dt ++ (st ∷ rest))))) ≡ rest
+  dropped rest =
+      let s = f ∷ mr ∷ (ra ++ (scts ++ (dt ++ (st ∷ rest)))) in
+      let a : drop (2 + length ra) s ≡ scts ++ (dt ++ (st ∷ rest)) = sym (drop-drop (length ra) 2 s) ∙ drop-at ra (scts ++ (dt ++ (st ∷ rest))) (length ra) refl in
+      let b : drop (2 + length ra + length scts) s ≡ dt ++ (st ∷ rest) = sym (drop-drop (length scts) (2 + length ra) s) ∙ ap (drop (length scts)) a ∙ drop-at scts (dt ++ (st ∷ rest)) (length scts) refl in
+      let c : drop (2 + length ra + length scts + length dt) s ≡ st ∷ rest = sym (drop-drop (length dt) (2 + length ra + length scts) s) ∙ ap (drop (length dt)) b ∙ drop-at dt (st ∷ rest) (length dt) refl in
+      sym (drop-drop 1 (2 + length ra + length scts + length dt) s) ∙ ap (drop 1) c
+
+  written-read : (pi : OptionalOctet) (p : Parameters) → found (optionalChecks pi p) ≡ Checked.Fine
+      → (n : ℕ) × (read statusReport (f ∷ mr ∷ (ra ++ (scts ++ (dt ++ (st ∷ (octetsHeld pi ++ parametersOctets p)))))) ≡ reached (reported f mr ra scts dt st pi p) n)
+  unfolding readFrom
+  written-read pi p h =
+      let rest = octetsHeld pi ++ parametersOctets p in
+      let s = f ∷ mr ∷ (ra ++ (scts ++ (dt ++ (st ∷ rest)))) in
+      let at = 2 + length ra + length scts + length dt + 1 in
+      let make = reported f mr ra scts dt st in
+      let (n, e) = optional-read make p s at pi h (dropped rest) in
+      (n, to-first _ ∙ to-times _ ∙ to-optional rest (2 + length ra) ∙ ap (λ (l : List ℕ). reading (behindStatus make) l at) (sym (dropped rest)) ∙ e)
+
+-- ---- the parts
+
+same-parts : (r : SmsStatusReport) (f : ℕ) → Tells (r .«tp_udhi») (r .«tp_srq») (r .«tp_lp») (r .«tp_mms») f
+    → (ra : List ℕ) → addressIn ra ≡ addressWith (r .«tp_recipient_address» .ton) (r .«tp_recipient_address» .npi) (textHeld (r .«tp_recipient_address»))
+    → length (textHeld (r .«tp_recipient_address»)) ≡ r .«tp_recipient_address» .«address_length»
+    → (scts : List ℕ) → timeDigits scts ≡ capitals (digitsOf (r .«tp_service_centre_timestamp»)) → length (timeDigits scts) ≡ r .«tp_service_centre_timestamp» .length
+    → (dt : List ℕ) → timeDigits dt ≡ capitals (digitsOf (r .«tp_discharge_time»)) → length (timeDigits dt) ≡ r .«tp_discharge_time» .length
+    → length (dataOf (r .«tp_user_data»)) ≡ r .«tp_user_data» .length
+    → parts (reported f (r .«tp_mr») ra scts dt (r .«tp_status») (r .«tp_parameter_indicator») (parametersOf r)) ≡ capitalised (parts r)
+unfolding reported addressWith timeIn dataWith
+same-parts r f t ra back text scts digits count dt discharge many size =
+    let a : take (length (textHeld (r .«tp_recipient_address»))) (addressWith 0 0 (textHeld (r .«tp_recipient_address»)) .address) ≡ textHeld (r .«tp_recipient_address») = take-pad 290 _ in
+    let b : digitsOf (timeIn scts) ≡ capitals (digitsOf (r .«tp_service_centre_timestamp»)) = time-held scts ∙ digits in
+    let d : digitsOf (timeIn dt) ≡ capitals (digitsOf (r .«tp_discharge_time»)) = time-held dt ∙ discharge in
+    let c : dataOf (dataWith (dataOf (r .«tp_user_data»))) ≡ dataOf (r .«tp_user_data») = data-held _ in
+    rw (t .udhi-is, t .srq-is, t .lp-is, t .mms-is, back, a, b, d, c, text, count, many, size)
 
 -- ---- a record
 
@@ -107,3 +279,37 @@ module _ {os : List ℕ} {answer : Written} (r : SmsStatusReport) (e : reporting
       let n = time-size (digitsOf (r .«tp_discharge_time»)) (passed .discharge-is) in
       let o = simp length-append at (optional-size (r .«tp_parameter_indicator») (parametersOf r) (passed .optional)) in
       rw (← passed .is) (simp length-append (omega (arith, m, n, o, passed .short)))
+
+  -- what was written is read back
+  pub read-back : length (r .«tp_recipient_address» .address) ≡ 290 → length (r .«tp_service_centre_timestamp» .digits) ≡ 14 → length (r .«tp_discharge_time» .digits) ≡ 14 → length (r .«tp_user_data» .octets) ≡ 255
+      → (q : SmsStatusReport) × (n : ℕ) × (read statusReport os ≡ reached q n) × (parts q ≡ capitalised (parts r))
+  read-back ha ht hu hd =
+      let p = passed in
+      let a = r .«tp_recipient_address» in
+      let text = textHeld a in
+      let ra = octetsOr [] (addressOf r) in
+      let is = some-is (addressOf r) (p .spelled) in
+      let time = r .«tp_service_centre_timestamp» in
+      let late = r .«tp_discharge_time» in
+      let ds = digitsOf time in
+      let us = digitsOf late in
+      let scts = timeOctets ds in
+      let dt = timeOctets us in
+      let f = firstOf r in
+      let t = first-tells (r .«tp_udhi») (r .«tp_srq») (r .«tp_lp») (r .«tp_mms») in
+      let ton : a .ton < 8 = omega (arith, p .ton-is) in
+      let npi : a .npi < 16 = omega (arith, p .npi-is) in
+      let n = time-size ds (p .time-is) in
+      let m = time-size us (p .discharge-is) in
+      let la : length text ≡ a .«address_length» = length-take-le (a .«address_length») (a .address) (omega (arith, ha, p .text-fits)) in
+      let lt : length ds ≡ time .length = length-take-le (time .length) (time .digits) (omega (arith, ht, p .time-fits)) in
+      let lu : length us ≡ late .length = length-take-le (late .length) (late .digits) (omega (arith, hu, p .discharge-fits)) in
+      let ld : length (dataOf (r .«tp_user_data»)) ≡ r .«tp_user_data» .length = length-take-le (r .«tp_user_data» .length) (r .«tp_user_data» .octets) (omega (arith, hd, p .data-fits)) in
+      let lq : length (timeDigits scts) ≡ time .length = omega (arith, length-digits scts, n, time-means ds .0 (p .time-is) .0, lt) in
+      let lv : length (timeDigits dt) ≡ late .length = omega (arith, length-digits dt, m, time-means us .0 (p .discharge-is) .0, lu) in
+      let (k, e) = written-read f (t .whole) (t .mti-is) (r .«tp_mr») ra (address-whole (a .ton) (a .npi) text ra ton npi is) (address-again (a .ton) (a .npi) text ra ton npi is) scts (sym n) dt (sym m) (r .«tp_status») (r .«tp_parameter_indicator») (parametersOf r) (p .optional) in (
+        reported f (r .«tp_mr») ra scts dt (r .«tp_status») (r .«tp_parameter_indicator») (parametersOf r),
+        k,
+        ap (read statusReport) (sym (p .is)) ∙ e,
+        same-parts r f t ra (address-back (a .ton) (a .npi) text ra ton npi is) la scts (digits-back ds (p .time-is)) lq dt (digits-back us (p .discharge-is)) lv ld,
+      )
