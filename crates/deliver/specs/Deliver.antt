@@ -78,7 +78,7 @@ answer (halted why) = unread why
 
 -- ---- writing
 
--- a flag as bit b of an octet
+-- a flag as its weight in an octet
 abbrev pub flag : Bool → ℕ → ℕ
 flag true weight = weight
 flag false weight = 0
