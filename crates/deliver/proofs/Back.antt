@@ -11,7 +11,7 @@ use lib.Dec.{eqb, leb, ltb}
 use lib.ListN.{length, take, length-append}
 use lib.Seq.{length-take-le, take-at, drop-at}
 use Rattle.octets.specs.Checks.{checked}
-use Rattle.octets.specs.Choice.{if_then_else_}
+use Rattle.octets.specs.Choice.{if_then_else_, flag}
 use Rattle.octets.specs.Lent.{Making, refused, made}
 use Rattle.octets.specs.declared.Refusal.{Refusal}
 use Rattle.octets.specs.declared.Refusal.the-variants.{LengthTooLarge, WrongMessageType, NotATime, UserDataLengthDisagrees, UserDataTooLong, NumberTypeOrPlanTooLarge, NotInAlphabet, AddressTooLong}
@@ -29,7 +29,7 @@ use Rattle.layout.specs.Layout.{Kind, first, octet, octets, any, leading, addre
 use Rattle.layout.proofs.Fields.{own}
 use Rattle.layout.proofs.Laws.{goes-on}
 use Rattle.deliver.specs.declared.SmsDeliver.{SmsDeliver}
-use Rattle.deliver.specs.Deliver.{bits, delivered, behindAddress, line, deliver, flag, octetsIn, making, flagsOf, delivering, parts, capitalised}
+use Rattle.deliver.specs.Deliver.{bits, delivered, behindAddress, line, deliver, octetsIn, making, flagsOf, delivering, parts, capitalised}
 
 -- ---- the checks that a written record passed
 

@@ -9,7 +9,7 @@ use borrow.Author.Tests.{eqb-true, le-leb, le-ltb}
 use lib.Dec.{eqb, leb, ltb}
 use lib.ListN.{length, take, drop}
 use Rattle.octets.specs.Checks.{Check, _unless_, checked}
-use Rattle.octets.specs.Choice.{if_then_else_}
+use Rattle.octets.specs.Choice.{if_then_else_, flag}
 use Rattle.octets.specs.Each.{Octets}
 use Rattle.octets.specs.Lent.{Making, refused, made}
 use Rattle.octets.specs.declared.Refusal.the-variants.{LengthTooLarge, WrongMessageType, NotATime, UserDataTooLong, AddressTooLong}
@@ -29,7 +29,7 @@ use Rattle.layout.proofs.Demand.{Answers, Writes, demand3, answers-plain}
 use Rattle.layout.proofs.Rewriting.{Told}
 use Rattle.deliver.proofs.Writing.{by-parts}
 use Rattle.deliver.specs.declared.SmsDeliver.{SmsDeliver}
-use Rattle.deliver.specs.Deliver.{bits, delivered, behindAddress, line, deliver, answer, unread, flag, octetsIn, making, flagsOf, delivering, Parts, parts}
+use Rattle.deliver.specs.Deliver.{bits, delivered, behindAddress, line, deliver, answer, unread, octetsIn, making, flagsOf, delivering, Parts, parts}
 
 -- ---- the parts alone
 

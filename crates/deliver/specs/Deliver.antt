@@ -4,7 +4,7 @@ use mathlib.Core.Bool.{Bool, true, false, _||_}
 use mathlib.Core.List.{List, [], _∷_, _++_}
 use lib.Dec.{eqb, ltb}
 use lib.ListN.{length, take}
-use Rattle.octets.specs.Choice.{if_then_else_}
+use Rattle.octets.specs.Choice.{if_then_else_, flag}
 use Rattle.octets.specs.Checks.{Check, _unless_, checked}
 use Rattle.octets.specs.Lent.{Making, refused}
 use Rattle.octets.specs.declared.Outcome.{Outcome}
@@ -77,11 +77,6 @@ answer (reached r n) = record { outcome = Outcome.Done; message = r }
 answer (halted why) = unread why
 
 -- ---- writing
-
--- a flag as its weight in an octet
-abbrev pub flag : Bool → ℕ → ℕ
-flag true weight = weight
-flag false weight = 0
 
 -- the octets of the parts, in the line's order
 abbrev pub octetsIn : ℕ → ℕ → ℕ → List ℕ → ℕ → ℕ → List ℕ → ℕ → List ℕ → List ℕ

@@ -10,7 +10,7 @@ ghost use Rattle.layout.specs.Demand.{Rewrites};
 ghost use Rattle.time.specs.Time.{isTime};
 ghost use Rattle.address.specs.Address.{addressMaking, addressSize, canonicalAddress};
 ghost use Rattle.address.specs.Parts.{checkOf};
-ghost use Rattle.deliver.specs.Deliver.{bits, delivered, behindAddress, deliver, answer, unread, flag as flagWeight, octetsIn, making, delivering};
+ghost use Rattle.deliver.specs.Deliver.{bits, delivered, behindAddress, deliver, answer, unread, octetsIn, making, delivering};
 use address::AddressCheck;
 use address::SMSAddress;
 use coding::UserData;
@@ -221,13 +221,6 @@ fn encode_parts(
     }
 }
 
-// A flag as a bit of the first octet.
-fn flag(on: bool, weight: u8) -> u8
-    ensures { λ r. ⌜ (r ≡ flagWeight on weight) × (r ≤ weight) ⌝ }
-{
-    if on { weight } else { 0 }
-}
-
 impl SmsDeliver {
     // Writes the message to the start of a lent output.
     pub fn encode(self, out: &mut [u8]) -> Written
@@ -248,11 +241,11 @@ impl SmsDeliver {
         if 255 < k {
             return Written::Refused(Refusal::LengthTooLarge);
         }
-        let flags = flag(self.tp_rp, 128)
-            + flag(self.tp_udhi, 64)
-            + flag(self.tp_sri, 32)
-            + flag(self.tp_lp, 8)
-            + flag(self.tp_mms, 4);
+        let flags = octets::flag(self.tp_rp, 128)
+            + octets::flag(self.tp_udhi, 64)
+            + octets::flag(self.tp_sri, 32)
+            + octets::flag(self.tp_lp, 8)
+            + octets::flag(self.tp_mms, 4);
         let text = originator.address;
         let digits = timestamp.digits;
         let octets = user_data.octets;

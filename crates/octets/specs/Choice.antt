@@ -1,4 +1,4 @@
--- A choice by a test, and a test of a range.
+-- A choice by a test, a test of a range, and a flag in an octet.
 use Prim.Native.Nat.{ℕ}
 use mathlib.Core.Bool.{Bool, true, false, _&&_}
 use lib.Dec.{leb}
@@ -12,3 +12,8 @@ if false then a else b = b
 -- from lo to hi
 abbrev pub within : ℕ → ℕ → ℕ → Bool
 within lo hi n = leb lo n && leb n hi
+
+-- a flag as its weight in an octet
+abbrev pub flag : Bool → ℕ → ℕ
+flag true weight = weight
+flag false weight = 0

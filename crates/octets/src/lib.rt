@@ -3,6 +3,7 @@ ghost use mathlib.Core.Path.{_≡_};
 ghost use Prim.Native.Nat.{_+_, _≤_};
 ghost use lib.ListN.{length};
 ghost use mathlib.Core.List.{[], _∷_};
+ghost use Rattle.octets.specs.Choice.{flag as flagWeight};
 ghost use Rattle.octets.specs.Refusals.{refusalNumber};
 ghost use Rattle.octets.specs.Arrays.{pad};
 ghost use Rattle.octets.specs.Lent.{Wrote};
@@ -116,6 +117,13 @@ pub fn stored_octets(octets: &[u8]) -> [u8; 255]
     let mut array = [0u8; 255];
     put_octets(&mut array, 0, octets);
     array
+}
+
+// A flag as a bit of an octet.
+pub fn flag(on: bool, weight: u8) -> u8
+    ensures { λ r. ⌜ (r ≡ flagWeight on weight) × (r ≤ weight) ⌝ }
+{
+    if on { weight } else { 0 }
 }
 
 // A place in a message; every read hands back the next one.

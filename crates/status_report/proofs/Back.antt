@@ -11,7 +11,7 @@ use lib.Dec.{eqb, leb, ltb}
 use lib.ListN.{length, take, drop, length-append, length-drop}
 use lib.Seq.{length-take-le, take-at, drop-at, drop-drop}
 use Rattle.octets.specs.Checks.{_unless_}
-use Rattle.octets.specs.Choice.{if_then_else_}
+use Rattle.octets.specs.Choice.{if_then_else_, flag}
 use Rattle.octets.specs.Lent.{Making, refused, made}
 use Rattle.octets.specs.declared.Checked.{Checked}
 use Rattle.octets.specs.declared.Refusal.{Refusal}
@@ -37,7 +37,7 @@ use Rattle.parameters.specs.declared.OptionalOctet.{OptionalOctet}
 use Rattle.parameters.specs.declared.OptionalOctet.the-variants.{Absent, Present}
 use Rattle.parameters.proofs.Back.{holds, both-hold, made-told, data-limit, indicator-here, not-extended, parameters-back}
 use Rattle.parameters.proofs.Made.{one-at-most}
-use Rattle.status_report.specs.StatusReport.{bits, reported, behindStatus, behindAddress, line, statusReport, octetsIn, optionalChecks, checksBehind, making, flag, firstOf, parametersOf, reporting, parts, capitalised}
+use Rattle.status_report.specs.StatusReport.{bits, reported, behindStatus, behindAddress, line, statusReport, octetsIn, optionalChecks, checksBehind, making, firstOf, parametersOf, reporting, parts, capitalised}
 use Rattle.status_report.specs.declared.SmsStatusReport.{SmsStatusReport}
 use Rattle.status_report.proofs.Writing.{time-size}
 

@@ -9,7 +9,7 @@ use borrow.Author.Tests.{eqb-true}
 use lib.Dec.{eqb, ltb}
 use lib.ListN.{length}
 use Rattle.octets.specs.Checks.{checked}
-use Rattle.octets.specs.Choice.{if_then_else_}
+use Rattle.octets.specs.Choice.{if_then_else_, flag}
 use Rattle.octets.specs.Each.{Octets}
 use Rattle.octets.specs.Lent.{Making, refused}
 use Rattle.octets.specs.declared.Refusal.the-variants.{LengthTooLarge, NotATime, AddressTooLong}
@@ -35,7 +35,7 @@ use Rattle.parameters.proofs.Checking.{answers}
 use Rattle.parameters.proofs.Made.{Held, parameters-make}
 use Rattle.status_report.proofs.Writing.{by-parts}
 use Rattle.status_report.specs.declared.SmsStatusReport.{SmsStatusReport}
-use Rattle.status_report.specs.StatusReport.{bits, reported, noParameters, behindStatus, behindAddress, line, statusReport, flag, octetsIn, optionalChecks, making, reporting, Parts, parts, answer, unread}
+use Rattle.status_report.specs.StatusReport.{bits, reported, noParameters, behindStatus, behindAddress, line, statusReport, octetsIn, optionalChecks, making, reporting, Parts, parts, answer, unread}
 
 -- ---- the parts alone
 

@@ -4,7 +4,7 @@ use mathlib.Core.Bool.{Bool, true, false, _||_}
 use mathlib.Core.List.{List, [], _∷_, _++_}
 use lib.Dec.{eqb, ltb}
 use lib.ListN.{length}
-use Rattle.octets.specs.Choice.{if_then_else_}
+use Rattle.octets.specs.Choice.{if_then_else_, flag}
 use Rattle.octets.specs.Checks.{Check, _unless_, checked}
 use Rattle.octets.specs.Lent.{Making, refused}
 use Rattle.octets.specs.declared.Outcome.{Outcome}
@@ -113,11 +113,6 @@ checksBehind scts dt pi p = (NotATime unless isTime scts) ∷ (NotATime unless i
 -- what a writer makes of the parts: first octet, reference, address, the two times, status, indicator, parameters
 unfoldable pub making : ℕ → ℕ → ℕ → ℕ → List ℕ → List ℕ → List ℕ → ℕ → OptionalOctet → Parameters → Making Written
 making first mr ton npi text scts dt st pi p = checked (addressChecks ton npi text ++ checksBehind scts dt pi p) (octetsIn first mr ton npi text scts dt st pi p)
-
--- a flag as a bit of an octet
-abbrev pub flag : Bool → ℕ → ℕ
-flag true weight = weight
-flag false weight = 0
 
 -- MTI 2; UDHI bit 6, SRQ 5, LP 3, MMS 2
 abbrev pub firstOf : SmsStatusReport → ℕ

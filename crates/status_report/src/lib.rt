@@ -11,7 +11,7 @@ ghost use Rattle.address.specs.Address.{addressMaking, addressSize, canonicalAd
 ghost use Rattle.address.specs.Parts.{checkOf};
 ghost use Rattle.parameters.specs.Checking.{found};
 ghost use Rattle.parameters.specs.Optional.{held};
-ghost use Rattle.status_report.specs.StatusReport.{bits, reported, behindStatus, behindAddress, statusReport, answer, unread, flag as flagWeight, octetsBehind, octetsIn, optionalChecks, checksBehind, making, reporting};
+ghost use Rattle.status_report.specs.StatusReport.{bits, reported, behindStatus, behindAddress, statusReport, answer, unread, octetsBehind, octetsIn, optionalChecks, checksBehind, making, reporting};
 use address::AddressCheck;
 use address::SMSAddress;
 use coding::UserData;
@@ -379,13 +379,6 @@ fn encode_parts(
     }
 }
 
-// A flag as a bit of the first octet.
-fn flag(on: bool, weight: u8) -> u8
-    ensures { λ r. ⌜ (r ≡ flagWeight on weight) × (r ≤ weight) ⌝ }
-{
-    if on { weight } else { 0 }
-}
-
 impl SmsStatusReport {
     // Writes the message to the start of a lent output.
     pub fn encode(self, out: &mut [u8]) -> Written
@@ -412,10 +405,10 @@ impl SmsStatusReport {
             return Written::Refused(Refusal::LengthTooLarge);
         }
         let first = MTI_STATUS_REPORT
-            + flag(self.tp_udhi, 64)
-            + flag(self.tp_srq, 32)
-            + flag(self.tp_lp, 8)
-            + flag(self.tp_mms, 4);
+            + octets::flag(self.tp_udhi, 64)
+            + octets::flag(self.tp_srq, 32)
+            + octets::flag(self.tp_lp, 8)
+            + octets::flag(self.tp_mms, 4);
         let text = recipient.address;
         let digits = timestamp.digits;
         let digits2 = discharge.digits;

@@ -8,14 +8,14 @@ use mathlib.Core.Option.{Option, none, some}
 use lib.Dec.{eqb, leb}
 use lib.ListN.{take}
 use Rattle.octets.specs.Checks.{checked}
-use Rattle.octets.specs.Choice.{if_then_else_}
+use Rattle.octets.specs.Choice.{if_then_else_, flag}
 use Rattle.octets.specs.Lent.{Making, refused}
 use Rattle.octets.specs.declared.Refusal.the-variants.{LengthTooLarge}
 use Rattle.octets.specs.declared.Written.{Written}
 use Rattle.coding.specs.Coding.{dataOf}
 use Rattle.submit.specs.declared.SmsSubmit.{SmsSubmit}
 use Rattle.submit.specs.declared.ValidityPeriod.{ValidityPeriod}
-use Rattle.submit.specs.Submit.{flag, formatOf, lengthIf, making, flagsOf, digitsLength, lengthsFit, submitting}
+use Rattle.submit.specs.Submit.{formatOf, lengthIf, making, flagsOf, digitsLength, lengthsFit, submitting}
 use Rattle.submit.specs.Parts.{Destination, Parts, destinationOf, enhancedOf, parts}
 
 -- with what stands for an absent destination

@@ -10,7 +10,7 @@ use borrow.Author.Tests.{eqb-true, eq-eqb, le-leb, lt-leb, leb-true, ltb-true, l
 use lib.Dec.{eqb, ltb}
 use lib.ListN.{length, getD, take, length-take}
 use Rattle.octets.specs.Arrays.{pad}
-use Rattle.octets.specs.Choice.{if_then_else_}
+use Rattle.octets.specs.Choice.{if_then_else_, flag}
 use Rattle.octets.specs.Each.{Octets}
 use Rattle.octets.specs.Lent.{Making, refused, made}
 use Rattle.octets.specs.declared.Checked.{Checked}
@@ -32,7 +32,7 @@ use Rattle.layout.proofs.Demand.{Answers, Writes, demand3, answers-plain}
 use Rattle.layout.proofs.Rewriting.{Told}
 use Rattle.layout.proofs.Makes.{Makes}
 use Rattle.submit.specs.declared.SmsSubmit.{SmsSubmit}
-use Rattle.submit.specs.Submit.{flag, formatIn, periodIn, ofFormat, periodOctets, headerSize, inCount, textWith, submitted, bits, behindCoding, behindFirst, line, submit, answer, unread, making, flagsOf, lengthIf, lengthsFit, submitting}
+use Rattle.submit.specs.Submit.{formatIn, periodIn, ofFormat, periodOctets, headerSize, inCount, textWith, submitted, bits, behindCoding, behindFirst, line, submit, answer, unread, making, flagsOf, lengthIf, lengthsFit, submitting}
 use Rattle.submit.specs.Parts.{Destination, Parts, parts}
 use Rattle.submit.proofs.Period.{digitsCount, digitsBeside, Held, period-held}
 use Rattle.submit.proofs.Reading.{kept-whole}

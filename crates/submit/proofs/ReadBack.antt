@@ -12,7 +12,7 @@ use lib.ListN.{length, take}
 use Rattle.octets.proofs.Choice.{and-true}
 use Rattle.octets.proofs.Laws.{take-pad, pad-full}
 use Rattle.octets.proofs.Table.{allBelow, below}
-use Rattle.octets.specs.Choice.{if_then_else_}
+use Rattle.octets.specs.Choice.{if_then_else_, flag}
 use Rattle.time.specs.Time.{timeIn, timeDigits, timeOctets, capitals}
 use Rattle.time.proofs.Laws.{digits-back}
 use Rattle.address.specs.Address.{textIn, addressIn, addressWith, addressOctets, addressSize, canonicalAddress, octetsOr, isSome, textHeld}
@@ -29,7 +29,7 @@ use Rattle.submit.specs.declared.ValidityPeriod.{ValidityPeriod}
 use Rattle.submit.specs.Parts.{parts}
 use Rattle.submit.proofs.Written.{written-read}
 use Rattle.submit.proofs.Writing.{holds, all-passed}
-use Rattle.submit.specs.Submit.{flag, formatIn, formatOf, periodIn, periodOctets, isAbsolute, lengthIf, timeHolds, periodSize, headerSize, inCount, submitted, submit, addressLength, digitsLength, lengthsFit, submitting}
+use Rattle.submit.specs.Submit.{formatIn, formatOf, periodIn, periodOctets, isAbsolute, lengthIf, timeHolds, periodSize, headerSize, inCount, submitted, submit, addressLength, digitsLength, lengthsFit, submitting}
 use Rattle.submit.proofs.Period.{digitsBeside, enhancedBeside, period-size}
 
 -- ---- the first octet

@@ -5,7 +5,7 @@ use mathlib.Core.List.{List, [], _∷_, _++_}
 use lib.Dec.{eqb, leb}
 use lib.ListN.{length, take, drop}
 use Rattle.octets.specs.Arrays.{pad}
-use Rattle.octets.specs.Choice.{if_then_else_}
+use Rattle.octets.specs.Choice.{if_then_else_, flag}
 use Rattle.octets.specs.Checks.{_unless_, checked}
 use Rattle.octets.specs.Lent.{Making, refused}
 use Rattle.octets.specs.declared.Outcome.{Outcome}
@@ -161,11 +161,6 @@ answer (reached r n) = record { outcome = Outcome.Done; message = r; «octets_re
 answer (halted why) = unread why
 
 -- ---- writing
-
--- a flag's weight in the first octet
-abbrev pub flag : Bool → ℕ → ℕ
-flag true weight = weight
-flag false weight = 0
 
 -- a length that counts: that of an absent part doesn't
 abbrev pub lengthIf : Bool → ℕ → ℕ

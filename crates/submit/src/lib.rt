@@ -14,7 +14,7 @@ ghost use Rattle.layout.specs.Demand.{Rewrites};
 ghost use Rattle.layout.specs.Layout.{read, readFrom, cut, isSet, address as addressKind};
 ghost use Rattle.address.specs.Address.{addressMaking, addressSize, canonicalAddress};
 ghost use Rattle.address.specs.Parts.{checkOf};
-ghost use Rattle.submit.specs.Submit.{submit, behindCoding, submitted, answer, unread, headerSize, inCount, readable, textWith, formatIn, formatOf, periodIn, ofFormat, periodSize, periodOctets, timeHolds, isAbsolute, lengthIf, flag as flagWeight, octetsIn, making, submitting};
+ghost use Rattle.submit.specs.Submit.{submit, behindCoding, submitted, answer, unread, headerSize, inCount, readable, textWith, formatIn, formatOf, periodIn, ofFormat, periodSize, periodOctets, timeHolds, isAbsolute, lengthIf, octetsIn, making, submitting};
 use address::AddressCheck;
 use address::SMSAddress;
 use coding::UserData;
@@ -520,13 +520,6 @@ fn encode_parts(
     }
 }
 
-// A flag as a bit of the first octet.
-fn flag(on: bool, weight: u8) -> u8
-    ensures { λ r. ⌜ (r ≡ flagWeight on weight) × (r ≤ weight) ⌝ }
-{
-    if on { weight } else { 0 }
-}
-
 // A length that counts: that of an absent part doesn't.
 fn length_if(there: bool, length: usize) -> usize
     ensures { λ r. ⌜ r ≡ lengthIf there length ⌝ }
@@ -556,10 +549,10 @@ impl SmsSubmit {
         if !fit {
             return Written::Refused(Refusal::LengthTooLarge);
         }
-        let flags = flag(self.tp_rp, 128)
-            + flag(self.tp_udhi, 64)
-            + flag(self.tp_srr, 32)
-            + flag(self.tp_rd, 4);
+        let flags = octets::flag(self.tp_rp, 128)
+            + octets::flag(self.tp_udhi, 64)
+            + octets::flag(self.tp_srr, 32)
+            + octets::flag(self.tp_rd, 4);
         let text = destination.address;
         let digits = time.digits;
         let enhanced = self.validity_period_octets;

@@ -14,7 +14,7 @@ use Rattle.deliver.proofs.SmsDeliver.encode.Tie as tie
 use Rattle.deliver.proofs.SmsDeliver.encode.Reads as reads
 use Rattle.deliver.proofs.SmsDeliver.encode.Lts as lts
 use Rattle.deliver.proofs.encode_parts.Reads as encode-parts-reads
-use Rattle.deliver.proofs.flag.Reads as flag-reads
+use Rattle.octets.proofs.flag.Reads as flag-reads
 
 abbrev Start : Type 0
 Start = lts.Start (flag-reads.Asked, flag-reads.Learnt, encode-parts-reads.Asked, encode-parts-reads.Learnt) reads.Pre reads.Post

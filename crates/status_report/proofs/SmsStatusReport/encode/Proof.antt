@@ -11,7 +11,7 @@ use Rattle.status_report.proofs.Writing.{address-long, time-long, disch
 use Rattle.status_report.proofs.SmsStatusReport.encode.Reads as reads
 use Rattle.status_report.proofs.SmsStatusReport.encode.Lts as lts
 use Rattle.status_report.proofs.encode_parts.Reads as encode-parts-reads
-use Rattle.status_report.proofs.flag.Reads as flag-reads
+use Rattle.octets.proofs.flag.Reads as flag-reads
 use Rattle.status_report.proofs.SmsStatusReport.encode.Statement.{statement}
 use Rattle.status_report.proofs.SmsStatusReport.encode.Tie as tie
 

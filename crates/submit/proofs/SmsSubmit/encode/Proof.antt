@@ -13,7 +13,7 @@ use Rattle.submit.specs.Submit.{addressLength, digitsLength, headerLengt
 use Rattle.submit.proofs.Writing.{too-long, by-parts, all-fit}
 use Rattle.submit.proofs.length_if.Reads as length-if-reads
 use Rattle.submit.proofs.ValidityPeriod.format.Reads as format-reads
-use Rattle.submit.proofs.flag.Reads as flag-reads
+use Rattle.octets.proofs.flag.Reads as flag-reads
 use Rattle.submit.proofs.encode_parts.Reads as encode-parts-reads
 use Rattle.submit.proofs.SmsSubmit.encode.Reads as reads
 use Rattle.submit.proofs.SmsSubmit.encode.Lts as lts
