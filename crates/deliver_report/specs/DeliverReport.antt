@@ -13,7 +13,7 @@ use Rattle.octets.specs.declared.Written.{Written}
 use Rattle.coding.specs.Coding.{codingOf, characterSet, dataOctets, dataWith, dataOf}
 use Rattle.layout.specs.Layout.{indicator, indicatorSize, kept, isSet, leading, Format, field, done, _then_, message, one, Reached, reached, halted, Layout, plain, stopping, stops, after, reading, readFrom, read, fieldsOf, canonicalOf}
 use Rattle.parameters.specs.Checking.{indicatorChecks, dataChecks}
-use Rattle.parameters.specs.Line.{Parameters, parameters, parametersOctets}
+use Rattle.parameters.specs.Line.{Parameters, parameters, parametersOctets, noParameters}
 use Rattle.parameters.specs.Optional.{octetsHeld}
 use Rattle.parameters.specs.declared.OptionalOctet.{OptionalOctet}
 use Rattle.parameters.specs.declared.OptionalOctet.the-variants.{Absent, Present}
@@ -33,9 +33,6 @@ reported udhi cause pi p = record {
   «tp_user_data_length» = p .udl;
   «tp_user_data» = dataWith (p .ud);
 }
-
-abbrev pub noParameters : Parameters
-noParameters = record { pid = Absent; dcs = Absent; udl = Absent; ud = [] }
 
 -- behind first octet and cause: indicator, parameters
 abbrev pub rest : Bool → OptionalOctet → Format SmsDeliverReport

@@ -17,6 +17,9 @@ pub record Parameters : Type 0 where
   pub udl : OptionalOctet
   pub ud : List ℕ
 
+abbrev pub noParameters : Parameters
+noParameters = record { pid = Absent; dcs = Absent; udl = Absent; ud = [] }
+
 -- an octet that is there where its indicator bit announces it
 abbrev pub announced : Bool → Format OptionalOctet
 announced true = one λ x. done (Present x)

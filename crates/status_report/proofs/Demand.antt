@@ -27,7 +27,7 @@ use Rattle.layout.specs.Layout.{Field, any, first, octet, octets, address, indi
 use Rattle.layout.proofs.Makes.{Makes, makes-then}
 use Rattle.layout.proofs.Demand.{Answers, answers-checked, Writes, demand3, answers-plain}
 use Rattle.layout.proofs.Rewriting.{Told}
-use Rattle.parameters.specs.Line.{Parameters, parameters, parametersOctets}
+use Rattle.parameters.specs.Line.{Parameters, parameters, parametersOctets, noParameters}
 use Rattle.parameters.specs.Optional.{octetsHeld}
 use Rattle.parameters.specs.declared.OptionalOctet.{OptionalOctet}
 use Rattle.parameters.specs.declared.OptionalOctet.the-variants.{Absent, Present}
@@ -35,7 +35,7 @@ use Rattle.parameters.proofs.Checking.{answers}
 use Rattle.parameters.proofs.Made.{Held, parameters-make}
 use Rattle.status_report.proofs.Writing.{by-parts}
 use Rattle.status_report.specs.declared.SmsStatusReport.{SmsStatusReport}
-use Rattle.status_report.specs.StatusReport.{bits, reported, noParameters, behindStatus, behindAddress, line, statusReport, octetsIn, optionalChecks, making, reporting, Parts, parts, answer, unread}
+use Rattle.status_report.specs.StatusReport.{bits, reported, behindStatus, behindAddress, line, statusReport, octetsIn, optionalChecks, making, reporting, Parts, parts, answer, unread}
 
 -- ---- the parts alone
 

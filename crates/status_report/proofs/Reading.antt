@@ -30,14 +30,14 @@ use Rattle.layout.proofs.Fields.{octets-take, octets-drop, cut-whole}
 use Rattle.layout.proofs.FirstOctet.{kept-bit}
 use Rattle.layout.proofs.Laws.{within-from}
 use Rattle.layout.proofs.Steps.{message-goes-on, message-differs, message-ends, octet-goes-on, octet-ends, span-goes-on, span-ends, address-goes-on, address-ends, indicator-goes-on, indicator-ends, end-reached, end-not-reached, then-goes-on, then-ends, done-reached}
-use Rattle.parameters.specs.Line.{Parameters, parameters, parametersAnswer}
+use Rattle.parameters.specs.Line.{Parameters, parameters, parametersAnswer, noParameters}
 use Rattle.parameters.specs.declared.OptionalOctet.{OptionalOctet}
 use Rattle.parameters.specs.declared.OptionalOctet.the-variants.{Absent, Present}
 use Rattle.parameters.specs.declared.ParametersRead.{ParametersRead}
 use Rattle.parameters.proofs.Reading.{Told, parameters-told, parameters-halted, indicator-within}
 use Rattle.status_report.specs.declared.SmsStatusReport.{SmsStatusReport}
 use Rattle.status_report.specs.declared.StatusReportRead.{StatusReportRead}
-use Rattle.status_report.specs.StatusReport.{bits, reported, noParameters, behindStatus, behindAddress, line, statusReport, answer, unread}
+use Rattle.status_report.specs.StatusReport.{bits, reported, behindStatus, behindAddress, line, statusReport, answer, unread}
 
 -- ---- the answer
 

@@ -16,7 +16,7 @@ use Rattle.time.specs.Time.{isTime, timeOctets, timeIn, digitsOf, capitals}
 use Rattle.address.specs.Address.{addressIn, addressWith, addressOctets, octetsOr, addressChecks, textHeld}
 use Rattle.layout.specs.Layout.{isSet, leading, Format, field, endOr, done, _then_, message, one, time, address, Reached, reached, halted, Layout, plain}
 use Rattle.parameters.specs.Checking.{indicatorChecks, dataChecks}
-use Rattle.parameters.specs.Line.{Parameters, parameters, parametersOctets}
+use Rattle.parameters.specs.Line.{Parameters, parameters, parametersOctets, noParameters}
 use Rattle.parameters.specs.Optional.{octetsHeld}
 use Rattle.parameters.specs.declared.OptionalOctet.{OptionalOctet}
 use Rattle.parameters.specs.declared.OptionalOctet.the-variants.{Absent, Present}
@@ -43,9 +43,6 @@ reported f mr ra scts dt st pi p = record {
   «tp_user_data_length» = p .udl;
   «tp_user_data» = dataWith (p .ud);
 }
-
-abbrev pub noParameters : Parameters
-noParameters = record { pid = Absent; dcs = Absent; udl = Absent; ud = [] }
 
 -- UDHI 6, SRQ 5, LP 3, MMS 2
 abbrev pub bits : List ℕ

@@ -14,7 +14,7 @@ use Rattle.coding.specs.Coding.{dataWith, dataOf}
 use Rattle.time.specs.Time.{isTime, timeOctets, timeIn, digitsOf, capitals}
 use Rattle.layout.specs.Layout.{indicator, bit, leading, Format, field, time, done, _then_, message, one, Reached, reached, halted, Layout, plain, stopping}
 use Rattle.parameters.specs.Checking.{indicatorChecks, dataChecks}
-use Rattle.parameters.specs.Line.{Parameters, parameters, parametersOctets}
+use Rattle.parameters.specs.Line.{Parameters, parameters, parametersOctets, noParameters}
 use Rattle.parameters.specs.Optional.{octetsHeld}
 use Rattle.parameters.specs.declared.OptionalOctet.{OptionalOctet}
 use Rattle.parameters.specs.declared.OptionalOctet.the-variants.{Absent, Present}
@@ -35,9 +35,6 @@ reported udhi cause pi scts p = record {
   «tp_user_data_length» = p .udl;
   «tp_user_data» = dataWith (p .ud);
 }
-
-abbrev pub noParameters : Parameters
-noParameters = record { pid = Absent; dcs = Absent; udl = Absent; ud = [] }
 
 -- a cause or none, and nothing else: no time either
 abbrev pub causeAlone : OptionalOctet → SmsSubmitReport
