@@ -2,15 +2,17 @@
 -- Assumes nothing.
 use Prim.Native.Nat.{ℕ, _≤_}
 use native.Mathlib.Omega.{arith}
-use mathlib.Core.Path.{_≡_, refl}
+use mathlib.Core.Path.{_≡_, refl, ap, _∙_}
 use mathlib.Core.Bool.{Bool, true, false}
 use mathlib.Core.List.{List, [], _∷_, _++_}
-use borrow.Author.Tests.{eq-eqb, le-ltb, lt-ltb, leb-true, leb-false}
+use borrow.Author.Tests.{eq-eqb, eqb-true, le-ltb, lt-ltb, leb-true, leb-false}
 use lib.Dec.{eqb, leb, ltb}
-use Rattle.octets.specs.Checks.{Check, checked, afterChecked}
+use Rattle.octets.specs.Checks.{Check, _unless_, checked, afterChecked}
 use Rattle.octets.specs.Choice.{if_then_else_}
 use Rattle.octets.specs.Lent.{Making, refused}
-use Rattle.octets.specs.declared.Refusal.the-variants.{UserDataTooLong}
+use Rattle.octets.specs.declared.Checked.{Checked}
+use Rattle.octets.specs.declared.Refusal.the-variants.{UserDataLengthDisagrees, UserDataTooLong}
+use Rattle.octets.proofs.Checks.{checked-then, holds}
 use Rattle.octets.proofs.Laws.{take-pad}
 use Rattle.coding.specs.declared.UserDataCoding.{UserDataCoding}
 use Rattle.coding.specs.declared.UserDataCoding.the-variants.{Gsm7Bit, EightBit, Ucs2, Compressed}
@@ -21,15 +23,22 @@ pub data-held : (xs : List ℕ) → dataOf (dataWith xs) ≡ xs
 unfolding dataWith
 data-held xs = take-pad 255 xs
 
--- the answer of `check_user_data` decides
-pub data-checked : (dcs udl n : ℕ) (checks : List Check) (xs : List ℕ) → checked (dataChecks dcs udl n ++ checks) xs ≡ afterChecked (checkedData dcs udl n) (checked checks xs)
-unfolding checked checkedData
-data-checked dcs udl n checks xs = by (eqb n (dataOctets (codingOf dcs) udl)) refl (leb n 140) refl
-  where
-    by : (a : Bool) → eqb n (dataOctets (codingOf dcs) udl) ≡ a → (b : Bool) → leb n 140 ≡ b → checked (dataChecks dcs udl n ++ checks) xs ≡ afterChecked (checkedData dcs udl n) (checked checks xs)
-    by false p b q = rw p
-    by true p false q = rw (p, q)
-    by true p true q = rw (p, q)
+-- the number of octets of user data, as the calls tell it
+pub size-told : {n : ℕ} (dcs udl : ℕ) {k : UserDataCoding} → n ≡ dataOctets k udl → k ≡ codingOf dcs → n ≡ dataOctets (codingOf dcs) udl
+size-told dcs udl e c = e ∙ ap (λ (k : UserDataCoding). dataOctets k udl) c
+
+module _ (dcs udl n : ℕ) where
+  -- the answer of `check_user_data` decides
+  pub data-checked : (checks : List Check) (xs : List ℕ) → checked (dataChecks dcs udl n ++ checks) xs ≡ afterChecked (checkedData dcs udl n) (checked checks xs)
+  unfolding checkedData
+  data-checked checks xs = checked-then xs (dataChecks dcs udl n) checks
+
+  -- data that pass have the number that UDL and DCS give, and are few
+  pub data-passed : checkedData dcs udl n ≡ Checked.Fine → (n ≡ dataOctets (codingOf dcs) udl) × (n ≤ 140)
+  unfolding checkedData
+  data-passed e =
+      let (size, f) = holds UserDataLengthDisagrees (eqb n (dataOctets (codingOf dcs) udl)) ((UserDataTooLong unless leb n 140) ∷ []) e in
+      (eqb-true _ _ size, leb-true _ _ (holds UserDataTooLong (leb n 140) [] f .0))
 
 -- no more octets than UDL counts
 pub data-at-most : (coding : UserDataCoding) (udl : ℕ) → dataOctets coding udl ≤ udl

@@ -5,7 +5,7 @@ use mathlib.Core.List.{List, [], _∷_}
 use lib.Dec.{eqb, leb}
 use lib.ListN.{length as size, take}
 use Rattle.octets.specs.Arrays.{pad}
-use Rattle.octets.specs.Checks.{Check, _unless_}
+use Rattle.octets.specs.Checks.{Check, _unless_, found}
 use Rattle.octets.specs.Choice.{if_then_else_}
 use Rattle.octets.specs.declared.Checked.{Checked}
 use Rattle.octets.specs.declared.Refusal.the-variants.{UserDataLengthDisagrees, UserDataTooLong}
@@ -34,10 +34,11 @@ dataOctets Ucs2 udl = udl
 dataOctets Compressed udl = udl
 
 -- user data of n octets can be written: their number is what UDL and DCS give (refusal 7), and at most 140 (8)
+abbrev pub dataChecks : ℕ → ℕ → ℕ → List Check
+dataChecks dcs udl n = (UserDataLengthDisagrees unless eqb n (dataOctets (codingOf dcs) udl)) ∷ (UserDataTooLong unless leb n 140) ∷ []
+
 unfoldable pub checkedData : ℕ → ℕ → ℕ → Checked
-checkedData dcs udl n =
-    if eqb n (dataOctets (codingOf dcs) udl) then (if leb n 140 then Checked.Fine else Checked.Against UserDataTooLong)
-    else Checked.Against UserDataLengthDisagrees
+checkedData dcs udl n = found (dataChecks dcs udl n)
 
 -- octets as the user data of a record
 unfoldable pub dataWith : List ℕ → UserData
@@ -46,7 +47,3 @@ dataWith xs = record { octets = pad 255 xs; length = size xs }
 -- the user data that a record holds
 abbrev pub dataOf : UserData → List ℕ
 dataOf d = take (d .length) (d .octets)
-
--- the same as checks of a writer of several fields
-abbrev pub dataChecks : ℕ → ℕ → ℕ → List Check
-dataChecks dcs udl n = (UserDataLengthDisagrees unless eqb n (dataOctets (codingOf dcs) udl)) ∷ (UserDataTooLong unless leb n 140) ∷ []

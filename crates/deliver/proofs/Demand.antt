@@ -14,8 +14,9 @@ use Rattle.octets.specs.Each.{Octets}
 use Rattle.octets.specs.Lent.{Making, refused, made}
 use Rattle.octets.specs.declared.Refusal.the-variants.{LengthTooLarge, WrongMessageType, NotATime, UserDataTooLong, AddressTooLong}
 use Rattle.octets.specs.declared.Written.{Written}
-use Rattle.octets.proofs.Laws.{take-pad, check-holds, no-checks}
+use Rattle.octets.proofs.Laws.{take-pad}
 use Rattle.octets.proofs.Table.{below}
+use Rattle.octets.proofs.Checks.{check-holds, no-checks}
 use Rattle.coding.specs.Coding.{codingOf, dataOctets, dataChecks, dataWith, dataOf}
 use Rattle.coding.proofs.Laws.{data-held, data-at-most, data-limit}
 use Rattle.time.specs.Time.{isTime, timeDigits, timeOctets, timeIn, digitsOf}

@@ -9,21 +9,22 @@ use borrow.Author.Tests.{leb-true}
 use lib.Dec.{leb}
 use lib.ListN.{length, drop}
 use lib.Seq.{length-take-le, drop-drop}
-use Rattle.octets.specs.Checks.{_unless_, checked}
+use Rattle.octets.specs.Checks.{_unless_, checked, found}
 use Rattle.octets.specs.Lent.{made}
 use Rattle.octets.specs.declared.Checked.{Checked}
 use Rattle.octets.specs.declared.Refusal.the-variants.{LengthTooLarge}
 use Rattle.octets.specs.declared.Written.{Written}
 use Rattle.octets.proofs.Laws.{take-pad}
+use Rattle.octets.proofs.Checks.{holds, both-hold, made-told}
 use Rattle.coding.specs.Coding.{dataWith, dataOf}
 use Rattle.layout.specs.Layout.{reached, reading, readFrom, read}
-use Rattle.layout.proofs.Steps.{then-goes-on, done-reached}
-use Rattle.parameters.specs.Checking.{found, indicatorChecks, dataChecks}
+use Rattle.layout.proofs.Steps.{done-reached}
+use Rattle.parameters.specs.Checking.{indicatorChecks, dataChecks}
 use Rattle.parameters.specs.Line.{Parameters, parameters, parametersOctets}
 use Rattle.parameters.specs.Optional.{held}
 use Rattle.parameters.specs.declared.OptionalOctet.{OptionalOctet}
 use Rattle.parameters.specs.declared.OptionalOctet.the-variants.{Absent, Present}
-use Rattle.parameters.proofs.Back.{holds, both-hold, made-told, data-limit, octet-here, indicator-here, not-extended, parameters-back}
+use Rattle.parameters.proofs.Back.{data-limit, octet-here, indicator-here, not-extended, parameters-here}
 use Rattle.deliver_report.specs.DeliverReport.{reported, rest, outcomeOf, octetsIn, partsChecks, parametersOf, reporting, Parts, parts, partsOctets}
 use Rattle.deliver_report.specs.declared.SmsDeliverReport.{SmsDeliverReport}
 use Rattle.parameters.proofs.Made.{one-at-most}
@@ -35,11 +36,7 @@ use Rattle.deliver_report.proofs.Reading.{ack-goes-on, error-goes-on}
 module _ (pi : ℕ) (p : Parameters) (i : found (indicatorChecks pi (p .pid) (p .dcs) (p .udl)) ≡ Checked.Fine) (d : found (dataChecks (p .dcs) (p .udl) (length (p .ud))) ≡ Checked.Fine) where
   rest-back : (udhi : Bool) (cause : OptionalOctet) (s : List ℕ) (at : ℕ) → drop at s ≡ pi ∷ parametersOctets p
       → readFrom (rest udhi cause) s at ≡ reached (reported udhi cause pi p) (at + 1 + held (p .pid) + held (p .dcs) + held (p .udl) + length (p .ud))
-  unfolding readFrom
-  rest-back udhi cause s at e =
-      let t : drop (at + 1) s ≡ parametersOctets p ++ [] = sym (drop-drop 1 at s) ∙ ap (drop 1) e ∙ sym (append-nil (parametersOctets p)) in
-      let q : readFrom (parameters pi) s (at + 1) ≡ reached p (at + 1 + held (p .pid) + held (p .dcs) + held (p .udl) + length (p .ud)) = ap (λ (l : List ℕ). reading (parameters pi) l (at + 1)) t ∙ parameters-back pi p [] (at + 1) i d in
-      indicator-here s at e _ (not-extended pi p [] 0 i d) ∙ then-goes-on s (parameters pi) (at + 1) q _ ∙ done-reached s _ _
+  rest-back udhi cause s at e = indicator-here s at e _ (not-extended pi p [] 0 i d) ∙ parameters-here pi p i d s (at + 1) (sym (drop-drop 1 at s) ∙ ap (drop 1) e) _ ∙ done-reached s _ _
 
   back : (udhi : Bool) (cause : OptionalOctet) → (n : ℕ) × (read (outcomeOf cause) (octetsIn udhi cause pi p) ≡ reached (reported udhi cause pi p) n)
   back true Absent = (_, ack-goes-on (octetsIn true Absent pi p) (octet-here _ 0 refl) refl ∙ rest-back true Absent _ 1 refl)

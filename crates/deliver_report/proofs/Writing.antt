@@ -8,18 +8,18 @@ use native.Mathlib.Omega.{arith}
 use native.Mathlib.Nat.{zero-add}
 use borrow.Author.Tests.{le-leb, lt-leb}
 use lib.ListN.{length, length-append}
-use Rattle.octets.specs.Checks.{Check, checked}
+use Rattle.octets.specs.Checks.{Check, checked, found}
 use Rattle.octets.specs.Lent.{made, lend, Wrote}
 use Rattle.octets.specs.declared.Checked.{Checked}
 use Rattle.octets.specs.declared.Refusal.{Refusal}
 use Rattle.octets.specs.declared.Refusal.the-variants.{LengthTooLarge, OutputTooShort}
 use Rattle.octets.specs.declared.Written.{Written}
 use Rattle.octets.proofs.Laws.{lent-refused, lent-short, lent-done}
-use Rattle.parameters.specs.Checking.{found, indicatorChecks, dataChecks}
+use Rattle.octets.proofs.Checks.{passed, against, all-passed, one-against}
+use Rattle.parameters.specs.Checking.{indicatorChecks, dataChecks}
 use Rattle.parameters.specs.Line.{Parameters}
 use Rattle.parameters.specs.Optional.{held}
 use Rattle.parameters.specs.declared.OptionalOctet.{OptionalOctet}
-use Rattle.parameters.proofs.Checking.{passed, against, all-passed, one-against}
 use Rattle.deliver_report.specs.DeliverReport.{octetsIn, making, parametersOf, reporting}
 use Rattle.deliver_report.specs.declared.SmsDeliverReport.{SmsDeliverReport}
 

@@ -5,4 +5,5 @@ pub mod Laws
 pub mod Makes
 pub mod Demand
 pub mod Steps
+pub mod Back
 pub mod Rewriting

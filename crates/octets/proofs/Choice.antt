@@ -1,8 +1,8 @@
--- What the outcome of a choice by a test, of two tests together, and of a test of a range tells.
+-- What the outcome of a choice by a test, of two tests together, and of a test of a range tells; and a test of both values of a flag.
 -- Assumes nothing.
 use Prim.Native.Nat.{ℕ, _≤_}
-use mathlib.Core.Path.{_≡_, refl}
-use mathlib.Core.Bool.{Bool, true, false, _&&_, _||_, false≢true}
+use mathlib.Core.Path.{_≡_, refl, sym}
+use mathlib.Core.Bool.{Bool, true, false, not, _&&_, _||_, false≢true, true≢false}
 use mathlib.Core.Logic.{_⊎_, inl, inr, ⊎-elim, _↔_}
 use borrow.Author.Tests.{le-leb, leb-true}
 use lib.Dec.{leb}
@@ -15,6 +15,29 @@ chosen false e = inr (refl, e)
 pub and-true : (a b : Bool) → (a && b) ≡ true → (a ≡ true) × (b ≡ true)
 and-true true b e = (refl, e)
 and-true false b e = absurd (false≢true e)
+
+pub or-false : (a b : Bool) → (a || b) ≡ false → (a ≡ false) × (b ≡ false)
+or-false false b e = (refl, e)
+or-false true b e = absurd (true≢false e)
+
+-- a test passes for both values of a flag
+abbrev pub both : (Bool → Bool) → Bool
+both test = test true && test false
+
+pub both-holds : (test : Bool → Bool) → both test ≡ true → (b : Bool) → test b ≡ true
+both-holds test e true = and-true (test true) (test false) e .0
+both-holds test e false = and-true (test true) (test false) e .1
+
+-- two flags are the same
+abbrev pub same : Bool → Bool → Bool
+same true b = b
+same false b = not b
+
+pub same-is : (a b : Bool) → same a b ≡ true → b ≡ a
+same-is true true e = refl
+same-is true false e = e
+same-is false true e = sym e
+same-is false false e = refl
 
 -- a test in plain terms, from the tests that it is made of
 pub leb-means : (m n : ℕ) → (leb m n ≡ true) ↔ (m ≤ n)

@@ -2,7 +2,6 @@
 -- Assumes nothing.
 use Prim.Native.Nat.{ℕ, zero, suc, _+_, _-_, _<_, _≤_}
 use mathlib.Core.Path.{_≡_, refl, sym, ap, _∙_}
-use mathlib.Core.Bool.{Bool, true}
 use mathlib.Core.List.{List, [], _∷_, _++_, append-nil}
 use native.Mathlib.Omega.{arith}
 use native.Mathlib.Nat.{add-zero, zero-add, sub-zero, zero-sub, suc-sub-suc, add-suc, suc-add}
@@ -11,9 +10,7 @@ use lib.ListN.{length, take, drop, set, replicate, length-append, length-replica
 use lib.Seq.{sets, sets-eq, length-sets, take-at}
 use Rattle.octets.specs.declared.Refusal.{Refusal}
 use Rattle.octets.specs.declared.Refusal.the-variants.{OutputTooShort}
-use Rattle.octets.specs.declared.Written.{Written}
 use Rattle.octets.specs.Arrays.{pad}
-use Rattle.octets.specs.Checks.{Check, _unless_, checked}
 use Rattle.octets.specs.Lent.{Making, refused, made, lend, Wrote}
 
 -- ---- storing one list after the other
@@ -87,7 +84,8 @@ pub record Chain (l xs : List ℕ) (n at : ℕ) (after : List ℕ) : Type 0 wher
   pub place : at ≡ n
   pub kept : length after ≡ length l
 
-kept-by : {at next : ℕ} {xs l after : List ℕ} → Wrote at xs l next after → length after ≡ length l
+-- the buffer keeps its length
+pub kept-by : {at next : ℕ} {xs l after : List ℕ} → Wrote at xs l next after → length after ≡ length l
 kept-by {at} {xs = xs} {l} w = ap length (w .list) ∙ length-sets l at xs
 
 pub chain-start : {xs l after : List ℕ} {at : ℕ} → Wrote 0 xs l at after → Chain l xs (length xs) at after
@@ -111,12 +109,3 @@ module _ {A : Type 0} (blank : Refusal → A) {m : Making A} (l : List ℕ) wher
     pub lent-done : {l′ : List ℕ} → length xs ≤ length l → l′ ≡ sets l 0 xs → _≡_ {A = A × List ℕ} (a, l′) (lend blank m l)
     unfolding lend
     lent-done h p = rw (e, le-leb (length xs) (length l) h, p, sets-start xs l h)
-
--- a check that holds leaves the others
-pub check-holds : {holds : Bool} → holds ≡ true → (why : Refusal) (checks : List Check) (xs : List ℕ) → checked ((why unless holds) ∷ checks) xs ≡ checked checks xs
-unfolding checked
-check-holds e why checks xs = rw e
-
-pub no-checks : (xs : List ℕ) → checked [] xs ≡ made xs (Written.Done (length xs))
-unfolding checked
-no-checks xs = refl

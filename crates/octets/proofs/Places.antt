@@ -7,7 +7,7 @@ use mathlib.Core.Logic.{⊎-elim}
 use native.Mathlib.Omega.{arith}
 use borrow.Author.Tests.{ltb-true, ltb-false, leb-true, leb-false}
 use lib.Dec.{ltb, leb}
-use lib.ListN.{length, getD, drop}
+use lib.ListN.{length, getD, drop, length-drop}
 use Rattle.octets.specs.declared.Refusal.{Refusal}
 use Rattle.octets.specs.declared.Refusal.the-variants.{OctetsEnd}
 use Rattle.octets.specs.declared.Place.{Place}
@@ -35,6 +35,10 @@ module _ (s : List ℕ) (p : Place) where
     unfolding spanAt
     span-there e =
         ⊎-elim (λ w. (leb-true _ _ (w .0), cc, cc)) (λ w. let z : _≡_ {A = ℕ} 0 1 = cc in absurd (omega arith)) (chosen (leb n (length (drop (p .at) s))) e)
+
+    -- and lie in the string, from a place that does
+    pub span-inside : {a : ℕ} {q : Place} → spanAt s p n ≡ Span.There a q → p .at ≤ length s → (a + n ≤ length s) × (q .at ≤ length s)
+    span-inside e h = let (fits, from, next) = span-there e in (omega (arith, length-drop (p .at) s), omega (arith, length-drop (p .at) s))
 
     pub span-refused : {r : Refusal} → spanAt s p n ≡ Span.Refused r → (length (drop (p .at) s) < n) × (r ≡ OctetsEnd)
     unfolding spanAt

@@ -14,6 +14,11 @@ infix 3 _unless_
 pub data Check : Type 0 where
   _unless_ : Refusal → Bool → Check
 
+-- the first check whose test fails
+abbrev pub found : List Check → Checked
+found [] = Checked.Fine
+found ((why unless holds) ∷ checks) = if holds then found checks else Checked.Against why
+
 -- the first check whose test fails refuses; where all hold the octets are written
 unfoldable pub checked : List Check → List ℕ → Making Written
 checked [] octets = made octets (Written.Done (length octets))

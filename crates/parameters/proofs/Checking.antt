@@ -1,4 +1,4 @@
--- What the checks of indicator and parameters find, and what a writer's list of checks comes to.
+-- What the checks of indicator and parameters find.
 -- Assumes nothing.
 use Prim.Native.Nat.{ℕ}
 use mathlib.Core.Path.{_≡_, refl, sym, _∙_}
@@ -9,46 +9,18 @@ use borrow.Author.Tests.{eq-eqb, leb-true, leb-false, le-ltb, lt-ltb}
 use lib.Dec.{leb, ltb}
 use lib.ListN.{length}
 use Rattle.octets.specs.Choice.{if_then_else_}
-use Rattle.octets.specs.Checks.{Check, _unless_, checked}
+use Rattle.octets.specs.Checks.{Check, _unless_, checked, found}
 use Rattle.octets.specs.Lent.{refused, made}
 use Rattle.octets.specs.declared.Checked.{Checked}
 use Rattle.octets.specs.declared.Refusal.{Refusal}
 use Rattle.octets.specs.declared.Refusal.the-variants.{IndicatorExtended, UserDataTooLong}
 use Rattle.octets.specs.declared.Written.{Written}
+use Rattle.octets.proofs.Checks.{passed, against, all-passed, one-against}
 use Rattle.layout.specs.Layout.{isSet, Field, anyPastLimit}
 use Rattle.layout.proofs.Demand.{Answers}
-use Rattle.parameters.specs.Checking.{found, indicatorChecks, dataChecks}
+use Rattle.parameters.specs.Checking.{indicatorChecks, dataChecks}
 use Rattle.parameters.specs.Line.{Parameters}
 use Rattle.parameters.proofs.Made.{Held}
-
--- ---- a list of checks
-
-never : {why : Refusal} → Checked.Fine ≡ Checked.Against why → ⊥
-never e = let z : _≡_ {A = ℕ} 0 1 = cc in omega arith
-
-module _ (more : List Check) where
-  pub passed : (checks : List Check) → found checks ≡ Checked.Fine → found (checks ++ more) ≡ found more
-  passed [] e = refl
-  passed ((why unless true) ∷ checks) e = passed checks e
-  passed ((why unless false) ∷ checks) e = absurd (never (sym e))
-
-  pub against : {why : Refusal} (checks : List Check) → found checks ≡ Checked.Against why → found (checks ++ more) ≡ Checked.Against why
-  against [] e = absurd (never e)
-  against ((w unless true) ∷ checks) e = against checks e
-  against ((w unless false) ∷ checks) e = e
-
-module _ (octets : List ℕ) where
-  pub all-passed : (checks : List Check) → found checks ≡ Checked.Fine → checked checks octets ≡ made octets (Written.Done (length octets))
-  unfolding checked
-  all-passed [] e = refl
-  all-passed ((why unless true) ∷ checks) e = all-passed checks e
-  all-passed ((why unless false) ∷ checks) e = absurd (never (sym e))
-
-  pub one-against : {why : Refusal} (checks : List Check) → found checks ≡ Checked.Against why → checked checks octets ≡ refused why
-  unfolding checked
-  one-against [] e = absurd (never e)
-  one-against ((w unless true) ∷ checks) e = one-against checks e
-  one-against ((w unless false) ∷ checks) e = cc
 
 -- ---- what was read passes the checks, but for bit 7 and more than 140 octets
 

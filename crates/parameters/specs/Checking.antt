@@ -2,21 +2,14 @@
 use Prim.Native.Nat.{ℕ, _+_, _*_, _%_}
 use mathlib.Core.Bool.{not}
 use mathlib.Core.List.{List, [], _∷_}
-use lib.Dec.{eqb, leb}
-use Rattle.octets.specs.Choice.{if_then_else_}
+use lib.Dec.{eqb}
 use Rattle.octets.specs.Checks.{Check, _unless_}
-use Rattle.octets.specs.declared.Checked.{Checked}
-use Rattle.octets.specs.declared.Refusal.the-variants.{IndicatorDisagrees, IndicatorExtended, UserDataLengthDisagrees, UserDataTooLong, UserDataWithoutLength}
-use Rattle.coding.specs.Coding.{codingOf, dataOctets}
+use Rattle.octets.specs.declared.Refusal.the-variants.{IndicatorDisagrees, IndicatorExtended, UserDataWithoutLength}
+use Rattle.coding.specs.Coding.{dataChecks as checksOf}
 use Rattle.layout.specs.Layout.{isSet}
 use Rattle.parameters.specs.Optional.{held, orZero}
 use Rattle.parameters.specs.declared.OptionalOctet.{OptionalOctet}
 use Rattle.parameters.specs.declared.OptionalOctet.the-variants.{Absent, Present}
-
--- the first check whose test fails
-abbrev pub found : List Check → Checked
-found [] = Checked.Fine
-found ((why unless holds) ∷ checks) = if holds then found checks else Checked.Against why
 
 -- indicator bits 0, 1, 2 say exactly which of PID, DCS and UDL are held; bit 7 is not set
 unfoldable pub indicatorChecks : ℕ → OptionalOctet → OptionalOctet → OptionalOctet → List Check
@@ -25,5 +18,5 @@ indicatorChecks pi pid dcs udl =
 
 -- user data of n octets: as UDL and DCS say, and at most 140; none without UDL
 unfoldable pub dataChecks : OptionalOctet → OptionalOctet → ℕ → List Check
-dataChecks dcs (Present udl) n = (UserDataLengthDisagrees unless eqb n (dataOctets (codingOf (orZero dcs)) udl)) ∷ (UserDataTooLong unless leb n 140) ∷ []
+dataChecks dcs (Present udl) n = checksOf (orZero dcs) udl n
 dataChecks dcs Absent n = (UserDataWithoutLength unless eqb n 0) ∷ []

@@ -10,49 +10,43 @@ use borrow.Author.Tests.{eq-eqb, eqb-true, leb-true, ltb-false}
 use lib.Dec.{eqb, leb, ltb}
 use lib.ListN.{length, take, drop, length-append, length-drop}
 use lib.Seq.{length-take-le, take-at, drop-at, drop-drop}
-use Rattle.octets.specs.Checks.{_unless_}
+use Rattle.octets.specs.Checks.{_unless_, found}
 use Rattle.octets.specs.Choice.{if_then_else_, flag}
 use Rattle.octets.specs.Lent.{Making, refused, made}
 use Rattle.octets.specs.declared.Checked.{Checked}
 use Rattle.octets.specs.declared.Refusal.{Refusal}
 use Rattle.octets.specs.declared.Refusal.the-variants.{LengthTooLarge, WrongMessageType, NotATime, NumberTypeOrPlanTooLarge, NotInAlphabet, AddressTooLong, ParametersWithoutIndicator}
 use Rattle.octets.specs.declared.Written.{Written}
-use Rattle.octets.proofs.Choice.{and-true}
+use Rattle.octets.proofs.Choice.{and-true, or-false, both, both-holds, same, same-is}
+use Rattle.octets.proofs.Checks.{holds, both-hold, made-unless, made-told}
 use Rattle.octets.proofs.Laws.{take-pad}
 use Rattle.coding.specs.Coding.{dataWith, dataOf}
 use Rattle.coding.proofs.Laws.{data-held}
 use Rattle.time.specs.Time.{isTime, timeDigits, timeOctets, timeIn, digitsOf, capitals}
-use Rattle.time.proofs.Laws.{digits-back, length-digits, time-means, time-held}
+use Rattle.time.proofs.Laws.{digits-back, length-digits, time-means, time-held, time-size}
 use Rattle.address.specs.Address.{addressIn, addressWith, addressOctets, addressSize, addressChecks, canonicalAddress, octetsOr, isSome, textIn, textHeld}
 use Rattle.address.specs.declared.SMSAddress.{SMSAddress}
 use Rattle.address.proofs.Shapes.{octets-read}
+use Rattle.address.proofs.Laws.{Spelled, address-passed}
 use Rattle.layout.specs.Layout.{Kind, first, octet, octets, any, leading, address, isSet, messageType, kept, Whole, canon, Format, field, require, one, reached, reading, readFrom, read}
 use Rattle.layout.proofs.Fields.{own}
 use Rattle.layout.proofs.Laws.{goes-on}
-use Rattle.layout.proofs.Steps.{then-goes-on, done-reached, end-not-reached}
-use Rattle.parameters.specs.Checking.{found, indicatorChecks, dataChecks}
+use Rattle.layout.proofs.Steps.{done-reached, end-not-reached}
+use Rattle.layout.proofs.Back.{field-read, message-read}
+use Rattle.parameters.specs.Checking.{indicatorChecks, dataChecks}
 use Rattle.parameters.specs.Line.{Parameters, parameters, parametersOctets}
 use Rattle.parameters.specs.Optional.{octetsHeld, held}
 use Rattle.parameters.specs.declared.OptionalOctet.{OptionalOctet}
 use Rattle.parameters.specs.declared.OptionalOctet.the-variants.{Absent, Present}
-use Rattle.parameters.proofs.Back.{holds, both-hold, made-told, data-limit, indicator-here, not-extended, parameters-back}
+use Rattle.parameters.proofs.Back.{data-limit, indicator-here, not-extended, parameters-here}
 use Rattle.parameters.proofs.Made.{one-at-most}
-use Rattle.status_report.specs.StatusReport.{bits, reported, behindStatus, behindAddress, line, statusReport, octetsIn, optionalChecks, checksBehind, making, firstOf, parametersOf, reporting, parts, capitalised}
+use Rattle.status_report.specs.StatusReport.{bits, reported, behindStatus, behindAddress, line, statusReport, octetsIn, optionalChecks, checksBehind, making, firstOf, parametersOf, reporting, parts, capitalised, tooLong}
 use Rattle.status_report.specs.declared.SmsStatusReport.{SmsStatusReport}
-use Rattle.status_report.proofs.Writing.{time-size}
 
 -- ---- the checks that a written record passed
 
-fits : {octets : List ℕ} {answer : Written} {m : Making Written} (why : Refusal) (a b c d : Bool) → (if a || (b || (c || d)) then refused why else m) ≡ made octets answer
-    → (a ≡ false) × (b ≡ false) × (c ≡ false) × (d ≡ false) × (m ≡ made octets answer)
-fits why false false false false e = (refl, refl, refl, refl, e)
-fits why true b c d e = let z : _≡_ {A = ℕ} 0 1 = cc in absurd (omega arith)
-fits why false true c d e = let z : _≡_ {A = ℕ} 0 1 = cc in absurd (omega arith)
-fits why false false true d e = let z : _≡_ {A = ℕ} 0 1 = cc in absurd (omega arith)
-fits why false false false true e = let z : _≡_ {A = ℕ} 0 1 = cc in absurd (omega arith)
-
-abbrev addressOf : SmsStatusReport → Option (List ℕ)
-addressOf r = addressOctets (r .«tp_recipient_address» .ton) (r .«tp_recipient_address» .npi) (textHeld (r .«tp_recipient_address»))
+abbrev addressOf : SmsStatusReport → List ℕ
+addressOf r = octetsOr [] (addressOctets (r .«tp_recipient_address» .ton) (r .«tp_recipient_address» .npi) (textHeld (r .«tp_recipient_address»)))
 
 record Passed (r : SmsStatusReport) (octets : List ℕ) : Type 0 where
   pub is : octetsIn (firstOf r) (r .«tp_mr») (r .«tp_recipient_address» .ton) (r .«tp_recipient_address» .npi) (textHeld (r .«tp_recipient_address»)) (digitsOf (r .«tp_service_centre_timestamp»)) (digitsOf (r .«tp_discharge_time»)) (r .«tp_status») (r .«tp_parameter_indicator») (parametersOf r) ≡ octets
@@ -60,10 +54,7 @@ record Passed (r : SmsStatusReport) (octets : List ℕ) : Type 0 where
   pub time-fits : r .«tp_service_centre_timestamp» .length ≤ 14
   pub discharge-fits : r .«tp_discharge_time» .length ≤ 14
   pub data-fits : r .«tp_user_data» .length ≤ 255
-  pub ton-is : r .«tp_recipient_address» .ton ≤ 7
-  pub npi-is : r .«tp_recipient_address» .npi ≤ 15
-  pub spelled : isSome (addressOf r) ≡ true
-  pub short : length (octetsOr [] (addressOf r)) ≤ 12
+  pub address : Spelled (r .«tp_recipient_address» .ton) (r .«tp_recipient_address» .npi) (textHeld (r .«tp_recipient_address»)) (addressOf r)
   pub time-is : isTime (digitsOf (r .«tp_service_centre_timestamp»)) ≡ true
   pub discharge-is : isTime (digitsOf (r .«tp_discharge_time»)) ≡ true
   pub optional : found (optionalChecks (r .«tp_parameter_indicator») (parametersOf r)) ≡ Checked.Fine
@@ -90,23 +81,6 @@ record Tells (udhi srq lp mms : Bool) (f : ℕ) : Type 0 where
   pub lp-is : isSet 3 f ≡ lp
   pub mms-is : isSet 2 f ≡ mms
 
-abbrev both : (Bool → Bool) → Bool
-both test = test true && test false
-
-both-holds : (test : Bool → Bool) → both test ≡ true → (b : Bool) → test b ≡ true
-both-holds test e true = and-true (test true) (test false) e .0
-both-holds test e false = and-true (test true) (test false) e .1
-
-abbrev same : Bool → Bool → Bool
-same true b = b
-same false b = not b
-
-same-is : (a b : Bool) → same a b ≡ true → b ≡ a
-same-is true true e = refl
-same-is true false e = e
-same-is false true e = sym e
-same-is false false e = refl
-
 abbrev tells : Bool → Bool → Bool → Bool → Bool
 tells udhi srq lp mms =
     let f = firstWith udhi srq lp mms in
@@ -123,41 +97,7 @@ first-tells udhi srq lp mms =
     let (d, g) = and-true _ _ e5 in
     record { whole = eqb-true _ _ whole; mti-is = eqb-true _ _ mti; udhi-is = same-is _ _ b; srq-is = same-is _ _ c; lp-is = same-is _ _ d; mms-is = same-is _ _ g }
 
--- ---- the address
-
-some-is : (o : Option (List ℕ)) → isSome o ≡ true → o ≡ some (octetsOr [] o)
-some-is none e = absurd (false≢true e)
-some-is (some xs) e = refl
-
-module _ (ton npi : ℕ) (text oa : List ℕ) (t : ton < 8) (p : npi < 16) (is : addressOctets ton npi text ≡ some oa) where
-  address-whole : addressSize oa ≡ length oa
-  address-whole = octets-read ton npi text oa t p is .0
-
-  address-back : addressIn oa ≡ addressWith ton npi text
-  unfolding addressIn
-  address-back = octets-read ton npi text oa t p is .1
-
-  address-again : canonicalAddress oa ≡ oa
-  unfolding addressIn addressWith canonicalAddress
-  address-again =
-      let e = address-back in
-      let n = ap (λ (a : SMSAddress). a .ton) e in
-      let m = ap (λ (a : SMSAddress). a .npi) e in
-      let x : textIn oa ≡ text = sym (take-pad 290 (textIn oa)) ∙ ap textHeld e ∙ take-pad 290 text in
-      rw (n, m, x, is)
-
 -- ---- octets in the line's order are read as the fields that they are
-
--- a whole field at the start is read, and the rest behind it
-field-read : {R : Type 0} (k : Kind) (next : List ℕ → Format R) (f rest : List ℕ) (at : ℕ) → Whole k f → reading (field k next) (f ++ rest) at ≡ reading (next (canon k f)) rest (at + length f)
-unfolding reading
-field-read k next f rest at w =
-    let n = own k f rest w in
-    goes-on _ k (f ++ rest) at (rw (n, length-append) (omega arith)) ∙ rw (n, take-at f rest (length f) refl, drop-at f rest (length f) refl)
-
-require-read : {R : Type 0} {holds : Bool} → holds ≡ true → (why : Refusal) (line : Format R) (s : List ℕ) (at : ℕ) → reading (require why holds line) s at ≡ reading line s at
-unfolding reading
-require-read e why line s at = rw e
 
 -- indicator and parameters, or the end
 none-read : (make : OptionalOctet → Parameters → SmsStatusReport) (pid dcs udl : OptionalOctet) (ud : List ℕ) (at : ℕ) → held pid + held dcs + held udl + length ud ≡ 0
@@ -178,9 +118,7 @@ module _ (make : OptionalOctet → Parameters → SmsStatusReport) (p : Paramete
   optional-read (Present pi) h e =
       let (i, d) = both-hold (indicatorChecks pi (p .pid) (p .dcs) (p .udl)) (dataChecks (p .dcs) (p .udl) (length (p .ud))) h in
       let room : at < length s = omega (arith, length-drop at s, ap length e) in
-      let u : drop (at + 1) s ≡ parametersOctets p ++ [] = sym (drop-drop 1 at s) ∙ ap (drop 1) e ∙ sym (append-nil (parametersOctets p)) in
-      let q : readFrom (parameters pi) s (at + 1) ≡ reached p (at + 1 + held (p .pid) + held (p .dcs) + held (p .udl) + length (p .ud)) = ap (λ (l : List ℕ). reading (parameters pi) l (at + 1)) u ∙ parameters-back pi p [] (at + 1) i d in
-      (at + 1 + held (p .pid) + held (p .dcs) + held (p .udl) + length (p .ud), end-not-reached s at _ _ room ∙ indicator-here s at e _ (not-extended pi p [] 0 i d) ∙ then-goes-on s (parameters pi) (at + 1) q _ ∙ done-reached s _ _)
+      (at + 1 + held (p .pid) + held (p .dcs) + held (p .udl) + length (p .ud), end-not-reached s at _ _ room ∙ indicator-here s at e _ (not-extended pi p [] 0 i d) ∙ parameters-here pi p i d s (at + 1) (sym (drop-drop 1 at s) ∙ ap (drop 1) e) _ ∙ done-reached s _ _)
 
 module _ (f : ℕ) (whole : kept bits f ≡ f) (mti : messageType f ≡ 2) (mr : ℕ) (ra : List ℕ) (size : addressSize ra ≡ length ra) (again : canonicalAddress ra ≡ ra) (scts : List ℕ) (seven : 7 ≡ length scts)
     (dt : List ℕ) (also : 7 ≡ length dt) (st : ℕ) where
@@ -189,9 +127,7 @@ module _ (f : ℕ) (whole : kept bits f ≡ f) (mti : messageType f ≡ 2) (mr :
 
   to-first : (rest : List ℕ) → read statusReport (f ∷ rest) ≡ reading (behindFirst f) rest 1
   unfolding read readFrom line
-  to-first rest =
-      field-read (first bits) (λ c. require WrongMessageType (eqb (messageType (leading c)) 2) (behindFirst (leading c))) (f ∷ []) rest 0 refl
-      ∙ rw whole (require-read (eq-eqb (messageType f) 2 mti) WrongMessageType (behindFirst f) rest 1)
+  to-first rest = message-read 2 bits behindFirst f whole mti rest 0
 
   to-times : (rest : List ℕ) → reading (behindFirst f) (mr ∷ (ra ++ rest)) 1 ≡ reading (behindAddress f mr ra) rest (2 + length ra)
   to-times rest = field-read octet _ (mr ∷ []) (ra ++ rest) 1 refl ∙ field-read address (λ ra. behindAddress f mr ra) ra rest 2 size ∙ rw again
@@ -248,25 +184,21 @@ module _ {os : List ℕ} {answer : Written} (r : SmsStatusReport) (e : reporting
       let dt = digitsOf (r .«tp_discharge_time») in
       let more = optionalChecks (r .«tp_parameter_indicator») (parametersOf r) in
       let behind = checksBehind scts dt (r .«tp_parameter_indicator») (parametersOf r) in
-      let (l1, l2, l3, l4, e0) = fits LengthTooLarge (ltb 290 (a .«address_length»)) (ltb 14 (r .«tp_service_centre_timestamp» .length)) (ltb 14 (r .«tp_discharge_time» .length)) (ltb 255 (r .«tp_user_data» .length)) e in
+      let (long, e0) = made-unless LengthTooLarge (tooLong r) e in
+      let (l1, m1) = or-false (ltb 290 (a .«address_length»)) _ long in
+      let (l2, m2) = or-false (ltb 14 (r .«tp_service_centre_timestamp» .length)) _ m1 in
+      let (l3, l4) = or-false (ltb 14 (r .«tp_discharge_time» .length)) _ m2 in
       let (f, x) = made-told _ _ e0 in
       let (g, k) = both-hold (addressChecks (a .ton) (a .npi) (textHeld a)) behind f in
-      let (range, g1) = holds NumberTypeOrPlanTooLarge (leb (a .ton) 7 && leb (a .npi) 15) ((NotInAlphabet unless isSome (addressOf r)) ∷ (AddressTooLong unless leb (length (octetsOr [] (addressOf r))) 12) ∷ []) g in
-      let (spelled, g2) = holds NotInAlphabet (isSome (addressOf r)) ((AddressTooLong unless leb (length (octetsOr [] (addressOf r))) 12) ∷ []) g1 in
-      let (short, g3) = holds AddressTooLong (leb (length (octetsOr [] (addressOf r))) 12) [] g2 in
       let (t, k1) = holds NotATime (isTime scts) ((NotATime unless isTime dt) ∷ more) k in
       let (d, k2) = holds NotATime (isTime dt) more k1 in
-      let (ton, npi) = and-true (leb (a .ton) 7) (leb (a .npi) 15) range in
       record {
         is = x;
         text-fits = ltb-false _ _ l1;
         time-fits = ltb-false _ _ l2;
         discharge-fits = ltb-false _ _ l3;
         data-fits = ltb-false _ _ l4;
-        ton-is = leb-true _ _ ton;
-        npi-is = leb-true _ _ npi;
-        spelled = spelled;
-        short = leb-true _ _ short;
+        address = address-passed _ _ _ g;
         time-is = t;
         discharge-is = d;
         optional = k2;
@@ -278,7 +210,7 @@ module _ {os : List ℕ} {answer : Written} (r : SmsStatusReport) (e : reporting
       let m = time-size (digitsOf (r .«tp_service_centre_timestamp»)) (passed .time-is) in
       let n = time-size (digitsOf (r .«tp_discharge_time»)) (passed .discharge-is) in
       let o = simp length-append at (optional-size (r .«tp_parameter_indicator») (parametersOf r) (passed .optional)) in
-      rw (← passed .is) (simp length-append (omega (arith, m, n, o, passed .short)))
+      rw (← passed .is) (simp length-append (omega (arith, m, n, o, passed .address .short)))
 
   -- what was written is read back
   pub read-back : length (r .«tp_recipient_address» .address) ≡ 290 → length (r .«tp_service_centre_timestamp» .digits) ≡ 14 → length (r .«tp_discharge_time» .digits) ≡ 14 → length (r .«tp_user_data» .octets) ≡ 255
@@ -287,8 +219,7 @@ module _ {os : List ℕ} {answer : Written} (r : SmsStatusReport) (e : reporting
       let p = passed in
       let a = r .«tp_recipient_address» in
       let text = textHeld a in
-      let ra = octetsOr [] (addressOf r) in
-      let is = some-is (addressOf r) (p .spelled) in
+      let ra = addressOf r in
       let time = r .«tp_service_centre_timestamp» in
       let late = r .«tp_discharge_time» in
       let ds = digitsOf time in
@@ -297,8 +228,6 @@ module _ {os : List ℕ} {answer : Written} (r : SmsStatusReport) (e : reporting
       let dt = timeOctets us in
       let f = firstOf r in
       let t = first-tells (r .«tp_udhi») (r .«tp_srq») (r .«tp_lp») (r .«tp_mms») in
-      let ton : a .ton < 8 = omega (arith, p .ton-is) in
-      let npi : a .npi < 16 = omega (arith, p .npi-is) in
       let n = time-size ds (p .time-is) in
       let m = time-size us (p .discharge-is) in
       let la : length text ≡ a .«address_length» = length-take-le (a .«address_length») (a .address) (omega (arith, ha, p .text-fits)) in
@@ -307,9 +236,9 @@ module _ {os : List ℕ} {answer : Written} (r : SmsStatusReport) (e : reporting
       let ld : length (dataOf (r .«tp_user_data»)) ≡ r .«tp_user_data» .length = length-take-le (r .«tp_user_data» .length) (r .«tp_user_data» .octets) (omega (arith, hd, p .data-fits)) in
       let lq : length (timeDigits scts) ≡ time .length = omega (arith, length-digits scts, n, time-means ds .0 (p .time-is) .0, lt) in
       let lv : length (timeDigits dt) ≡ late .length = omega (arith, length-digits dt, m, time-means us .0 (p .discharge-is) .0, lu) in
-      let (k, e) = written-read f (t .whole) (t .mti-is) (r .«tp_mr») ra (address-whole (a .ton) (a .npi) text ra ton npi is) (address-again (a .ton) (a .npi) text ra ton npi is) scts (sym n) dt (sym m) (r .«tp_status») (r .«tp_parameter_indicator») (parametersOf r) (p .optional) in (
+      let (k, e) = written-read f (t .whole) (t .mti-is) (r .«tp_mr») ra (p .address .whole) (p .address .again) scts (sym n) dt (sym m) (r .«tp_status») (r .«tp_parameter_indicator») (parametersOf r) (p .optional) in (
         reported f (r .«tp_mr») ra scts dt (r .«tp_status») (r .«tp_parameter_indicator») (parametersOf r),
         k,
         ap (read statusReport) (sym (p .is)) ∙ e,
-        same-parts r f t ra (address-back (a .ton) (a .npi) text ra ton npi is) la scts (digits-back ds (p .time-is)) lq dt (digits-back us (p .discharge-is)) lv ld,
+        same-parts r f t ra (p .address .back) la scts (digits-back ds (p .time-is)) lq dt (digits-back us (p .discharge-is)) lv ld,
       )

@@ -14,8 +14,8 @@ use Rattle.octets.specs.Each.{Octets}
 use Rattle.octets.specs.Lent.{Making, refused}
 use Rattle.octets.specs.declared.Refusal.the-variants.{LengthTooLarge, NotATime, AddressTooLong}
 use Rattle.octets.specs.declared.Written.{Written}
-use Rattle.octets.proofs.Laws.{check-holds}
 use Rattle.octets.proofs.Table.{below}
+use Rattle.octets.proofs.Checks.{check-holds}
 use Rattle.coding.specs.Coding.{dataWith}
 use Rattle.coding.proofs.Laws.{data-held}
 use Rattle.time.specs.Time.{timeDigits, timeIn}

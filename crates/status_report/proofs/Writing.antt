@@ -3,31 +3,31 @@
 use Prim.Native.Nat.{ℕ, _+_, _/_, _≤_, _<_}
 use mathlib.Core.Path.{_≡_, refl, sym, ap, _∙_}
 use mathlib.Core.Bool.{Bool, true, false}
-use mathlib.Core.List.{List}
+use mathlib.Core.List.{List, _∷_}
 use native.Mathlib.Omega.{arith}
 use native.Mathlib.Nat.{zero-add}
 use borrow.Author.Tests.{eq-eqb, ne-eqb, lt-ltb, le-ltb}
 use lib.ListN.{length, length-append}
 use lib.Seq.{length-sets}
-use Rattle.octets.specs.Checks.{checked}
+use Rattle.octets.specs.Checks.{_unless_, checked, found}
 use Rattle.octets.specs.Lent.{Making, refused, made, lend, Wrote}
 use Rattle.octets.specs.declared.Checked.{Checked}
 use Rattle.octets.specs.declared.Refusal.{Refusal}
-use Rattle.octets.specs.declared.Refusal.the-variants.{LengthTooLarge, ParametersWithoutIndicator, OutputTooShort}
+use Rattle.octets.specs.declared.Refusal.the-variants.{LengthTooLarge, NotATime, ParametersWithoutIndicator, OutputTooShort}
 use Rattle.octets.specs.declared.Written.{Written}
 use Rattle.octets.proofs.Laws.{lent-refused, lent-short, lent-done}
+use Rattle.octets.proofs.Checks.{holds, passed, against, all-passed, one-against}
 use Rattle.time.specs.Time.{isTime, timeOctets, digitsOf}
-use Rattle.time.proofs.Laws.{length-octets, time-means}
+use Rattle.time.proofs.Laws.{time-size}
 use Rattle.address.specs.declared.AddressCheck.{AddressCheck}
 use Rattle.address.specs.Address.{addressMaking, textHeld}
 use Rattle.address.specs.Parts.{checkOf}
 use Rattle.address.proofs.Checks.{afterCheck, address-checked, fine-size}
-use Rattle.parameters.specs.Checking.{found, indicatorChecks, dataChecks}
+use Rattle.parameters.specs.Checking.{indicatorChecks, dataChecks}
 use Rattle.parameters.specs.Line.{Parameters, parametersOctets}
 use Rattle.parameters.specs.Optional.{held}
 use Rattle.parameters.specs.declared.OptionalOctet.{OptionalOctet}
 use Rattle.parameters.specs.declared.OptionalOctet.the-variants.{Absent, Present}
-use Rattle.parameters.proofs.Checking.{passed, against, all-passed, one-against}
 use Rattle.status_report.specs.StatusReport.{octetsIn, optionalChecks, checksBehind, making, firstOf, parametersOf, reporting}
 use Rattle.status_report.specs.declared.SmsStatusReport.{SmsStatusReport}
 
@@ -55,24 +55,14 @@ module _ (p : Parameters) where
     unfolding optionalChecks
     indicator-fine e = sym (passed _ (indicatorChecks i (p .pid) (p .dcs) (p .udl)) e)
 
--- ---- sizes
-
-pub kept-length : {at next : ℕ} {xs l after : List ℕ} → Wrote at xs l next after → length after ≡ length l
-kept-length {at} {xs = xs} {l} w = ap length (w .list) ∙ length-sets l at xs
-
-pub time-size : (digits : List ℕ) → isTime digits ≡ true → length (timeOctets digits) ≡ 7
-time-size digits t = length-octets digits ∙ rw (time-means digits .0 t .0)
-
 -- ---- both times passed
 
 module _ (scts dt : List ℕ) (pi : OptionalOctet) (p : Parameters) where
   pub times-are : found (checksBehind scts dt pi p) ≡ Checked.Fine → (isTime scts ≡ true) × (isTime dt ≡ true)
-  times-are e = by (isTime scts) refl (isTime dt) refl
-    where
-      by : (a : Bool) → isTime scts ≡ a → (b : Bool) → isTime dt ≡ b → (isTime scts ≡ true) × (isTime dt ≡ true)
-      by true x true y = (x, y)
-      by true x false y = let f = rw (x, y) at e in let z : _≡_ {A = ℕ} 0 1 = cc in absurd (omega arith)
-      by false x b y = let f = rw x at e in let z : _≡_ {A = ℕ} 0 1 = cc in absurd (omega arith)
+  times-are e =
+      let more = optionalChecks pi p in
+      let (s, f) = holds NotATime (isTime scts) ((NotATime unless isTime dt) ∷ more) e in
+      (s, holds NotATime (isTime dt) more f .0)
 
 -- ---- all parts
 

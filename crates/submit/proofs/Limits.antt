@@ -13,6 +13,7 @@ use Rattle.octets.specs.Lent.{made}
 use Rattle.octets.specs.declared.Refusal.the-variants.{LengthTooLarge}
 use Rattle.octets.specs.declared.Written.{Written}
 use Rattle.octets.specs.Each.{Octets}
+use Rattle.octets.proofs.Checks.{made-if}
 use Rattle.coding.specs.Coding.{codingOf}
 use Rattle.layout.specs.Layout.{isSet, kept, Field, reached, read, readFrom}
 use Rattle.layout.proofs.Laws.{within-read}
@@ -20,7 +21,7 @@ use Rattle.layout.proofs.Makes.{Makes, makes}
 use Rattle.submit.specs.declared.SmsSubmit.{SmsSubmit}
 use Rattle.submit.specs.Submit.{formatOf, periodSize, digitsLength, lengthsFit, submitting, headerSize, textWith, submitted, bits, behindCoding, behindFirst, line, submit}
 use Rattle.submit.proofs.Period.{period-size}
-use Rattle.submit.proofs.Writing.{holds, all-passed}
+use Rattle.submit.proofs.Writing.{all-passed}
 use Rattle.submit.proofs.Text.{readable-short}
 
 short : Makes (λ (r : SmsSubmit) (cs : List Field). r .«tp_user_data» .length ≤ 510) line
@@ -52,6 +53,6 @@ at-most-seven v = by (eqb v 0) (eqb v 2)
 pub written-at-most : (r : SmsSubmit) → length (r .«validity_period_octets») ≡ 7 → (xs : List ℕ) (w : Written) → submitting r ≡ made xs w → length xs ≤ 173
 unfolding submitting
 written-at-most r seven xs w e =
-    let p = all-passed _ _ _ _ _ _ _ _ _ _ _ _ _ _ _ xs w (holds LengthTooLarge (lengthsFit r) e .1) in
+    let p = all-passed _ _ _ _ _ _ _ _ _ _ _ _ _ _ _ xs w (made-if LengthTooLarge (lengthsFit r) e .1) in
     let vp = period-size (r .«tp_validity_period») (take (digitsLength r) (r .«validity_period_digits» .digits)) (r .«validity_period_octets») (p .time) seven in
-    rw (← p .octets-are) (simp length-append (omega (arith, p .few, p .short, vp, at-most-seven (formatOf (r .«tp_validity_period»)))))
+    rw (← p .octets-are) (simp length-append (omega (arith, p .few, p .address .short, vp, at-most-seven (formatOf (r .«tp_validity_period»)))))

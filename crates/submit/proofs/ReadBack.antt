@@ -9,7 +9,8 @@ use native.Mathlib.Omega.{arith}
 use borrow.Author.Tests.{eqb-true, ltb-true}
 use lib.Dec.{eqb, leb, ltb}
 use lib.ListN.{length, take}
-use Rattle.octets.proofs.Choice.{and-true}
+use Rattle.octets.proofs.Choice.{and-true, both, both-holds, same, same-is}
+use Rattle.octets.proofs.Checks.{made-if}
 use Rattle.octets.proofs.Laws.{take-pad, pad-full}
 use Rattle.octets.proofs.Table.{allBelow, below}
 use Rattle.octets.specs.Choice.{if_then_else_, flag}
@@ -28,7 +29,7 @@ use Rattle.submit.specs.declared.SmsSubmit.{SmsSubmit}
 use Rattle.submit.specs.declared.ValidityPeriod.{ValidityPeriod}
 use Rattle.submit.specs.Parts.{parts}
 use Rattle.submit.proofs.Written.{written-read}
-use Rattle.submit.proofs.Writing.{holds, all-passed}
+use Rattle.submit.proofs.Writing.{all-passed}
 use Rattle.submit.specs.Submit.{formatIn, formatOf, periodIn, periodOctets, isAbsolute, lengthIf, timeHolds, periodSize, headerSize, inCount, submitted, submit, addressLength, digitsLength, lengthsFit, submitting}
 use Rattle.submit.proofs.Period.{digitsBeside, enhancedBeside, period-size}
 
@@ -36,24 +37,6 @@ use Rattle.submit.proofs.Period.{digitsBeside, enhancedBeside, period-s
 
 abbrev firstWith : Bool → Bool → Bool → Bool → ℕ → ℕ
 firstWith rp udhi srr rd vpf = flag rp 128 + flag udhi 64 + flag srr 32 + flag rd 4 + 8 * vpf + 1
-
--- a test of both flags
-abbrev both : (Bool → Bool) → Bool
-both test = test true && test false
-
-both-holds : (test : Bool → Bool) → both test ≡ true → (b : Bool) → test b ≡ true
-both-holds test e true = and-true (test true) (test false) e .0
-both-holds test e false = and-true (test true) (test false) e .1
-
-abbrev same : Bool → Bool → Bool
-same true b = b
-same false b = not b
-
-same-is : (a b : Bool) → same a b ≡ true → b ≡ a
-same-is true true e = refl
-same-is true false e = e
-same-is false true e = sym e
-same-is false false e = refl
 
 abbrev tells : Bool → Bool → Bool → Bool → ℕ → Bool
 tells rp udhi srr rd vpf =
@@ -81,24 +64,7 @@ first-tells rp udhi srr rd vpf l =
     let (d, v) = and-true _ _ e5 in
     record { small = ltb-true _ _ small; mti-is = eqb-true _ _ mti; rp-is = same-is _ _ a; udhi-is = same-is _ _ b; srr-is = same-is _ _ c; rd-is = same-is _ _ d; vpf-is = eqb-true _ _ v }
 
--- ---- the address and the period
-
-module _ (ton npi : ℕ) (text da : List ℕ) (t : ton < 8) (p : npi < 16) (is : addressOctets ton npi text ≡ some da) where
-  pub address-whole : addressSize da ≡ length da
-  address-whole = octets-read ton npi text da t p is .0
-
-  pub address-back : addressIn da ≡ addressWith ton npi text
-  unfolding addressIn
-  address-back = octets-read ton npi text da t p is .1
-
-  pub address-again : canonicalAddress da ≡ da
-  unfolding addressIn addressWith canonicalAddress
-  address-again =
-      let e = address-back in
-      let n = ap (λ (a : SMSAddress). a .ton) e in
-      let m = ap (λ (a : SMSAddress). a .npi) e in
-      let x : textIn da ≡ text = sym (take-pad 290 (textIn da)) ∙ ap textHeld e ∙ take-pad 290 text in
-      rw (n, m, x, is)
+-- ---- the period
 
 pub period-back : (p : ValidityPeriod) (digits enhanced : List ℕ) → periodIn (formatOf p) (periodOctets p digits enhanced) ≡ p
 unfolding periodIn
@@ -135,10 +101,6 @@ pub record SameParts (q r : SmsSubmit) : Type 0 where
   pub enhanced : parts q .enhanced ≡ parts r .enhanced
   pub udl : q .«tp_user_data_length» ≡ r .«tp_user_data_length»
   pub ud : parts q .ud ≡ parts r .ud
-
-some-is : (o : Option (List ℕ)) → isSome o ≡ true → o ≡ some (octetsOr [] o)
-some-is none e = absurd (false≢true e)
-some-is (some xs) e = refl
 
 format-small : (p : ValidityPeriod) → formatOf p < 4
 format-small ValidityPeriod.None = omega arith
@@ -179,11 +141,10 @@ pub read-back : (r : SmsSubmit) → length (r .«validity_period_octets») ≡ 7
     ≡ (if leb h (length d) then if inCount (codingOf (r .«tp_dcs»)) (r .«tp_user_data_length») h then reached q (length xs) else halted HeaderPassesCount else halted HeaderNotWhole)))
 unfolding submitting
 read-back r seven xs w e =
-    let p = all-passed _ _ _ _ _ _ _ _ _ _ _ _ _ _ _ xs w (holds LengthTooLarge (lengthsFit r) e .1) in
+    let p = all-passed _ _ _ _ _ _ _ _ _ _ _ _ _ _ _ xs w (made-if LengthTooLarge (lengthsFit r) e .1) in
     let a = r .«tp_destination_address» in
     let text = take (addressLength r) (a .address) in
     let da = octetsOr [] (addressOctets (a .ton) (a .npi) text) in
-    let is = some-is (addressOctets (a .ton) (a .npi) text) (p .spelled) in
     let period = r .«tp_validity_period» in
     let digits = take (digitsLength r) (r .«validity_period_digits» .digits) in
     let vp = periodOctets period digits (r .«validity_period_octets») in
@@ -193,6 +154,6 @@ read-back r seven xs w e =
     let format : formatIn f ≡ formatOf period = t .vpf-is ∙ p .format-is in
     let size : periodSize (formatIn f) ≡ length vp = rw format (sym (period-size period digits (r .«validity_period_octets») (p .time) seven)) in (
       submitted f (r .«tp_mr») da (r .«tp_pid») (r .«tp_dcs») vp (r .«tp_user_data_length») d (headerSize (r .«tp_udhi») d),
-      same-parts r f t (p .mti-is) format da (address-back (a .ton) (a .npi) text da (p .ton-is) (p .npi-is) is) (p .there-is) (p .time) seven _,
-      rw (← p .octets-are) (rw (t .udhi-is) at (written-read f (t .small) (t .mti-is) (r .«tp_mr») da (address-whole (a .ton) (a .npi) text da (p .ton-is) (p .npi-is) is) (address-again (a .ton) (a .npi) text da (p .ton-is) (p .npi-is) is) (r .«tp_pid») (r .«tp_dcs») vp size (r .«tp_user_data_length») d (sym (p .size-is)))),
+      same-parts r f t (p .mti-is) format da (p .address .back) (p .there-is) (p .time) seven _,
+      rw (← p .octets-are) (rw (t .udhi-is) at (written-read f (t .small) (t .mti-is) (r .«tp_mr») da (p .address .whole) (p .address .again) (r .«tp_pid») (r .«tp_dcs») vp size (r .«tp_user_data_length») d (sym (p .size-is)))),
     )

@@ -10,30 +10,25 @@ use borrow.Author.Tests.{eqb-true, eq-eqb, ne-eqb, leb-true}
 use lib.Dec.{eqb, leb}
 use lib.ListN.{length, take, length-append}
 use Rattle.octets.proofs.Choice.{chosen, and-true}
+use Rattle.octets.proofs.Checks.{holds, both-hold, made-told}
 use Rattle.octets.specs.Checks.{_unless_, checked, afterChecked}
 use Rattle.octets.specs.Lent.{Making, refused, made}
 use Rattle.octets.specs.declared.Checked.{Checked}
 use Rattle.octets.specs.declared.Refusal.{Refusal}
 use Rattle.octets.specs.declared.Refusal.the-variants.{LengthTooLarge, WrongMessageType, ValidityFormatDisagrees, NoDestination, UserDataLengthDisagrees, UserDataTooLong, NumberTypeOrPlanTooLarge, NotInAlphabet, AddressTooLong, NotATime}
 use Rattle.octets.specs.declared.Written.{Written}
-use Rattle.coding.specs.Coding.{codingOf, dataOctets, checkedData, dataOf}
-use Rattle.coding.proofs.Laws.{data-checked}
+use Rattle.coding.specs.Coding.{codingOf, dataOctets, checkedData, dataOf, dataChecks}
+use Rattle.coding.proofs.Laws.{data-checked, data-passed}
 use Rattle.address.specs.declared.AddressCheck.{AddressCheck}
 use Rattle.octets.specs.Choice.{if_then_else_}
 use Rattle.address.specs.Address.{isSome, addressOctets, octetsOr, addressChecks, addressMaking}
 use Rattle.address.specs.Parts.{checkOf}
 use Rattle.address.proofs.Checks.{afterCheck, address-checked, fine-size}
+use Rattle.address.proofs.Laws.{Spelled, address-passed}
 use Rattle.submit.specs.declared.SmsSubmit.{SmsSubmit}
 use Rattle.submit.specs.declared.ValidityPeriod.{ValidityPeriod}
 use Rattle.submit.specs.Submit.{formatOf, periodSize, periodOctets, timeHolds, octetsIn, making, flagsOf, addressLength, digitsLength, lengthsFit, submitting}
 use Rattle.submit.proofs.Period.{period-size}
-
--- user data that pass are few
-pub few-data : (dcs udl n : ℕ) → checkedData dcs udl n ≡ Checked.Fine → n ≤ 140
-unfolding checkedData
-few-data dcs udl n e =
-    ⊎-elim (λ w. ⊎-elim (λ v. leb-true n 140 (v .0)) (λ v. let z : _≡_ {A = ℕ} 0 1 = cc in absurd (omega arith)) (chosen (leb n 140) (w .1)))
-    (λ w. let z : _≡_ {A = ℕ} 0 1 = cc in absurd (omega arith)) (chosen (eqb n (dataOctets (codingOf dcs) udl)) e)
 
 module _ (flags mti vpf mr : ℕ) (there : Bool) (ton npi : ℕ) (text : List ℕ) (pid dcs : ℕ) (period : ValidityPeriod) (digits enhanced : List ℕ) (udl : ℕ) (ud : List ℕ) where
   abbrev all : Making Written
@@ -89,11 +84,6 @@ module _ (flags mti vpf mr : ℕ) (there : Bool) (ton npi : ℕ) (text : List �
                   let v : length (periodOctets period digits enhanced) ≡ periodSize vpf = period-size period digits enhanced h n ∙ rw f in
                   simp (length-append) (omega arith)
 
--- a check that may refuse has held
-pub holds : {m : Making Written} {xs : List ℕ} {w : Written} (why : Refusal) (t : Bool) → (if t then m else refused why) ≡ made xs w → (t ≡ true) × (m ≡ made xs w)
-holds why true e = (refl, e)
-holds why false e = let z : _≡_ {A = ℕ} 0 1 = cc in absurd (omega arith)
-
 -- where octets are written, every check has held
 pub record Passed (flags mti vpf mr : ℕ) (there : Bool) (ton npi : ℕ) (text : List ℕ) (pid dcs : ℕ) (period : ValidityPeriod) (digits enhanced : List ℕ) (udl : ℕ) (ud xs : List ℕ) : Type 0 where
   pub mti-is : mti ≡ 1
@@ -101,39 +91,33 @@ pub record Passed (flags mti vpf mr : ℕ) (there : Bool) (ton npi : ℕ) (text 
   pub there-is : there ≡ true
   pub size-is : length ud ≡ dataOctets (codingOf dcs) udl
   pub few : length ud ≤ 140
-  pub ton-is : ton < 8
-  pub npi-is : npi < 16
-  pub spelled : isSome (addressOctets ton npi text) ≡ true
-  pub short : length (octetsOr [] (addressOctets ton npi text)) ≤ 12
+  pub address : Spelled ton npi text (octetsOr [] (addressOctets ton npi text))
   pub time : timeHolds period digits ≡ true
   pub octets-are : octetsIn (flags + 8 * vpf + 1) mr ton npi text pid dcs (periodOctets period digits enhanced) udl ud ≡ xs
 
 pub all-passed : (flags mti vpf mr : ℕ) (there : Bool) (ton npi : ℕ) (text : List ℕ) (pid dcs : ℕ) (period : ValidityPeriod) (digits enhanced : List ℕ) (udl : ℕ) (ud xs : List ℕ) (w : Written)
     → making flags mti vpf mr there ton npi text pid dcs period digits enhanced udl ud ≡ made xs w → Passed flags mti vpf mr there ton npi text pid dcs period digits enhanced udl ud xs
-unfolding making checked
+unfolding making checkedData
 all-passed flags mti vpf mr there ton npi text pid dcs period digits enhanced udl ud xs w e =
-    let (m, e1) = holds WrongMessageType (eqb mti 1) e in
-    let (v, e2) = holds ValidityFormatDisagrees (eqb vpf (formatOf period)) e1 in
-    let (d, e3) = holds NoDestination there e2 in
-    let (n, e4) = holds UserDataLengthDisagrees (eqb (length ud) (dataOctets (codingOf dcs) udl)) e3 in
-    let (few, e5) = holds UserDataTooLong (leb (length ud) 140) e4 in
-    let (t, e6) = holds NumberTypeOrPlanTooLarge (leb ton 7 && leb npi 15) e5 in
-    let (a, e7) = holds NotInAlphabet (isSome (addressOctets ton npi text)) e6 in
-    let (short, e8) = holds AddressTooLong (leb (length (octetsOr [] (addressOctets ton npi text))) 12) e7 in
-    let (time, e9) = holds NotATime (timeHolds period digits) e8 in
-    let (ton-le, npi-le) = and-true (leb ton 7) (leb npi 15) t in
+    let first = dataChecks dcs udl (length ud) in
+    let address = addressChecks ton npi text in
+    let last = (NotATime unless timeHolds period digits) ∷ [] in
+    let (f, x) = made-told _ _ e in
+    let (m, f1) = holds WrongMessageType (eqb mti 1) ((ValidityFormatDisagrees unless eqb vpf (formatOf period)) ∷ (NoDestination unless there) ∷ (first ++ (address ++ last))) f in
+    let (v, f2) = holds ValidityFormatDisagrees (eqb vpf (formatOf period)) ((NoDestination unless there) ∷ (first ++ (address ++ last))) f1 in
+    let (d, f3) = holds NoDestination there (first ++ (address ++ last)) f2 in
+    let (n, f4) = both-hold first (address ++ last) f3 in
+    let (a, f5) = both-hold address last f4 in
+    let (size, few) = data-passed _ _ _ n in
     record {
       mti-is = eqb-true _ _ m;
       format-is = eqb-true _ _ v;
       there-is = d;
-      size-is = eqb-true _ _ n;
-      few = leb-true _ _ few;
-      ton-is = omega (arith, leb-true ton 7 ton-le);
-      npi-is = omega (arith, leb-true npi 15 npi-le);
-      spelled = a;
-      short = leb-true _ _ short;
-      time = time;
-      octets-are = cc;
+      size-is = size;
+      few = few;
+      address = address-passed _ _ _ a;
+      time = holds NotATime (timeHolds period digits) [] f5 .0;
+      octets-are = x;
     }
 
 -- a record: its lengths first

@@ -18,23 +18,10 @@ use Rattle.address.specs.Address.{addressSize, canonicalAddress}
 use Rattle.layout.specs.Layout.{Kind, first, octet, octets, any, leading, require, done, address, userData, isSet, messageType, Whole, canon, Format, field, Reached, reached, halted, reading, readFrom, read}
 use Rattle.layout.proofs.Fields.{own}
 use Rattle.layout.proofs.Laws.{goes-on}
+use Rattle.layout.proofs.Back.{field-read, field-last, message-read}
 use Rattle.submit.specs.declared.SmsSubmit.{SmsSubmit}
 use Rattle.submit.specs.Submit.{formatIn, periodSize, headerSize, inCount, submitted, bits, behindCoding, behindFirst, line, submit}
 use Rattle.submit.proofs.Reading.{kept-whole}
-
--- a whole field at the start is read, and the rest behind it
-field-read : {R : Type 0} (k : Kind) (next : List ℕ → Format R) (f rest : List ℕ) (at : ℕ) → Whole k f → reading (field k next) (f ++ rest) at ≡ reading (next (canon k f)) rest (at + length f)
-unfolding reading
-field-read k next f rest at w =
-    let n = own k f rest w in
-    goes-on _ k (f ++ rest) at (rw (n, length-append) (omega arith)) ∙ rw (n, take-at f rest (length f) refl, drop-at f rest (length f) refl)
-
-field-last : {R : Type 0} (k : Kind) (next : List ℕ → Format R) (f : List ℕ) (at : ℕ) → Whole k f → reading (field k next) f at ≡ reading (next (canon k f)) [] (at + length f)
-field-last k next f at w = rw append-nil at (field-read k next f [] at w)
-
-require-read : {R : Type 0} {holds : Bool} → holds ≡ true → (why : Refusal) (line : Format R) (s : List ℕ) (at : ℕ) → reading (require why holds line) s at ≡ reading line s at
-unfolding reading
-require-read e why line s at = rw e
 
 -- what must hold at the line's end
 ends-if : {R : Type 0} (why also : Refusal) (a b : Bool) (r : R) (s : List ℕ) (at : ℕ) → reading (require why a (require also b (done r))) s at ≡ (if a then if b then reached r at else halted also else halted why)
@@ -45,9 +32,7 @@ module _ (f : ℕ) (small : f < 256) (mti : messageType f ≡ 1) (mr : ℕ) (da 
     (vp : List ℕ) (period : periodSize (formatIn f) ≡ length vp) (udl : ℕ) (ud : List ℕ) (size-is : dataOctets (codingOf dcs) udl ≡ length ud) where
   to-first : (rest : List ℕ) → read submit (f ∷ rest) ≡ reading (behindFirst f) rest 1
   unfolding read readFrom line
-  to-first rest =
-      field-read (first bits) (λ c. require WrongMessageType (eqb (messageType (leading c)) 1) (behindFirst (leading c))) (f ∷ []) rest 0 refl
-      ∙ rw (kept-whole f small) (require-read (eq-eqb (messageType f) 1 mti) WrongMessageType (behindFirst f) rest 1)
+  to-first rest = message-read 1 bits behindFirst f (kept-whole f small) mti rest 0
 
   to-coding : (rest : List ℕ) → reading (behindFirst f) (mr ∷ (da ++ (pid ∷ dcs ∷ rest))) 1 ≡ reading (behindCoding f mr da pid dcs) rest (2 + length da + 2)
   unfolding behindFirst

@@ -9,49 +9,43 @@ use borrow.Author.Tests.{leb-true}
 use lib.Dec.{leb}
 use lib.ListN.{length, drop, length-append}
 use lib.Seq.{length-take-le, drop-drop, take-at, drop-at}
-use Rattle.octets.specs.Checks.{_unless_}
+use Rattle.octets.specs.Checks.{_unless_, found}
 use Rattle.octets.specs.Choice.{if_then_else_}
 use Rattle.octets.specs.Lent.{Making, made, refused}
 use Rattle.octets.specs.declared.Checked.{Checked}
-use Rattle.octets.specs.declared.Refusal.{Refusal}
 use Rattle.octets.specs.declared.Refusal.the-variants.{LengthTooLarge, UdhiTooLarge, NotATime}
 use Rattle.octets.specs.declared.Written.{Written}
 use Rattle.octets.proofs.Laws.{take-pad}
+use Rattle.octets.proofs.Checks.{holds, both-hold, made-told, made-if}
+use Rattle.octets.proofs.Choice.{and-true}
 use Rattle.coding.specs.Coding.{dataWith, dataOf}
 use Rattle.time.specs.Time.{isTime, timeDigits, timeOctets, timeIn, digitsOf}
-use Rattle.time.proofs.Laws.{time-means, length-digits, digits-back}
+use Rattle.time.proofs.Laws.{time-means, length-digits, digits-back, time-size}
 use Rattle.layout.specs.Layout.{octets, any, Format, time, reached, reading, readFrom, read}
-use Rattle.layout.proofs.Laws.{goes-on}
-use Rattle.layout.proofs.Steps.{then-goes-on, done-reached}
-use Rattle.parameters.specs.Checking.{found, indicatorChecks, dataChecks}
+use Rattle.layout.proofs.Steps.{done-reached}
+use Rattle.layout.proofs.Back.{field-here}
+use Rattle.parameters.specs.Checking.{indicatorChecks, dataChecks}
 use Rattle.parameters.specs.Line.{Parameters, parameters, parametersOctets}
 use Rattle.parameters.specs.Optional.{held}
 use Rattle.parameters.specs.declared.OptionalOctet.{OptionalOctet}
 use Rattle.parameters.specs.declared.OptionalOctet.the-variants.{Absent, Present}
-use Rattle.parameters.proofs.Back.{holds, both-hold, made-told, data-limit, octet-here, indicator-here, not-extended, parameters-back}
+use Rattle.parameters.proofs.Back.{data-limit, octet-here, indicator-here, not-extended, parameters-here}
 use Rattle.parameters.proofs.Made.{one-at-most}
 use Rattle.submit_report.specs.SubmitReport.{reported, rest, outcomeOf, octetsIn, making, parametersOf, reporting, Parts, parts, capitalised}
 use Rattle.submit_report.specs.declared.SmsSubmitReport.{SmsSubmitReport}
-use Rattle.submit_report.proofs.Writing.{time-size, size-is}
+use Rattle.submit_report.proofs.Writing.{size-is}
 use Rattle.submit_report.proofs.Reading.{ack-goes-on, error-goes-on}
 
 -- ---- the octets of parts that pass the checks
 
--- a time that stands at a place
-time-here : {R : Type 0} (s : List ℕ) (at : ℕ) (t more : List ℕ) → drop at s ≡ t ++ more → length t ≡ 7 → (next : List ℕ → Format R) → readFrom (time next) s at ≡ readFrom (next t) s (at + 7)
-unfolding readFrom reading
-time-here s at t more e n next = goes-on _ (octets any 7) (drop at s) at (omega (arith, ap length e, length-append t more)) ∙ rw (drop-drop 7 at s, e, take-at t more 7 n)
-
 module _ (pi : ℕ) (digits : List ℕ) (w : isTime digits ≡ true) (p : Parameters) (i : found (indicatorChecks pi (p .pid) (p .dcs) (p .udl)) ≡ Checked.Fine) (d : found (dataChecks (p .dcs) (p .udl) (length (p .ud))) ≡ Checked.Fine) where
   rest-back : (udhi : ℕ) (cause : OptionalOctet) (s : List ℕ) (at : ℕ) → drop at s ≡ pi ∷ (timeOctets digits ++ parametersOctets p)
-      → readFrom (rest udhi cause) s at ≡ reached (reported udhi cause pi (timeOctets digits) p) (at + 1 + 7 + held (p .pid) + held (p .dcs) + held (p .udl) + length (p .ud))
-  unfolding readFrom
+      → readFrom (rest udhi cause) s at ≡ reached (reported udhi cause pi (timeOctets digits) p) (at + 1 + length (timeOctets digits) + held (p .pid) + held (p .dcs) + held (p .udl) + length (p .ud))
   rest-back udhi cause s at e =
-      let seven = time-size digits w in
       let t : drop (at + 1) s ≡ timeOctets digits ++ parametersOctets p = sym (drop-drop 1 at s) ∙ ap (drop 1) e in
-      let u : drop (at + 1 + 7) s ≡ parametersOctets p ++ [] = sym (drop-drop 7 (at + 1) s) ∙ ap (drop 7) t ∙ drop-at (timeOctets digits) (parametersOctets p) 7 seven ∙ sym (append-nil (parametersOctets p)) in
-      let q : readFrom (parameters pi) s (at + 1 + 7) ≡ reached p (at + 1 + 7 + held (p .pid) + held (p .dcs) + held (p .udl) + length (p .ud)) = ap (λ (l : List ℕ). reading (parameters pi) l (at + 1 + 7)) u ∙ parameters-back pi p [] (at + 1 + 7) i d in
-      indicator-here s at e _ (not-extended pi p [] 0 i d) ∙ time-here s (at + 1) (timeOctets digits) (parametersOctets p) t seven _ ∙ then-goes-on s (parameters pi) (at + 1 + 7) q _ ∙ done-reached s _ _
+      let u : drop (at + 1 + length (timeOctets digits)) s ≡ parametersOctets p = sym (drop-drop _ (at + 1) s) ∙ ap (drop (length (timeOctets digits))) t ∙ drop-at (timeOctets digits) (parametersOctets p) _ refl in
+      indicator-here s at e _ (not-extended pi p [] 0 i d) ∙ field-here (octets any 7) _ s (at + 1) (timeOctets digits) (parametersOctets p) t (sym (time-size digits w))
+      ∙ parameters-here pi p i d s _ u _ ∙ done-reached s _ _
 
   back : (udhi : ℕ) → udhi ≤ 1 → (cause : OptionalOctet) → (n : ℕ) × (read (outcomeOf cause) (octetsIn udhi cause pi digits p) ≡ reached (reported udhi cause pi (timeOctets digits) p) n)
   back zero h Absent = (_, ack-goes-on (octetsIn 0 Absent pi digits p) (octet-here _ 0 refl) refl ∙ rest-back 0 Absent _ 1 refl)
@@ -61,12 +55,6 @@ module _ (pi : ℕ) (digits : List ℕ) (w : isTime digits ≡ true) (p : Parame
   back (suc (suc udhi)) h cause = absurd (omega arith)
 
 -- ---- a record
-
--- what was made passed both tests of check 1
-both-fit : {os : List ℕ} {answer : Written} (a b : Bool) (why : Refusal) (m : Making Written) → (if a && b then m else refused why) ≡ made os answer → (a ≡ true) × (b ≡ true) × (m ≡ made os answer)
-both-fit true true why m e = (refl, refl, e)
-both-fit true false why m e = let z : _≡_ {A = ℕ} 0 1 = cc in absurd (omega arith)
-both-fit false b why m e = let z : _≡_ {A = ℕ} 0 1 = cc in absurd (omega arith)
 
 -- what a written record's octets are, and the checks that it passed
 record Passed (r : SmsSubmitReport) (os : List ℕ) : Type 0 where
@@ -85,7 +73,8 @@ module _ {os : List ℕ} {answer : Written} (r : SmsSubmitReport) (e : reporting
       let digits = digitsOf (r .«tp_service_centre_timestamp») in
       let first = indicatorChecks (r .«tp_parameter_indicator») (r .«tp_pid») (r .«tp_dcs») (r .«tp_user_data_length») in
       let more = dataChecks (r .«tp_dcs») (r .«tp_user_data_length») (length (dataOf (r .«tp_user_data»))) in
-      let (a, b, m) = both-fit (leb (r .«tp_user_data» .length) 255) (leb (r .«tp_service_centre_timestamp» .length) 14) LengthTooLarge _ e in
+      let (l, m) = made-if LengthTooLarge (leb (r .«tp_user_data» .length) 255 && leb (r .«tp_service_centre_timestamp» .length) 14) e in
+      let (a, b) = and-true (leb (r .«tp_user_data» .length) 255) _ l in
       let (f, x) = made-told _ _ m in
       let (u, g) = holds UdhiTooLarge (leb (r .«tp_udhi») 1) (first ++ ((NotATime unless isTime digits) ∷ more)) f in
       let (i, k) = both-hold first ((NotATime unless isTime digits) ∷ more) g in

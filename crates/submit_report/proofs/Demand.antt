@@ -13,7 +13,8 @@ use Rattle.octets.specs.Each.{Octets}
 use Rattle.octets.specs.Lent.{refused}
 use Rattle.octets.specs.declared.Refusal.{Refusal}
 use Rattle.octets.specs.declared.Refusal.the-variants.{NotATime}
-use Rattle.octets.proofs.Laws.{take-pad, check-holds}
+use Rattle.octets.proofs.Laws.{take-pad}
+use Rattle.octets.proofs.Checks.{check-holds}
 use Rattle.coding.specs.Coding.{dataWith}
 use Rattle.time.specs.Time.{isTime, timeDigits, timeIn}
 use Rattle.time.proofs.Laws.{octets-back, digits-time, length-digits, time-held}

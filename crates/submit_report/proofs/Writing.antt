@@ -9,26 +9,22 @@ use native.Mathlib.Nat.{zero-add}
 use borrow.Author.Tests.{le-leb, lt-leb}
 use lib.Dec.{leb}
 use lib.ListN.{length, length-append}
-use Rattle.octets.specs.Checks.{Check, _unless_}
+use Rattle.octets.specs.Checks.{Check, _unless_, found}
 use Rattle.octets.specs.Lent.{made, refused, lend, Wrote}
 use Rattle.octets.specs.declared.Checked.{Checked}
 use Rattle.octets.specs.declared.Refusal.{Refusal}
 use Rattle.octets.specs.declared.Refusal.the-variants.{LengthTooLarge, UdhiTooLarge, NotATime, OutputTooShort}
 use Rattle.octets.specs.declared.Written.{Written}
 use Rattle.octets.proofs.Laws.{lent-refused, lent-short, lent-done}
+use Rattle.octets.proofs.Checks.{passed, against, all-passed, one-against}
 use Rattle.time.specs.Time.{isTime, timeOctets, digitsOf}
-use Rattle.time.proofs.Laws.{length-octets, time-means}
-use Rattle.parameters.specs.Checking.{found, indicatorChecks, dataChecks}
+use Rattle.time.proofs.Laws.{time-size}
+use Rattle.parameters.specs.Checking.{indicatorChecks, dataChecks}
 use Rattle.parameters.specs.Line.{Parameters}
 use Rattle.parameters.specs.Optional.{held}
 use Rattle.parameters.specs.declared.OptionalOctet.{OptionalOctet}
-use Rattle.parameters.proofs.Checking.{passed, against, all-passed, one-against}
 use Rattle.submit_report.specs.SubmitReport.{octetsIn, making, parametersOf, reporting}
 use Rattle.submit_report.specs.declared.SmsSubmitReport.{SmsSubmitReport}
-
--- how many octets a time takes
-pub time-size : (digits : List ℕ) → isTime digits ≡ true → length (timeOctets digits) ≡ 7
-time-size digits e = length-octets digits ∙ rw (time-means digits .0 e .0)
 
 module _ (udhi : ℕ) (cause : OptionalOctet) (pi : ℕ) (digits : List ℕ) (p : Parameters) where
   -- how many octets the parts take

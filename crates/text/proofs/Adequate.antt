@@ -2,18 +2,19 @@
 -- Assumes nothing.
 use Prim.Native.Nat.{ℕ, zero, suc, _+_, _-_, _*_, _/_, _%_, _<_, _≤_}
 use mathlib.Core.Path.{_≡_, refl, sym, _∙_, ap, ap₂, subst}
-use mathlib.Core.Bool.{Bool, true, false, _&&_, true≢false}
+use mathlib.Core.Bool.{Bool, true, false, true≢false}
 use mathlib.Core.List.{List, [], _∷_, _++_, append-assoc}
 use mathlib.Core.Option.{Option, none, some}
 use mathlib.Core.Logic.{_↔_}
 use native.Mathlib.Omega.{arith}
 use native.Mathlib.Nat.{not-suc-le-zero, zero-add}
 use borrow.Author.Tests.{ltb-true, ltb-false, eqb-true, eqb-false, ne-eqb, eq-eqb, lt-ltb, le-ltb}
-use lib.Dec.{eqb, ltb, ltb→lt}
+use lib.Dec.{eqb, ltb}
 use lib.ListN.{length, getD, drop, length-append}
 use lib.Seq.{drop-append-seam}
 use Rattle.octets.specs.Choice.{if_then_else_}
-use Rattle.octets.proofs.Table.{at}
+use Rattle.octets.proofs.Choice.{and-true}
+use Rattle.octets.proofs.Table.{below}
 use Rattle.septets.specs.Septets.{Digits, septetsIn, packedSeptets}
 use Rattle.septets.proofs.Inverse.{unpack-pack}
 use Rattle.text.specs.declared.Extension.{Extension}
@@ -30,17 +31,13 @@ use Rattle.text.proofs.Decoding.{two, three, two-read, three-read}
 use Rattle.text.proofs.Scanning.{first-width, scan-read}
 use Rattle.text.proofs.Tables.{Says, code-says, alphabet-one-to-one, extension-coded, extension-shown, extension-small}
 
-both-true : (a b : Bool) → a && b ≡ true → (a ≡ true) × (b ≡ true)
-both-true true b e = (refl, e)
-both-true false b e = absurd (true≢false (sym e))
-
 same-is : (xs ys : List ℕ) → same xs ys ≡ true → xs ≡ ys
 unfolding same
 same-is [] [] e = refl
 same-is [] (y ∷ ys) e = absurd (true≢false (sym e))
 same-is (x ∷ xs) [] e = absurd (true≢false (sym e))
 same-is (x ∷ xs) (y ∷ ys) e =
-    let t = both-true (same xs ys) (eqb x y) e in
+    let t = and-true (same xs ys) (eqb x y) e in
     ap₂ _∷_ (eqb-true x y (t .1)) (same-is xs ys (t .0))
 
 -- a second and a third octet are at least 128
@@ -177,16 +174,10 @@ abbrev characterOf : Entry → ℕ
 characterOf (plain code h n) = character code
 characterOf (extended place h) = getD extension place (row 0 0) .character
 
-small-test : ℕ → ℕ → Bool
-small-test k x = ltb x 0x10000
-
-small-row-test : ℕ → Extension → Bool
-small-row-test k e = ltb (e .character) 0x10000
-
 character-small : (e : Entry) → characterOf e < 0x10000
-unfolding small-test small-row-test character
-character-small (plain code h n) = ltb→lt (getD alphabet code 0) 0x10000 (at small-test 0 alphabet tt code h)
-character-small (extended place h) = ltb→lt (getD extension place (row 0 0) .character) 0x10000 (at small-row-test (row 0 0) extension tt place h)
+unfolding character
+character-small (plain code h n) = ltb-true _ _ (below (λ k. ltb (getD alphabet k 0) 0x10000) 128 refl code h)
+character-small (extended place h) = ltb-true _ _ (below (λ i. ltb (getD extension i (row 0 0) .character) 0x10000) 10 refl place h)
 
 scan-entry : (e : Entry) (rest : List ℕ) (ss : List ℕ) → scan rest 0 ≡ some ss → scan (octetsFor e ++ rest) 0 ≡ some (septetsFor e ++ ss)
 unfolding before

@@ -2,14 +2,14 @@
 -- Assumes nothing.
 use Prim.Native.Nat.{ℕ, _+_, _<_, _≤_}
 use mathlib.Core.Path.{_≡_, refl}
-use mathlib.Core.Bool.{Bool, true, false}
+use mathlib.Core.Bool.{Bool, true, false, false≢true}
 use mathlib.Core.List.{List, [], _∷_}
 use native.Mathlib.Omega.{arith}
 use borrow.Author.Tests.{ltb-true, lt-ltb, le-ltb, ne-eqb}
-use lib.Dec.{T, ltb}
+use lib.Dec.{ltb}
 use lib.ListN.{getD}
 use Rattle.octets.specs.Choice.{if_then_else_}
-use Rattle.octets.proofs.Table.{at}
+use Rattle.octets.proofs.Table.{below}
 use Rattle.text.specs.declared.Code.the-variants.{Absent}
 use Rattle.text.specs.Alphabet.{alphabet, rowWith, indexOf}
 use Rattle.text.specs.Writing.{codeOf, extendedCode}
@@ -41,33 +41,29 @@ greek =
     0x13 ∷ 0x10 ∷ 0xff ∷ 0xff ∷ 0xff ∷ 0x19 ∷ 0xff ∷ 0xff ∷ 0x14 ∷ 0xff ∷ 0xff ∷ 0x1a ∷ 0xff ∷ 0x16 ∷ 0xff ∷ 0xff ∷
     0x18 ∷ 0xff ∷ 0xff ∷ 0x12 ∷ 0xff ∷ 0x17 ∷ 0x15 ∷ []
 
-code-test : ℕ → ℕ → Bool
-code-test c x = sameCode (codeOf c) (entry x (extendedCode c))
+code-test : ℕ → Bool
+code-test c = sameCode (codeOf c) (entry (getD byCharacter c 0) (extendedCode c))
 
 pub codes-right : Codes byCharacter
 unfolding code-test codeOf extendedCode indexOf rowWith
-codes-right c h = same-code (codeOf c) (entry (getD byCharacter c 0) (extendedCode c)) (at code-test 0 byCharacter tt c h)
+codes-right c h = same-code (codeOf c) (entry (getD byCharacter c 0) (extendedCode c)) (below code-test 256 refl c h)
 
-greek-test : ℕ → ℕ → Bool
-greek-test k x = sameCode (codeOf (0x393 + k)) (entry x Absent)
+greek-test : ℕ → Bool
+greek-test k = sameCode (codeOf (0x393 + k)) (entry (getD greek k 0) Absent)
 
 pub greek-right : (k : ℕ) → k < 23 → codeOf (0x393 + k) ≡ entry (getD greek k 0) Absent
 unfolding greek-test codeOf extendedCode indexOf rowWith
-greek-right k h = same-code (codeOf (0x393 + k)) (entry (getD greek k 0) Absent) (at greek-test 0 greek tt k h)
+greek-right k h = same-code (codeOf (0x393 + k)) (entry (getD greek k 0) Absent) (below greek-test 23 refl k h)
 
 -- a character of the default alphabet is below 100 or a Greek letter
 abbrev placed : ℕ → Bool
 placed x = if ltb x 256 then true else if ltb x 0x393 then false else ltb x 0x3aa
 
-placed-test : ℕ → ℕ → Bool
-placed-test k x = placed x
-
-alphabet-placed : (k : ℕ) → k < 128 → T (placed (getD alphabet k 0))
-unfolding placed-test
-alphabet-placed k h = at placed-test 0 alphabet tt k h
+alphabet-placed : (k : ℕ) → k < 128 → placed (getD alphabet k 0) ≡ true
+alphabet-placed k h = below (λ k. placed (getD alphabet k 0)) 128 refl k h
 
 module _ (c : ℕ) (high : 256 ≤ c) where
-  other : (T (placed c) → ⊥) → codeOf c ≡ extendedCode c
+  other : (placed c ≡ true → ⊥) → codeOf c ≡ extendedCode c
   unfolding codeOf
   other p = by-test (ltb (indexOf alphabet c) 128) refl
     where
@@ -78,10 +74,10 @@ module _ (c : ℕ) (high : 256 ≤ c) where
       by-test false e = rw (ne-eqb c 0x20 (λ q. omega arith), e)
 
   pub below-greek : c < 0x393 → codeOf c ≡ extendedCode c
-  below-greek h = other (λ t. rw (le-ltb c 256 high, lt-ltb c 0x393 h) at t)
+  below-greek h = other (λ t. false≢true (rw (le-ltb c 256 high, lt-ltb c 0x393 h) at t))
 
   pub above-greek : 0x3a9 < c → codeOf c ≡ extendedCode c
   above-greek h =
       let l : 0x393 ≤ c = omega arith in
       let m : 0x3aa ≤ c = omega arith in
-      other (λ t. rw (le-ltb c 256 high, le-ltb c 0x393 l, le-ltb c 0x3aa m) at t)
+      other (λ t. false≢true (rw (le-ltb c 256 high, le-ltb c 0x393 l, le-ltb c 0x3aa m) at t))

@@ -2,15 +2,16 @@
 -- Assumes nothing.
 use Prim.Native.Nat.{ℕ, _<_, _≤_}
 use mathlib.Core.Path.{_≡_, refl, sym, _∙_, ap}
-use mathlib.Core.Bool.{Bool, true, false, _&&_}
+use mathlib.Core.Bool.{Bool, true, false, _&&_, false≢true}
 use mathlib.Core.List.{List, [], _∷_}
 use mathlib.Core.Option.{Option, none, some}
 use native.Mathlib.Omega.{arith}
-use borrow.Author.Tests.{ltb-true, eqb-true, eqb-false, ne-eqb}
-use lib.Dec.{T, eqb, ltb, leb, eqb→eq, ltb→lt, leb→le}
+use borrow.Author.Tests.{ltb-true, eqb-true, eqb-false, ne-eqb, leb-true}
+use lib.Dec.{eqb, ltb, leb}
 use lib.ListN.{length, getD}
 use Rattle.octets.specs.Choice.{if_then_else_}
-use Rattle.octets.proofs.Table.{at}
+use Rattle.octets.proofs.Choice.{and-true}
+use Rattle.octets.proofs.Table.{below}
 use Rattle.text.specs.declared.Extension.{Extension}
 use Rattle.text.specs.declared.Code.{Code}
 use Rattle.text.specs.declared.Code.the-variants.{Single, Escaped, Absent}
@@ -32,74 +33,66 @@ sameCode Absent (Single k) = false
 sameCode Absent (Escaped k) = false
 sameCode Absent Absent = true
 
-pub same-code : (c d : Code) → T (sameCode c d) → c ≡ d
-same-code (Single j) (Single k) t = ap Single (eqb→eq j k t)
-same-code (Single j) (Escaped k) t = absurd t
-same-code (Single j) Absent t = absurd t
-same-code (Escaped j) (Single k) t = absurd t
-same-code (Escaped j) (Escaped k) t = ap Escaped (eqb→eq j k t)
-same-code (Escaped j) Absent t = absurd t
-same-code Absent (Single k) t = absurd t
-same-code Absent (Escaped k) t = absurd t
+pub same-code : (c d : Code) → sameCode c d ≡ true → c ≡ d
+same-code (Single j) (Single k) t = ap Single (eqb-true j k t)
+same-code (Single j) (Escaped k) t = absurd (false≢true t)
+same-code (Single j) Absent t = absurd (false≢true t)
+same-code (Escaped j) (Single k) t = absurd (false≢true t)
+same-code (Escaped j) (Escaped k) t = ap Escaped (eqb-true j k t)
+same-code (Escaped j) Absent t = absurd (false≢true t)
+same-code Absent (Single k) t = absurd (false≢true t)
+same-code Absent (Escaped k) t = absurd (false≢true t)
 same-code Absent Absent t = refl
 
 -- ---- the alphabet is one-to-one but for the space of 1B
 
-single-test : ℕ → ℕ → Bool
-single-test k x = if eqb k 0x1b then true else sameCode (codeOf x) (Single k)
+single-test : ℕ → Bool
+single-test k = if eqb k 0x1b then true else sameCode (codeOf (character k)) (Single k)
 
 pub alphabet-one-to-one : (k : ℕ) → k < 128 → (k ≡ 0x1b → ⊥) → codeOf (character k) ≡ Single k
 unfolding single-test codeOf indexOf character extendedCode rowWith
-alphabet-one-to-one k h n = same-code (codeOf (character k)) (Single k) (rw (ne-eqb k 0x1b n) at (at single-test 0 alphabet tt k h))
+alphabet-one-to-one k h n = same-code (codeOf (character k)) (Single k) (rw (ne-eqb k 0x1b n) at (below single-test 128 refl k h))
 
 -- ---- so is the extension table, and its characters are not in the alphabet
 
-extension-test : ℕ → Extension → Bool
-extension-test i e = sameCode (codeOf (e .character)) (Escaped (e .code)) && (eqb (escaped (e .code)) (e .character) && ltb (e .code) 128)
-
-both : (a b : Bool) → T (a && b) → T a × T b
-both true b t = (tt, t)
-both false b t = absurd t
+extension-test : Extension → Bool
+extension-test e = sameCode (codeOf (e .character)) (Escaped (e .code)) && (eqb (escaped (e .code)) (e .character) && ltb (e .code) 128)
 
 module _ (i : ℕ) (h : i < 10) where
   abbrev e : Extension
   e = getD extension i (row 0 0)
 
-  tested : T (extension-test i e)
+  tested : (codeOf (e .character) ≡ Escaped (e .code)) × (escaped (e .code) ≡ e .character) × (e .code < 128)
   unfolding extension-test codeOf indexOf escaped character extendedCode rowWith
-  tested = at extension-test (row 0 0) extension tt i h
+  tested =
+      let (coded, more) = and-true (sameCode (codeOf (e .character)) (Escaped (e .code))) _ (below (λ i. extension-test (getD extension i (row 0 0))) 10 refl i h) in
+      let (shown, small) = and-true (eqb (escaped (e .code)) (e .character)) _ more in
+      (same-code _ _ coded, eqb-true _ _ shown, ltb-true _ _ small)
 
   pub extension-coded : codeOf (e .character) ≡ Escaped (e .code)
-  unfolding extension-test
-  extension-coded = same-code _ _ (both (sameCode (codeOf (e .character)) (Escaped (e .code))) _ tested .0)
+  extension-coded = tested .0
 
   pub extension-shown : escaped (e .code) ≡ e .character
-  unfolding extension-test
-  extension-shown =
-      eqb→eq _ _ (both (eqb (escaped (e .code)) (e .character)) _ (both (sameCode (codeOf (e .character)) (Escaped (e .code))) _ tested .1) .0)
+  extension-shown = tested .1
 
   pub extension-small : e .code < 128
-  unfolding extension-test
-  extension-small =
-      ltb→lt _ _ (both (eqb (escaped (e .code)) (e .character)) _ (both (sameCode (codeOf (e .character)) (Escaped (e .code))) _ tested .1) .1)
+  extension-small = tested .2
 
 -- ---- how many octets a character takes
 
-short-test : ℕ → ℕ → Bool
-short-test k x = leb (length (utf8 x)) 2 && leb (length (utf8 (escaped k))) 3
+short-test : ℕ → Bool
+short-test k = leb (length (utf8 (character k))) 2 && leb (length (utf8 (escaped k))) 3
 
 module _ (k : ℕ) (h : k < 128) where
-  shorts : T (short-test k (character k))
+  shorts : (leb (length (utf8 (character k))) 2 ≡ true) × (leb (length (utf8 (escaped k))) 3 ≡ true)
   unfolding short-test utf8 escaped character rowWith
-  shorts = at short-test 0 alphabet tt k h
+  shorts = and-true _ _ (below short-test 128 refl k h)
 
   pub short : length (utf8 (character k)) ≤ 2
-  unfolding short-test
-  short = leb→le _ _ (both (leb (length (utf8 (character k))) 2) _ shorts .0)
+  short = leb-true _ _ (shorts .0)
 
   pub short-escaped : length (utf8 (escaped k)) ≤ 3
-  unfolding short-test
-  short-escaped = leb→le _ _ (both (leb (length (utf8 (character k))) 2) _ shorts .1)
+  short-escaped = leb-true _ _ (shorts .1)
 
 -- ---- what a code says of its character
 

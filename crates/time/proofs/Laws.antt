@@ -34,6 +34,10 @@ length-octets [] = refl
 length-octets (a ∷ []) = refl
 length-octets (a ∷ b ∷ ds) = omega (arith, length-octets ds)
 
+-- a time takes seven octets
+pub time-size : (ds : List ℕ) → isTime ds ≡ true → length (timeOctets ds) ≡ 7
+time-size ds t = length-octets ds ∙ rw (time-means ds .0 t .0)
+
 -- ---- there and back
 
 -- octets → digits → octets

@@ -1,19 +1,20 @@
 -- `coding::check_user_data` meets its contract: the tests are the definition's.
 -- Assumes nothing.
 use Prim.Native.Nat.{ℕ, _≤_, _<_}
-use mathlib.Core.Path.{_≡_, sym, ap, _∙_}
+use mathlib.Core.Path.{_≡_, sym, _∙_}
 use borrow.Author.Tests.{eq-eqb, ne-eqb, le-leb, lt-leb}
 use Rattle.octets.specs.declared.Checked.{Checked}
 use Rattle.octets.specs.declared.Refusal.the-variants.{UserDataLengthDisagrees, UserDataTooLong}
 use Rattle.coding.specs.declared.UserDataCoding.{UserDataCoding}
 use Rattle.coding.specs.Coding.{checkedData, dataOctets, codingOf}
+use Rattle.coding.proofs.Laws.{size-told}
 use Rattle.coding.proofs.check_user_data.Statement.{statement}
 use Rattle.coding.proofs.check_user_data.Tie as tie
 
 -- what UDL and DCS give, as the calls tell it
 module _ (dcs udl n : ℕ) {coding : UserDataCoding} {octets : ℕ} (e : octets ≡ dataOctets coding udl) (c : coding ≡ codingOf dcs) where
   given : octets ≡ dataOctets (codingOf dcs) udl
-  given = e ∙ ap (λ (k : UserDataCoding). dataOctets k udl) c
+  given = size-told dcs udl e c
 
   disagrees : (n ≡ octets → ⊥) → Checked.Against UserDataLengthDisagrees ≡ checkedData dcs udl n
   unfolding checkedData

@@ -6,8 +6,9 @@ use borrow.Author.Tests.{eq-eqb, ne-eqb}
 use native.Mathlib.Omega.{arith}
 use Rattle.octets.specs.declared.Checked.{Checked}
 use Rattle.octets.specs.declared.Refusal.the-variants.{IndicatorDisagrees, IndicatorExtended}
+use Rattle.octets.specs.Checks.{found}
 use Rattle.layout.specs.Layout.{bit}
-use Rattle.parameters.specs.Checking.{found, indicatorChecks}
+use Rattle.parameters.specs.Checking.{indicatorChecks}
 use Rattle.parameters.specs.Optional.{held}
 use Rattle.parameters.specs.declared.OptionalOctet.{OptionalOctet}
 use Rattle.parameters.proofs.Made.{one-at-most}

@@ -2,9 +2,8 @@
 -- Assumes nothing.
 use native.Mathlib.Omega.{arith}
 use borrow.Author.Needs.{needs}
-use Rattle.octets.proofs.Laws.{wrote-then}
+use Rattle.octets.proofs.Laws.{wrote-then, kept-by}
 use Rattle.address.proofs.Checks.{fine-size}
-use Rattle.status_report.proofs.Writing.{kept-length}
 use Rattle.status_report.proofs.put_parts.Statement.{statement}
 use Rattle.status_report.proofs.put_parts.Tie as tie
 
@@ -14,7 +13,7 @@ put-behind-address-requires c κs =
     let w1 = c .before .before .before .before .before .before .before .before .before .before .before .put-octet .ensures in
     let w2 = c .before .before .before .before .before .before .before .put-octet2 .ensures in
     let w3 = c .before .before .before .put-address .ensures in
-    (p .1, p .2, omega (arith, w1 .place, kept-length w1, w2 .place, kept-length w2, w3 .place, kept-length w3, fine-size _ _ _ _ (p .0), p .3))
+    (p .1, p .2, omega (arith, w1 .place, kept-by w1, w2 .place, kept-by w2, w3 .place, kept-by w3, fine-size _ _ _ _ (p .0), p .3))
 
 returns : tie.Need-returns
 returns c = wrote-then (c .before .before .before .before .before .before .before .before .before .before .before .before .before .before .put-octet .ensures) (wrote-then (c .before .before .before .before .before .before .before .before .before .before .put-octet2 .ensures) (wrote-then (c .before .before .before .before .before .before .put-address .ensures) (c .before .before .put-behind-address .ensures)))

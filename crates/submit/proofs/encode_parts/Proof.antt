@@ -20,8 +20,9 @@ use Rattle.address.specs.Address.{addressMaking}
 use Rattle.address.specs.Parts.{checkOf}
 use Rattle.address.proofs.Checks.{fine-small}
 use Rattle.submit.specs.Submit.{formatOf, periodSize, timeHolds, making}
-use Rattle.submit.proofs.Writing.{few-data, octets, another-type, another-format, no-destination, data-against, address-against, no-time, all-made, all-size}
+use Rattle.submit.proofs.Writing.{octets, another-type, another-format, no-destination, data-against, address-against, no-time, all-made, all-size}
 use Rattle.coding.proofs.check_user_data.Reads as check-user-data-reads
+use Rattle.coding.proofs.Laws.{data-passed}
 use Rattle.address.proofs.check_address.Reads as check-address-reads
 use Rattle.submit.proofs.ValidityPeriod.format.Reads as format-reads
 use Rattle.submit.proofs.check_period.Reads as check-period-reads
@@ -103,7 +104,7 @@ encode-parts-spec =
     (λ c. omega (arith, fine-small _ _ _ _ (address-fine (c .before .before))))
     (λ c κs. tt)
     (λ c. omega (arith, fine-small _ _ _ _ (address-fine (c .before .before .before))))
-    (λ c. omega (arith, fine-small _ _ _ _ (address-fine (c .before .before .before)), few-data _ _ _ (data-fine (c .before .before .before))))
+    (λ c. omega (arith, fine-small _ _ _ _ (address-fine (c .before .before .before)), data-passed _ _ _ (data-fine (c .before .before .before)) .1))
     too-short
     (λ c κs. let p = c .before .before .before .before .before in (address-fine p, sym (c .before .before .before .before .check-period .ensures) ∙ not-false _ (c .before .before .before .if4 .left), p .before .before .before .before .before .before .before .before .before .before .before .before .before .before .before .before .pre .1, rw (← begun (p .before .before .before .before .before .before .before) .1, ← c .before .before .validity-octets .ensures .0) (c .before .if5 .left)))
     (λ c. let (m, f, h) = begun (c .before .before .before .before .before .before .before) in lent-refused Written.Refused _ _ (address-against _ _ _ _ _ _ _ _ _ _ _ _ _ _ _ m f h (sym (c .before .before .before .before .before .before .check-user-data .ensures) ∙ c .before .before .before .before .enum-told .given .1) (sym (c .before .before .before .check-address .ensures) ∙ c .before .r2 .given .1)))

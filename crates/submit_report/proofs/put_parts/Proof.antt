@@ -4,9 +4,9 @@ use native.Mathlib.Omega.{arith}
 use borrow.Author.Needs.{needs}
 use denote.Ref.{now}
 use Rattle.octets.proofs.Laws.{wrote-then, chain-start, chain-step}
-use Rattle.submit_report.proofs.Writing.{time-size}
 use Rattle.submit_report.proofs.put_parts.Statement.{statement}
 use Rattle.submit_report.proofs.put_parts.Tie as tie
+use Rattle.time.proofs.Laws.{time-size}
 
 put-parameters-requires : tie.Need-put-parameters-requires
 put-parameters-requires c κs =
