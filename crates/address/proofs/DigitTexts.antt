@@ -12,8 +12,8 @@ use Rattle.octets.specs.Choice.{if_then_else_}
 use Rattle.octets.specs.Each.{each}
 use Rattle.octets.specs.Texts.{codes}
 use Rattle.octets.proofs.Choice.{and-true}
-use Rattle.octets.proofs.SemiOctets.{Below}
 use Rattle.octets.proofs.Table.{below}
+use Rattle.octets.proofs.Each.{Below, below-cons}
 use Rattle.text.specs.Alphabet.{indexOf}
 use Rattle.text.proofs.Rows.{index-found}
 use Rattle.address.specs.Address.{digitCharacters, digitCharacter, digitValue, isDigit, withoutF}
@@ -36,17 +36,6 @@ unfolding codes digitCharacters digitCharacter digitValue isDigit
 character-back c e = let h = ltb-true _ _ e in (index-found digitCharacters c h, h)
 
 -- ---- a list of them
-
--- a bound of every element, with one more in front, and of the first k
-module _ (n : ℕ) where
-  pub below-cons : (x : ℕ) (xs : List ℕ) → x < n → Below n xs → Below n (x ∷ xs)
-  below-cons x xs h r zero = h
-  below-cons x xs h r (suc i) = r i
-
-  pub below-take : (k : ℕ) (xs : List ℕ) → 0 < n → Below n xs → Below n (take k xs)
-  below-take zero xs p h = λ i. p
-  below-take (suc k) [] p h = λ i. p
-  below-take (suc k) (x ∷ xs) p h = below-cons x (take k xs) (h 0) (below-take k xs p (λ i. h (suc i)))
 
 -- the characters of values are digits
 pub values-digits : (ds : List ℕ) → Below 15 ds → each isDigit (map digitCharacter ds) ≡ true

@@ -11,7 +11,8 @@ use lib.ListN.{length, getD, take, length-take, length-map}
 use Rattle.octets.specs.Choice.{if_then_else_}
 use Rattle.octets.specs.Each.{Octets, each}
 use Rattle.octets.specs.SemiOctets.{semiOctets, inPairs}
-use Rattle.octets.proofs.SemiOctets.{Below, semi-pairs, length-pairs, pairs-octets, semi-small}
+use Rattle.octets.proofs.SemiOctets.{semi-pairs, length-pairs, pairs-octets, semi-small}
+use Rattle.octets.proofs.Each.{below-cons, below-take, Below}
 use Rattle.septets.specs.Septets.{septetsIn, packedSeptets}
 use Rattle.septets.proofs.Inverse.{length-packed, length-septets, septets-septets, digits-of}
 use Rattle.text.specs.Reading.{textOf}
@@ -19,7 +20,7 @@ use Rattle.text.specs.Writing.{septetsOf}
 use Rattle.text.proofs.Adequate.{text-packed-text}
 use Rattle.text.proofs.Laws.{read-writable, text-short}
 use Rattle.address.specs.Address.{digitCharacter, digitValue, isDigit, withoutF, typeOfNumber, planOf, valueText, addressWith, textIn, addressIn, addressSize, fieldOf, textField, addressOctets}
-use Rattle.address.proofs.DigitTexts.{below-cons, below-take, values-digits, characters-back, without-digits, without-none}
+use Rattle.address.proofs.DigitTexts.{values-digits, characters-back, without-digits, without-none}
 
 -- ---- what is written
 

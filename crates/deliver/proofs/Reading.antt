@@ -17,19 +17,21 @@ use Rattle.octets.specs.declared.Place.{Place}
 use Rattle.octets.specs.declared.Refusal.{Refusal}
 use Rattle.octets.specs.declared.Refusal.the-variants.{OctetsEnd, WrongMessageType}
 use Rattle.octets.specs.declared.Span.{Span}
-use Rattle.octets.proofs.Laws.{pad-full}
-use Rattle.octets.proofs.Places.{octet-read, span-there}
+use Rattle.octets.proofs.Laws.{pad-full, part-is, part-size}
+use Rattle.octets.proofs.Places.{octet-read, span-there, start}
+use Rattle.octets.proofs.Each.{octets-take, octets-drop}
 use Rattle.coding.specs.Coding.{codingOf, dataOctets, dataWith}
+use Rattle.coding.proofs.Laws.{data-stored}
 use Rattle.time.specs.Time.{timeDigits, timeIn}
-use Rattle.time.proofs.Laws.{length-digits}
+use Rattle.time.proofs.Laws.{length-digits, time-stored}
 use Rattle.address.specs.Address.{addressIn, addressSize, canonicalAddress}
 use Rattle.address.specs.Parts.{fieldAt}
 use Rattle.address.specs.declared.SMSAddress.{SMSAddress}
 use Rattle.address.proofs.Laws.{canonical-reads}
 use Rattle.layout.specs.Layout.{Format, any, upTo, address, userData, field, done, cut, kept, messageType, Reached, reached, halted, read, readFrom}
-use Rattle.layout.proofs.Fields.{octets-take, octets-drop, cut-whole}
+use Rattle.layout.proofs.Fields.{cut-whole, address-there}
 use Rattle.layout.proofs.FirstOctet.{kept-bit, kept-type}
-use Rattle.layout.proofs.Steps.{message-goes-on, message-differs, message-ends, octet-goes-on, octet-ends, span-goes-on, span-ends, address-goes-on, address-ends, done-reached}
+use Rattle.layout.proofs.Steps.{message-goes-on, message-differs, message-ends, octet-goes-on, octet-ends, span-goes-on, span-ends, address-goes-on, address-ends, done-reached, address-inside}
 use Rattle.deliver.specs.declared.SmsDeliver.{SmsDeliver}
 use Rattle.deliver.specs.declared.DeliverRead.{DeliverRead}
 use Rattle.deliver.specs.Deliver.{bits, delivered, behindAddress, line, deliver, answer, unread}
@@ -83,9 +85,6 @@ module _ (s : List ℕ) (f : ℕ) (oa : List ℕ) (p : Place) where
 -- ---- the first octet and the address
 
 module _ (s : List ℕ) where
-  abbrev start : Place
-  start = record { at = 0 }
-
   abbrev behindFirst : ℕ → Format SmsDeliver
   behindFirst f = field address λ oa. behindAddress f oa
 
@@ -105,11 +104,11 @@ module _ (s : List ℕ) where
 
       pub to-address : {oa : ℕ} {q : Place} → fieldAt s p ≡ Span.There oa q
           → (oa + addressSize (drop oa s) ≤ length s) × (read deliver s ≡ readFrom (behindAddress (kept bits b) (canonicalAddress (cut address (drop oa s)))) s (q .at))
-      unfolding read line fieldAt spanAt
-      to-address {oa} d =
-          let (whole, at, to) = span-there s p _ d in
-          let room : oa + addressSize (drop oa s) ≤ length s = rw at (omega (arith, whole, length-drop (p .at) s, octet-read s start e)) in
-          (room, message-goes-on s start e 0 bits refl behindFirst m ∙ address-goes-on s p d (behindAddress (kept bits b)) ∙ rw (sym at))
+      unfolding read line
+      to-address d = (
+        address-inside s p d (omega (arith, octet-read s start e)) .0,
+        message-goes-on s start e 0 bits refl behindFirst m ∙ address-goes-on s p d (behindAddress (kept bits b)),
+      )
 
 -- ---- the record
 
@@ -131,14 +130,8 @@ pub message-is : (s : List ℕ) → Octets s → (first oa pid dcs scts udl ud n
       «tp_user_data» = record { octets = xs; length = n };
     })
     (delivered (kept bits first) (canonicalAddress (cut address (drop oa s))) pid dcs (take 7 (drop scts s)) udl (take n (drop ud s)))
-unfolding delivered timeIn dataWith
+unfolding delivered
 message-is s o first oa pid dcs scts udl ud n wa wt wd a ea ds ed xs ex =
-    let whole = cut-whole address (drop oa s) (rw length-drop (omega arith)) in
-    let octets = octets-take (addressSize (drop oa s)) (drop oa s) (octets-drop oa s o) in
-    let same = canonical-reads (cut address (drop oa s)) (record { octets = octets; whole = whole }) in
-    let seven : length (timeDigits (take 7 (drop scts s))) ≡ 14 = length-digits _ ∙ rw (length-take-le 7 (drop scts s) (rw length-drop (omega arith))) in
-    let many : ud + n - ud ≡ n = omega arith in
-    let size : length (take n (drop ud s)) ≡ n = length-take-le n (drop ud s) (rw length-drop (omega arith)) in
     rw (
       kept-bit bits refl 7 refl first,
       kept-bit bits refl 6 refl first,
@@ -146,12 +139,8 @@ message-is s o first oa pid dcs scts udl ud n wa wt wd a ea ds ed xs ex =
       kept-bit bits refl 3 refl first,
       kept-bit bits refl 2 refl first,
       kept-type bits refl first,
-      same,
+      address-there s o oa wa,
       ea,
-      ed,
-      ex,
-      many,
-      seven,
-      size,
-      pad-full 14 (timeDigits (take 7 (drop scts s))) seven,
+      time-stored (take 7 (drop scts s)) (part-size scts 7 s wt) ed,
+      data-stored (take n (drop ud s)) (part-size ud n s wd) (ex ∙ rw (part-is ud n s)),
     )

@@ -29,7 +29,7 @@ use Rattle.deliver_report.specs.DeliverReport.{reported, rest, outcomeOf
 use Rattle.deliver_report.specs.declared.SmsDeliverReport.{SmsDeliverReport}
 use Rattle.parameters.proofs.Made.{one-at-most}
 use Rattle.deliver_report.proofs.Writing.{size-is}
-use Rattle.deliver_report.proofs.Reading.{ack-goes-on, error-goes-on}
+use Rattle.deliver_report.proofs.Reading.{outcomes}
 
 -- ---- the octets of parts that pass the checks
 
@@ -39,10 +39,10 @@ module _ (pi : ℕ) (p : Parameters) (i : found (indicatorChecks pi (p .pid) (p 
   rest-back udhi cause s at e = indicator-here s at e _ (not-extended pi p [] 0 i d) ∙ parameters-here pi p i d s (at + 1) (sym (drop-drop 1 at s) ∙ ap (drop 1) e) _ ∙ done-reached s _ _
 
   back : (udhi : Bool) (cause : OptionalOctet) → (n : ℕ) × (read (outcomeOf cause) (octetsIn udhi cause pi p) ≡ reached (reported udhi cause pi p) n)
-  back true Absent = (_, ack-goes-on (octetsIn true Absent pi p) (octet-here _ 0 refl) refl ∙ rest-back true Absent _ 1 refl)
-  back false Absent = (_, ack-goes-on (octetsIn false Absent pi p) (octet-here _ 0 refl) refl ∙ rest-back false Absent _ 1 refl)
-  back true (Present x) = (_, error-goes-on (octetsIn true (Present x) pi p) (octet-here _ 0 refl) refl refl (octet-here _ 1 refl) ∙ rest-back true (Present x) _ 2 refl)
-  back false (Present x) = (_, error-goes-on (octetsIn false (Present x) pi p) (octet-here _ 0 refl) refl refl (octet-here _ 1 refl) ∙ rest-back false (Present x) _ 2 refl)
+  back true Absent = (_, outcomes (octetsIn true Absent pi p) .ack-goes-on (octet-here _ 0 refl) refl ∙ rest-back true Absent _ 1 refl)
+  back false Absent = (_, outcomes (octetsIn false Absent pi p) .ack-goes-on (octet-here _ 0 refl) refl ∙ rest-back false Absent _ 1 refl)
+  back true (Present x) = (_, outcomes (octetsIn true (Present x) pi p) .error-goes-on (octet-here _ 0 refl) refl refl (octet-here _ 1 refl) ∙ rest-back true (Present x) _ 2 refl)
+  back false (Present x) = (_, outcomes (octetsIn false (Present x) pi p) .error-goes-on (octet-here _ 0 refl) refl refl (octet-here _ 1 refl) ∙ rest-back false (Present x) _ 2 refl)
 
 -- ---- a record
 

@@ -5,7 +5,6 @@ use mathlib.Core.Path.{_≡_, _∙_}
 use mathlib.Core.Bool.{Bool}
 use mathlib.Core.List.{List, _++_}
 use native.Mathlib.Omega.{arith}
-use native.Mathlib.Nat.{zero-add}
 use borrow.Author.Tests.{le-leb, lt-leb}
 use lib.ListN.{length, length-append}
 use Rattle.octets.specs.Checks.{Check, checked, found}
@@ -14,7 +13,7 @@ use Rattle.octets.specs.declared.Checked.{Checked}
 use Rattle.octets.specs.declared.Refusal.{Refusal}
 use Rattle.octets.specs.declared.Refusal.the-variants.{LengthTooLarge, OutputTooShort}
 use Rattle.octets.specs.declared.Written.{Written}
-use Rattle.octets.proofs.Laws.{lent-refused, lent-short, lent-done}
+use Rattle.octets.proofs.Laws.{lent-refused, lent-short, lent-written}
 use Rattle.octets.proofs.Checks.{passed, against, all-passed, one-against}
 use Rattle.parameters.specs.Checking.{indicatorChecks, dataChecks}
 use Rattle.parameters.specs.Line.{Parameters}
@@ -55,7 +54,7 @@ module _ (udhi : Bool) (cause : OptionalOctet) (pi : ℕ) (p : Parameters) (l : 
       short h = lent-short Written.Refused l fine h
 
       pub written : {n : ℕ} {l′ : List ℕ} → length (octetsIn udhi cause pi p) ≤ length l → Wrote 0 (octetsIn udhi cause pi p) l n l′ → _≡_ {A = Written × List ℕ} (Written.Done n, l′) lent
-      written h w = rw (w .place, zero-add) (lent-done Written.Refused l fine h (w .list))
+      written h w = lent-written l fine h w
 
 -- ---- of a record
 

@@ -6,33 +6,14 @@ use mathlib.Core.Bool.{true, false}
 use mathlib.Core.List.{List, [], _∷_, _++_}
 use mathlib.Core.Logic.{_⊎_, ⊎-elim}
 use native.Mathlib.Omega.{arith}
-use borrow.Author.Tests.{ltb-true}
-use lib.Dec.{ltb}
-use lib.ListN.{length, take, drop, List·getD-append}
-use lib.Seq.{length-take-le, take-at, drop-at, getD-take, getD-drop}
-use Rattle.octets.specs.Each.{Octets, each}
-use Rattle.octets.proofs.Choice.{and-true, chosen}
-use Rattle.address.specs.Address.{addressSize, canonicalAddress}
-use Rattle.address.proofs.Laws.{Field as AddressField, canonical-field, canonical-shorter}
+use lib.ListN.{length, take, drop, length-drop, List·getD-append}
+use lib.Seq.{length-take-le, take-at, drop-at, getD-take}
+use Rattle.octets.specs.Each.{Octets}
+use Rattle.octets.proofs.Choice.{chosen}
+use Rattle.octets.proofs.Each.{octets-take, octets-drop}
+use Rattle.address.specs.Address.{addressIn, addressSize, canonicalAddress}
+use Rattle.address.proofs.Laws.{Field as AddressField, canonical-field, canonical-reads, canonical-shorter}
 use Rattle.layout.specs.Layout.{Kind, first, octet, octets, address, indicator, isSet, indicatorSize, size, Whole, cut, canon}
-
--- ---- strings of octets
-
-pub octets-take : (n : ℕ) (s : List ℕ) → Octets s → Octets (take n s)
-octets-take zero s o i = omega arith
-octets-take (suc n) [] o i = omega arith
-octets-take (suc n) (x ∷ s) o zero = o 0
-octets-take (suc n) (x ∷ s) o (suc i) = octets-take n s (λ j. o (suc j)) i
-
-pub octets-drop : (n : ℕ) (s : List ℕ) → Octets s → Octets (drop n s)
-octets-drop n s o i = rw getD-drop (o (n + i))
-
--- by a test of each
-pub octets-tested : (s : List ℕ) → each (λ x. ltb x 256) s ≡ true → Octets s
-unfolding each
-octets-tested [] e i = omega arith
-octets-tested (x ∷ s) e zero = ltb-true x 256 (and-true (ltb x 256) (each (λ x. ltb x 256) s) e .0)
-octets-tested (x ∷ s) e (suc i) = octets-tested s (and-true (ltb x 256) (each (λ x. ltb x 256) s) e .1) i
 
 -- ---- where a field ends
 
@@ -88,6 +69,11 @@ module _ (f : List ℕ) (o : Octets f) where
   canon-short (octets limit n) w = omega arith
   canon-short address w = omega (arith, canonical-shorter f (whole-address w), canonical-field f (whole-address w) .whole)
   canon-short indicator w = omega (arith, indicator-positive f)
+
+-- those of an address that is there are read as it is
+pub address-there : (s : List ℕ) → Octets s → (at : ℕ) → at + addressSize (drop at s) ≤ length s → addressIn (canonicalAddress (cut address (drop at s))) ≡ addressIn (cut address (drop at s))
+address-there s o at h =
+    canonical-reads (cut address (drop at s)) (record { octets = octets-take (addressSize (drop at s)) (drop at s) (octets-drop at s o); whole = cut-whole address (drop at s) (rw length-drop (omega arith)) })
 
 -- they tell their own end
 module _ (f g : List ℕ) (of : Octets f) (og : Octets g) where

@@ -14,8 +14,9 @@ use Rattle.octets.specs.Each.{Octets}
 use Rattle.octets.specs.declared.Refusal.{Refusal}
 use Rattle.octets.specs.declared.Refusal.the-variants.{OctetsEnd}
 use Rattle.octets.proofs.Choice.{chosen}
+use Rattle.octets.proofs.Each.{octets-take, octets-drop}
 use Rattle.layout.specs.Layout.{Kind, indicator, size, cut, behind, canon, Field, standsAs, joined, Format, field, require, endOr, done, Begins, Generates, Reached, reached, halted, after, reading, readFrom, fieldsOf, Layout, plain, stopping, stops, read}
-use Rattle.layout.proofs.Fields.{octets-take, octets-drop, own, cut-whole, indicator-positive, canon-short, told}
+use Rattle.layout.proofs.Fields.{own, cut-whole, indicator-positive, canon-short, told}
 
 -- ---- reading behind a field
 

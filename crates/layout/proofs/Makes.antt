@@ -7,10 +7,11 @@ use mathlib.Core.List.{List, [], _∷_, _++_}
 use native.Mathlib.Omega.{arith}
 use lib.ListN.{length}
 use Rattle.octets.specs.Each.{Octets}
+use Rattle.octets.proofs.Each.{octets-take, octets-drop}
 use Rattle.address.specs.Address.{canonicalAddress}
 use Rattle.address.proofs.Laws.{Field as AddressField}
 use Rattle.layout.specs.Layout.{Kind, first, octet, octets, address, indicator, kept, size, Whole, leading, cut, canon, Field, standsAs, Format, field, require, endOr, done, _then_, reached, reading, fieldsOf}
-use Rattle.layout.proofs.Fields.{octets-take, octets-drop, cut-whole}
+use Rattle.layout.proofs.Fields.{cut-whole}
 use Rattle.layout.proofs.Laws.{taken}
 
 -- Q holds of the canonical octets of every whole field of octets

@@ -10,7 +10,7 @@ use borrow.Author.Tests.{eq-eqb, ne-eqb}
 use lib.Bits.{bitAnd}
 use lib.Dec.{eqb, leb}
 use lib.ListN.{length, take, drop, length-drop, drop-of-length-le}
-use lib.Seq.{drop-cons, drop-drop, getD-take, getD-drop, take-nil, slice}
+use lib.Seq.{drop-cons, drop-drop, getD-take, getD-drop}
 use Rattle.octets.specs.Choice.{if_then_else_}
 use Rattle.octets.specs.Each.{Octets}
 use Rattle.octets.specs.Places.{octetAt, spanAt}
@@ -19,12 +19,12 @@ use Rattle.octets.specs.declared.Place.{Place}
 use Rattle.octets.specs.declared.Refusal.{Refusal}
 use Rattle.octets.specs.declared.Refusal.the-variants.{OctetsEnd, WrongMessageType}
 use Rattle.octets.specs.declared.Span.{Span}
-use Rattle.octets.proofs.Places.{octet-read, octet-refused, span-there, span-refused}
-use Rattle.address.specs.Address.{canonicalAddress, addressIn}
+use Rattle.octets.proofs.Places.{start, octet-read, octet-refused, span-there, span-inside, span-refused}
+use Rattle.octets.proofs.Each.{octets-take, octets-drop}
+use Rattle.address.specs.Address.{addressSize, canonicalAddress}
 use Rattle.address.specs.Parts.{fieldAt}
-use Rattle.address.proofs.Laws.{canonical-reads}
 use Rattle.layout.specs.Layout.{Limit, Kind, first, octet, octets, address, indicator, messageType, kept, indicatorSize, size, canon, cut, behind, Format, field, require, endOr, done, _then_, message, Reached, reached, halted, after, reading, readFrom, leadingAt, indicatorAt, plain, stopping, stops, read}
-use Rattle.layout.proofs.Fields.{octets-take, octets-drop, cut-whole, indicator-positive}
+use Rattle.layout.proofs.Fields.{cut-whole, indicator-positive}
 use Rattle.layout.proofs.FirstOctet.{descends, kept-type}
 use Rattle.layout.proofs.Laws.{goes-on, ends}
 
@@ -53,11 +53,6 @@ module _ {R : Type 0} (s : List ℕ) (at : ℕ) (line : Format R) (next : List �
   end-not-reached h = rw (drop-cons s at 0 h)
 
 -- ---- a field that is whole, and one that isn't
-
-drop-take : (a n : ℕ) (l : List ℕ) → drop a (take (a + n) l) ≡ take n (drop a l)
-drop-take zero n l = rw zero-add
-drop-take (suc a) n [] = rw suc-add (sym (take-nil n))
-drop-take (suc a) n (x ∷ l) = rw suc-add (drop-take a n l)
 
 module _ (s : List ℕ) (p : Place) where
   there : {R : Type 0} (k : Kind) (next : List ℕ → Format R) (q : Place) → size k (drop (p .at) s) ≤ length (drop (p .at) s) → q .at ≡ p .at + size k (drop (p .at) s)
@@ -114,26 +109,23 @@ module _ (s : List ℕ) (p : Place) where
     pub span-ends : {R : Type 0} {why : Refusal} → spanAt s p n ≡ Span.Refused why → (limit : Limit) (next : List ℕ → Format R) → readFrom (field (octets limit n) next) s (p .at) ≡ halted OctetsEnd
     span-ends e limit next = whole-short (octets limit n) e next
 
-    -- the octets between the two places are the field
-    pub span-slice : {a : ℕ} {q : Place} → spanAt s p n ≡ Span.There a q → slice a (q .at) s ≡ take n (drop (p .at) s)
-    span-slice e = let (h, a, to) = span-there s p n e in rw (a, to) (drop-take (p .at) n s)
-
   -- ---- by the answer of `address_at`
 
-  pub address-goes-on : {R : Type 0} {a : ℕ} {q : Place} → fieldAt s p ≡ Span.There a q → (next : List ℕ → Format R) → readFrom (field address next) s (p .at) ≡ readFrom (next (canonicalAddress (cut address (drop (p .at) s)))) s (q .at)
+  pub address-goes-on : {R : Type 0} {a : ℕ} {q : Place} → fieldAt s p ≡ Span.There a q → (next : List ℕ → Format R) → readFrom (field address next) s (p .at) ≡ readFrom (next (canonicalAddress (cut address (drop a s)))) s (q .at)
   unfolding fieldAt spanAt
-  address-goes-on e next = whole-there address e next
+  address-goes-on e next = whole-there address e next ∙ rw (span-there s p _ e .1)
 
   pub address-ends : {R : Type 0} {why : Refusal} → fieldAt s p ≡ Span.Refused why → (next : List ℕ → Format R) → readFrom (field address next) s (p .at) ≡ halted OctetsEnd
   unfolding fieldAt spanAt
   address-ends e next = whole-short address e next
 
-  -- its canonical octets are read as what stands between the two places
-  pub address-reads : {a : ℕ} {q : Place} → Octets s → fieldAt s p ≡ Span.There a q → addressIn (canonicalAddress (cut address (drop (p .at) s))) ≡ addressIn (slice a (q .at) s)
+  -- it lies in the string, from a place that does
+  pub address-inside : {a : ℕ} {q : Place} → fieldAt s p ≡ Span.There a q → p .at ≤ length s → (a + addressSize (drop a s) ≤ length s) × (q .at ≤ length s)
   unfolding fieldAt spanAt
-  address-reads o e =
-      canonical-reads (cut address (drop (p .at) s)) (record { octets = octets-take (size address (drop (p .at) s)) (drop (p .at) s) (octets-drop (p .at) s o); whole = cut-whole address (drop (p .at) s) (span-there s p _ e .0) })
-      ∙ ap addressIn (sym (span-slice _ e))
+  address-inside {a} e h =
+      let is : a ≡ p .at = span-there s p _ e .1 in
+      let (x, y) = span-inside s p _ e h in
+      (rw is (rw is at x), y)
 
   -- ---- by the answer of a method that reads an indicator
 
@@ -156,31 +148,39 @@ module _ (s : List ℕ) (p : Place) where
       by (Span.There a to) d e = let z : _≡_ {A = ℕ} 0 1 = cc in absurd (omega arith)
       by (Span.Refused w) d e = whole-short indicator d next
 
--- ---- a layout: its line, or where the first octet stops it
+-- ---- a layout that the first octet may stop
 
-module _ {R : Type 0} (s : List ℕ) (line : Format R) where
-  pub read-plain : read (plain line) s ≡ readFrom line s 0
-  unfolding read
-  read-plain = refl
-
-  module _ (mti : ℕ) (stands : List ℕ) (z : R) where
-    pub read-stopped : stops mti s ≡ true → read (stopping mti stands z line) s ≡ reached z 1
-    unfolding read
-    read-stopped e = rw e
-
-    pub read-on : stops mti s ≡ false → read (stopping mti stands z line) s ≡ readFrom line s 0
-    unfolding read
-    read-on e = rw e
-
-pub stops-by : {b : ℕ} {q : Place} (mti : ℕ) (s : List ℕ) → octetAt s (record { at = 0 }) ≡ Octet.Read b q → stops mti s ≡ (eqb (messageType b) mti && not (eqb (bitAnd b 0xbc) 0))
+pub stops-by : {b : ℕ} {q : Place} (mti : ℕ) (s : List ℕ) → octetAt s start ≡ Octet.Read b q → stops mti s ≡ (eqb (messageType b) mti && not (eqb (bitAnd b 0xbc) 0))
 unfolding stops
-stops-by mti [] e = absurd (omega (arith, octet-read [] (record { at = 0 }) e .0))
-stops-by mti (x ∷ s) e = rw (octet-read (x ∷ s) (record { at = 0 }) e .1)
+stops-by mti [] e = absurd (omega (arith, octet-read [] start e .0))
+stops-by mti (x ∷ s) e = rw (octet-read (x ∷ s) start e .1)
 
-pub stops-none : {why : Refusal} (mti : ℕ) (s : List ℕ) → octetAt s (record { at = 0 }) ≡ Octet.Refused why → stops mti s ≡ false
+pub stops-none : {why : Refusal} (mti : ℕ) (s : List ℕ) → octetAt s start ≡ Octet.Refused why → stops mti s ≡ false
 unfolding stops
 stops-none mti [] e = refl
-stops-none mti (x ∷ s) e = absurd (omega (arith, octet-refused (x ∷ s) (record { at = 0 }) e .0))
+stops-none mti (x ∷ s) e = absurd (omega (arith, octet-refused (x ∷ s) start e .0))
+
+module _ {R : Type 0} (mti : ℕ) (stands : List ℕ) (z : R) (bits : List ℕ) (d : descends bits ≡ true) (next : ℕ → Format R) (s : List ℕ) where
+  abbrev stopping-read : Reached R
+  stopping-read = read (stopping mti stands z (message mti bits next)) s
+
+  pub stopping-ends : {why : Refusal} → octetAt s start ≡ Octet.Refused why → stopping-read ≡ halted OctetsEnd
+  unfolding read
+  stopping-ends e = rw (stops-none mti s e) (message-ends s start e mti bits next)
+
+  module _ {b : ℕ} {q : Place} (e : octetAt s start ≡ Octet.Read b q) where
+    pub stopping-differs : (messageType b ≡ mti → ⊥) → stopping-read ≡ halted WrongMessageType
+    unfolding read
+    stopping-differs m = rw (stops-by mti s e, ne-eqb (messageType b) mti m) (message-differs s start e mti bits d next m)
+
+    module _ (m : messageType b ≡ mti) where
+      pub stopping-stops : (bitAnd b 0xbc ≡ 0 → ⊥) → stopping-read ≡ reached z 1
+      unfolding read
+      stopping-stops h = rw (stops-by mti s e, eq-eqb (messageType b) mti m, ne-eqb (bitAnd b 0xbc) 0 h)
+
+      pub stopping-goes-on : bitAnd b 0xbc ≡ 0 → stopping-read ≡ readFrom (next (kept bits b)) s (q .at)
+      unfolding read
+      stopping-goes-on h = rw (stops-by mti s e, eq-eqb (messageType b) mti m, eq-eqb (bitAnd b 0xbc) 0 h) (message-goes-on s start e mti bits d next m)
 
 -- ---- a format and what follows it are read one after the other
 

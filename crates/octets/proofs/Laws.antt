@@ -6,10 +6,11 @@ use mathlib.Core.List.{List, [], _∷_, _++_, append-nil}
 use native.Mathlib.Omega.{arith}
 use native.Mathlib.Nat.{add-zero, zero-add, sub-zero, zero-sub, suc-sub-suc, add-suc, suc-add}
 use borrow.Author.Tests.{le-leb, lt-leb}
-use lib.ListN.{length, take, drop, set, replicate, length-append, length-replicate, drop-of-length-le}
-use lib.Seq.{sets, sets-eq, length-sets, take-at}
+use lib.ListN.{length, take, drop, set, replicate, length-append, length-replicate, length-drop, drop-of-length-le}
+use lib.Seq.{sets, sets-eq, length-sets, length-take-le, take-at}
 use Rattle.octets.specs.declared.Refusal.{Refusal}
 use Rattle.octets.specs.declared.Refusal.the-variants.{OutputTooShort}
+use Rattle.octets.specs.declared.Written.{Written}
 use Rattle.octets.specs.Arrays.{pad}
 use Rattle.octets.specs.Lent.{Making, refused, made, lend, Wrote}
 
@@ -46,6 +47,15 @@ pad-full n xs e = let z : n - length xs ≡ 0 = omega arith in rw z (append-nil 
 pub take-pad : (n : ℕ) (xs : List ℕ) → take (length xs) (pad n xs) ≡ xs
 unfolding pad
 take-pad n xs = take-at xs _ (length xs) refl
+
+-- ---- a part of a string, as the code cuts it out
+
+module _ (at n : ℕ) (s : List ℕ) where
+  pub part-is : take (at + n - at) (drop at s) ≡ take n (drop at s)
+  part-is = let e : at + n - at ≡ n = omega arith in rw e
+
+  pub part-size : at + n ≤ length s → length (take n (drop at s)) ≡ n
+  part-size h = length-take-le n (drop at s) (rw length-drop (omega arith))
 
 -- ---- storing piece by piece: with `rest` stored from `at` on, the list is `whole`, and the place behind is `end`
 
@@ -109,3 +119,7 @@ module _ {A : Type 0} (blank : Refusal → A) {m : Making A} (l : List ℕ) wher
     pub lent-done : {l′ : List ℕ} → length xs ≤ length l → l′ ≡ sets l 0 xs → _≡_ {A = A × List ℕ} (a, l′) (lend blank m l)
     unfolding lend
     lent-done h p = rw (e, le-leb (length xs) (length l) h, p, sets-start xs l h)
+
+-- the octets that a part of a writer stored
+pub lent-written : {m : Making Written} {n : ℕ} {xs l′ : List ℕ} (l : List ℕ) → m ≡ made xs (Written.Done (length xs)) → length xs ≤ length l → Wrote 0 xs l n l′ → _≡_ {A = Written × List ℕ} (Written.Done n, l′) (lend Written.Refused m l)
+lent-written l e h w = rw (w .place, zero-add) (lent-done Written.Refused l e h (w .list))

@@ -16,6 +16,10 @@ use Rattle.octets.specs.declared.Span.{Span}
 use Rattle.octets.specs.Places.{octetAt, spanAt}
 use Rattle.octets.proofs.Choice.{chosen}
 
+-- where a reader starts
+abbrev pub start : Place
+start = record { at = 0 }
+
 module _ (s : List ℕ) (p : Place) where
   -- an octet that is read is there, and the next place is behind it
   pub octet-read : {b : ℕ} {q : Place} → octetAt s p ≡ Octet.Read b q → (p .at < length s) × (b ≡ getD s (p .at) 0) × (q .at ≡ p .at + 1)

@@ -4,13 +4,10 @@ use Prim.Native.Nat.{ℕ, zero, suc, _+_, _*_, _/_, _%_, _<_}
 use mathlib.Core.Path.{_≡_, refl, ap₂}
 use mathlib.Core.List.{List, [], _∷_}
 use native.Mathlib.Omega.{arith}
-use lib.ListN.{length, getD, take}
+use lib.ListN.{length, take}
 use Rattle.octets.specs.Each.{Octets}
 use Rattle.octets.specs.SemiOctets.{semiOctets, inPairs}
-
--- every element is below n: octets for n = 256, semi-octets for n = 16
-abbrev pub Below : ℕ → List ℕ → Type 0
-Below n xs = (i : ℕ) → getD xs i 0 < n
+use Rattle.octets.proofs.Each.{Below}
 
 -- semi-octets → octets → semi-octets
 pub semi-pairs : (ds : List ℕ) → Below 16 ds → take (length ds) (semiOctets (inPairs ds)) ≡ ds

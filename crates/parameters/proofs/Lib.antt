@@ -1,5 +1,6 @@
 pub mod Indicator
 pub mod Reading
+pub mod Outcomes
 pub mod Made
 pub mod Checking
 pub mod Back

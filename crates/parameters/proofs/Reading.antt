@@ -18,11 +18,13 @@ use Rattle.octets.specs.declared.Refusal.{Refusal}
 use Rattle.octets.specs.declared.Refusal.the-variants.{OctetsEnd}
 use Rattle.octets.specs.declared.Span.{Span}
 use Rattle.octets.proofs.Places.{span-there}
+use Rattle.octets.proofs.Each.{octets-drop}
 use Rattle.coding.specs.Coding.{codingOf, dataOctets}
 use Rattle.layout.specs.Layout.{any, upTo, isSet, Format, done, _then_, Reached, reached, halted, reading, readFrom, indicatorSize, indicatorAt, leadingAt}
 use Rattle.layout.proofs.Makes.{makes}
-use Rattle.layout.proofs.Fields.{octets-drop, indicator-positive}
+use Rattle.layout.proofs.Fields.{indicator-positive}
 use Rattle.layout.proofs.Steps.{goOn, part-by-part, octet-goes-on, octet-ends, span-goes-on, span-ends, done-reached}
+use Rattle.layout.proofs.Laws.{within-from}
 use Rattle.parameters.specs.Line.{Parameters, announced, dataFor, parameters, optionalAnswer, parametersAnswer}
 use Rattle.parameters.specs.Optional.{orZero}
 use Rattle.parameters.specs.declared.OptionalOctet.{OptionalOctet}
@@ -165,10 +167,11 @@ pub record Told (s : List ℕ) (at pi : ℕ) (pid dcs udl : OptionalOctet) (size
   pub start : size ≤ q .at
   pub counted : length (take size (drop (q .at - size) s)) ≡ size
   pub few : size ≤ 255
+  pub end : q .at ≤ length s
 
-pub parameters-told : {pid dcs udl : OptionalOctet} {size : ℕ} {q : Place} (s : List ℕ) (at pi : ℕ) → Octets s → parametersAnswer (readFrom (parameters pi) s at) ≡ ParametersRead.Read pid dcs udl size q → Told s at pi pid dcs udl size q
+pub parameters-told : {pid dcs udl : OptionalOctet} {size : ℕ} {q : Place} (s : List ℕ) (at pi : ℕ) → Octets s → at ≤ length s → parametersAnswer (readFrom (parameters pi) s at) ≡ ParametersRead.Read pid dcs udl size q → Told s at pi pid dcs udl size q
 unfolding readFrom
-parameters-told {pid} {dcs} {udl} {size} {q} s at pi o = go (readFrom (parameters pi) s at) refl
+parameters-told {pid} {dcs} {udl} {size} {q} s at pi o inside = go (readFrom (parameters pi) s at) refl
   where
     go : (r : Reached Parameters) → readFrom (parameters pi) s at ≡ r → parametersAnswer r ≡ ParametersRead.Read pid dcs udl size q → Told s at pi pid dcs udl size q
     go (reached p to) d h =
@@ -184,6 +187,7 @@ parameters-told {pid} {dcs} {udl} {size} {q} s at pi o = go (readFrom (parameter
           start = omega (arith, l .start);
           counted = rw (← n, ← w, l .is);
           few = omega (arith, m .few);
+          end = omega (arith, within-from (parameters pi) s at inside d);
         }
     go (halted why) d h = let z : _≡_ {A = ℕ} 0 1 = cc in absurd (omega arith)
 
@@ -202,6 +206,11 @@ indicator-within {x} {q} s p e = go (spanAt s p (indicatorSize (drop (p .at) s))
         let w : t .at ≡ q .at = cc in
         omega (arith, indicator-positive (drop (p .at) s), length-drop (p .at) s)
     go (Span.Refused why) d h = let z : _≡_ {A = ℕ} 0 1 = cc in absurd (omega arith)
+
+-- the parameters behind it
+pub parameters-behind : {pi size : ℕ} {pid dcs udl : OptionalOctet} {q t : Place} (s : List ℕ) (p : Place) → indicatorAt s p ≡ Octet.Read pi q → Octets s
+    → parametersAnswer (readFrom (parameters pi) s (q .at)) ≡ ParametersRead.Read pid dcs udl size t → Told s (q .at) pi pid dcs udl size t
+parameters-behind {pi} {q = q} s p r o e = parameters-told s (q .at) pi o (indicator-within s p r) e
 
 pub parameters-halted : {why : Refusal} (s : List ℕ) (at pi : ℕ) → parametersAnswer (readFrom (parameters pi) s at) ≡ ParametersRead.Refused why → readFrom (parameters pi) s at ≡ halted why
 parameters-halted {why} s at pi = go (readFrom (parameters pi) s at)

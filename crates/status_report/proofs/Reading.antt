@@ -16,20 +16,22 @@ use Rattle.octets.specs.declared.Place.{Place}
 use Rattle.octets.specs.declared.Refusal.{Refusal}
 use Rattle.octets.specs.declared.Refusal.the-variants.{OctetsEnd, WrongMessageType}
 use Rattle.octets.specs.declared.Span.{Span}
-use Rattle.octets.proofs.Laws.{pad-full}
-use Rattle.octets.proofs.Places.{octet-read, span-there}
+use Rattle.octets.proofs.Laws.{pad-full, part-is, part-size}
+use Rattle.octets.proofs.Places.{octet-read, span-there, start}
+use Rattle.octets.proofs.Each.{octets-take, octets-drop}
 use Rattle.coding.specs.Coding.{dataWith}
+use Rattle.coding.proofs.Laws.{data-stored}
 use Rattle.time.specs.Time.{timeDigits, timeIn}
-use Rattle.time.proofs.Laws.{length-digits}
+use Rattle.time.proofs.Laws.{length-digits, time-stored}
 use Rattle.address.specs.Address.{addressIn, addressSize, canonicalAddress}
 use Rattle.address.specs.Parts.{fieldAt}
 use Rattle.address.specs.declared.SMSAddress.{SMSAddress}
 use Rattle.address.proofs.Laws.{canonical-reads}
 use Rattle.layout.specs.Layout.{Format, any, address, field, one, cut, kept, messageType, Reached, reached, halted, read, readFrom, indicatorAt}
-use Rattle.layout.proofs.Fields.{octets-take, octets-drop, cut-whole}
+use Rattle.layout.proofs.Fields.{cut-whole, address-there}
 use Rattle.layout.proofs.FirstOctet.{kept-bit}
 use Rattle.layout.proofs.Laws.{within-from}
-use Rattle.layout.proofs.Steps.{message-goes-on, message-differs, message-ends, octet-goes-on, octet-ends, span-goes-on, span-ends, address-goes-on, address-ends, indicator-goes-on, indicator-ends, end-reached, end-not-reached, then-goes-on, then-ends, done-reached}
+use Rattle.layout.proofs.Steps.{message-goes-on, message-differs, message-ends, octet-goes-on, octet-ends, span-goes-on, span-ends, address-goes-on, address-ends, indicator-goes-on, indicator-ends, end-reached, end-not-reached, then-goes-on, then-ends, done-reached, address-inside}
 use Rattle.parameters.specs.Line.{Parameters, parameters, parametersAnswer, noParameters}
 use Rattle.parameters.specs.declared.OptionalOctet.{OptionalOctet}
 use Rattle.parameters.specs.declared.OptionalOctet.the-variants.{Absent, Present}
@@ -50,11 +52,6 @@ unfolding answer
 answer-done e p = rw (e, p)
 
 -- ---- behind status
-
--- the parameters, and that the place reached is inside the string
-pub inside : {pi size : ℕ} {pid dcs udl : OptionalOctet} {q t : Place} (s : List ℕ) (p : Place) → indicatorAt s p ≡ Octet.Read pi q → Octets s
-    → parametersAnswer (readFrom (parameters pi) s (q .at)) ≡ ParametersRead.Read pid dcs udl size t → Told s (q .at) pi pid dcs udl size t × (t .at ≤ length s)
-inside {pi} {q = q} s p r o e = let told = parameters-told s (q .at) pi o e in (told, within-from (parameters pi) s (q .at) (indicator-within s p r) (told .is))
 
 module _ (s : List ℕ) (make : OptionalOctet → Parameters → SmsStatusReport) (p : Place) where
   abbrev tail : Reached SmsStatusReport
@@ -105,16 +102,9 @@ module _ (s : List ℕ) (f mr : ℕ) (ra : List ℕ) (p : Place) where
           rw (span-there s p 7 e₁ .1, span-there s p₂ 7 e₂ .1)
           (sym (span-goes-on s p 7 e₁ any _ ∙ span-goes-on s p₂ 7 e₂ any _ ∙ octet-goes-on s p₃ e _))
 
--- a span that is there lies in the string, and so does the place behind it
-pub span-inside : (s : List ℕ) (p q : Place) (n a : ℕ) → spanAt s p n ≡ Span.There a q → p .at ≤ length s → (a + n ≤ length s) × (q .at ≤ length s)
-span-inside s p q n a e h = let t = span-there s p n e in (omega (arith, t .0, t .1, length-drop (p .at) s), omega (arith, t .0, t .2, length-drop (p .at) s))
-
 -- ---- the first octet, the reference and the address
 
 module _ (s : List ℕ) where
-  abbrev start : Place
-  start = record { at = 0 }
-
   abbrev behindFirst : ℕ → Format SmsStatusReport
   behindFirst f = one λ mr. field address λ ra. behindAddress f mr ra
 
@@ -139,12 +129,10 @@ module _ (s : List ℕ) where
 
         pub to-address : {ra : ℕ} {q : Place} → fieldAt s p₂ ≡ Span.There ra q
             → (ra + addressSize (drop ra s) ≤ length s) × (q .at ≤ length s) × (read statusReport s ≡ readFrom (behindAddress (kept bits b) mr (canonicalAddress (cut address (drop ra s)))) s (q .at))
-        unfolding read line fieldAt spanAt
-        to-address {ra} {q} d =
-            let (whole, at, to) = span-there s p₂ _ d in
-            let room : ra + addressSize (drop ra s) ≤ length s = rw at (omega (arith, whole, length-drop (p₂ .at) s, octet-read s p e₂)) in
-            let past : q .at ≤ length s = omega (arith, to, whole, length-drop (p₂ .at) s, octet-read s p e₂) in
-            (room, past, message-goes-on s start e 2 bits refl behindFirst m ∙ octet-goes-on s p e₂ _ ∙ address-goes-on s p₂ d (behindAddress (kept bits b) mr) ∙ rw (sym at))
+        unfolding read line
+        to-address d =
+            let (room, past) = address-inside s p₂ d (omega (arith, octet-read s p e₂)) in
+            (room, past, message-goes-on s start e 2 bits refl behindFirst m ∙ octet-goes-on s p e₂ _ ∙ address-goes-on s p₂ d (behindAddress (kept bits b) mr))
 
 -- ---- the record
 
@@ -168,29 +156,16 @@ pub message-is : (s : List ℕ) → Octets s → (first mr ra scts dt st : ℕ) 
       «tp_user_data» = record { octets = xs; length = n };
     })
     (reported (kept bits first) mr (canonicalAddress (cut address (drop ra s))) (take 7 (drop scts s)) (take 7 (drop dt s)) st pi (record { pid = pid; dcs = dcs; udl = udl; ud = take n (drop ud s) }))
-unfolding reported timeIn dataWith
+unfolding reported
 message-is s o first mr ra scts dt st pi pid dcs udl ud n wa wt wu wd a ea ds ed es ee xs ex =
-    let whole = cut-whole address (drop ra s) (rw length-drop (omega arith)) in
-    let octets = octets-take (addressSize (drop ra s)) (drop ra s) (octets-drop ra s o) in
-    let same = canonical-reads (cut address (drop ra s)) (record { octets = octets; whole = whole }) in
-    let seven : length (timeDigits (take 7 (drop scts s))) ≡ 14 = length-digits _ ∙ rw (length-take-le 7 (drop scts s) (rw length-drop (omega arith))) in
-    let again : length (timeDigits (take 7 (drop dt s))) ≡ 14 = length-digits _ ∙ rw (length-take-le 7 (drop dt s) (rw length-drop (omega arith))) in
-    let many : ud + n - ud ≡ n = omega arith in
-    let size : length (take n (drop ud s)) ≡ n = length-take-le n (drop ud s) (rw length-drop (omega arith)) in
     rw (
       kept-bit bits refl 6 refl first,
       kept-bit bits refl 5 refl first,
       kept-bit bits refl 3 refl first,
       kept-bit bits refl 2 refl first,
-      same,
+      address-there s o ra wa,
       ea,
-      ed,
-      ee,
-      ex,
-      many,
-      seven,
-      again,
-      size,
-      pad-full 14 (timeDigits (take 7 (drop scts s))) seven,
-      pad-full 14 (timeDigits (take 7 (drop dt s))) again,
+      time-stored (take 7 (drop scts s)) (part-size scts 7 s wt) ed,
+      time-stored (take 7 (drop dt s)) (part-size dt 7 s wu) ee,
+      data-stored (take n (drop ud s)) (part-size ud n s wd) (ex ∙ rw (part-is ud n s)),
     )

@@ -5,7 +5,6 @@ use mathlib.Core.Path.{_≡_, refl, sym, ap, _∙_}
 use mathlib.Core.Bool.{Bool, true, false}
 use mathlib.Core.List.{List, _∷_}
 use native.Mathlib.Omega.{arith}
-use native.Mathlib.Nat.{zero-add}
 use borrow.Author.Tests.{eq-eqb, ne-eqb, lt-ltb, le-ltb}
 use lib.ListN.{length, length-append}
 use lib.Seq.{length-sets}
@@ -15,7 +14,7 @@ use Rattle.octets.specs.declared.Checked.{Checked}
 use Rattle.octets.specs.declared.Refusal.{Refusal}
 use Rattle.octets.specs.declared.Refusal.the-variants.{LengthTooLarge, NotATime, ParametersWithoutIndicator, OutputTooShort}
 use Rattle.octets.specs.declared.Written.{Written}
-use Rattle.octets.proofs.Laws.{lent-refused, lent-short, lent-done}
+use Rattle.octets.proofs.Laws.{lent-refused, lent-short, lent-written}
 use Rattle.octets.proofs.Checks.{holds, passed, against, all-passed, one-against}
 use Rattle.time.specs.Time.{isTime, timeOctets, digitsOf}
 use Rattle.time.proofs.Laws.{time-size}
@@ -103,7 +102,7 @@ module _ (first mr ton npi : ℕ) (text scts dt : List ℕ) (st : ℕ) (pi : Opt
       short h = lent-short Written.Refused l all-made (rw all-size h)
 
       pub written : {m : ℕ} {l′ : List ℕ} → 19 + (n + 1) / 2 + held pi + (held (p .pid) + held (p .dcs) + held (p .udl) + length (p .ud)) ≤ length l → Wrote 0 octets l m l′ → _≡_ {A = Written × List ℕ} (Written.Done m, l′) lent
-      written h w = rw (w .place, zero-add) (lent-done Written.Refused l all-made (rw all-size h) (w .list))
+      written h w = lent-written l all-made (rw all-size h) w
 
 -- ---- a record: its lengths, then its parts
 

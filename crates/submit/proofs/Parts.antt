@@ -11,6 +11,7 @@ use lib.ListN.{length, take, drop, length-drop}
 use lib.Seq.{length-take-le}
 use Rattle.octets.specs.Arrays.{pad}
 use Rattle.octets.specs.Each.{Octets}
+use Rattle.octets.proofs.Each.{octets-take, octets-drop}
 use Rattle.coding.specs.declared.UserData.{UserData}
 use Rattle.coding.specs.Coding.{codingOf, dataWith}
 use Rattle.time.specs.declared.Time.{Time}
@@ -19,18 +20,11 @@ use Rattle.address.specs.declared.SMSAddress.{SMSAddress}
 use Rattle.address.specs.Address.{addressIn, addressSize, canonicalAddress}
 use Rattle.address.proofs.Laws.{canonical-reads}
 use Rattle.layout.specs.Layout.{address, cut}
-use Rattle.layout.proofs.Fields.{octets-take, octets-drop, cut-whole}
+use Rattle.layout.proofs.Fields.{cut-whole}
 use Rattle.submit.specs.declared.SmsSubmit.{SmsSubmit}
 use Rattle.submit.specs.declared.SubmitText.{SubmitText}
 use Rattle.submit.specs.declared.ValidityPeriod.{ValidityPeriod}
 use Rattle.submit.specs.Submit.{formatIn, periodIn, ofFormat, readable, textWith, submitted}
-
-module _ (at n : ℕ) (s : List ℕ) where
-  pub part-is : take (at + n - at) (drop at s) ≡ take n (drop at s)
-  part-is = let e : at + n - at ≡ n = omega arith in rw e
-
-  pub part-size : at + n ≤ length s → length (take n (drop at s)) ≡ n
-  part-size h = length-take-le n (drop at s) (rw length-drop (omega arith))
 
 -- the start of a start
 pub take-less : (h n : ℕ) (xs : List ℕ) → h ≤ n → take h (take n xs) ≡ take h xs
@@ -38,11 +32,6 @@ take-less zero n xs le = refl
 take-less (suc h) zero xs le = absurd (omega arith)
 take-less (suc h) (suc n) [] le = refl
 take-less (suc h) (suc n) (x ∷ xs) le = ap (λ (l : List ℕ). x ∷ l) (take-less h n xs (le-of-suc-le-suc le))
-
--- the canonical octets of an address that is there are read as it is
-pub address-there : (s : List ℕ) → Octets s → (at : ℕ) → at + addressSize (drop at s) ≤ length s → addressIn (canonicalAddress (cut address (drop at s))) ≡ addressIn (take (addressSize (drop at s)) (drop at s))
-address-there s o at h =
-    canonical-reads (cut address (drop at s)) (record { octets = octets-take (addressSize (drop at s)) (drop at s) (octets-drop at s o); whole = cut-whole address (drop at s) (rw length-drop (omega arith)) })
 
 -- the record, from its parts
 pub message-is : (f mr : ℕ) (da : List ℕ) (pid dcs : ℕ) (vp : List ℕ) (udl : ℕ) (ud : List ℕ) (h : ℕ)

@@ -17,13 +17,13 @@ use Rattle.octets.specs.declared.Place.{Place}
 use Rattle.octets.specs.declared.Refusal.{Refusal}
 use Rattle.octets.specs.declared.Refusal.the-variants.{OctetsEnd, WrongMessageType, HeaderNotWhole, HeaderPassesCount}
 use Rattle.octets.specs.declared.Span.{Span}
-use Rattle.octets.proofs.Places.{octet-read, span-there}
+use Rattle.octets.proofs.Places.{octet-read, span-there, start}
 use Rattle.octets.proofs.Table.{below}
 use Rattle.coding.specs.Coding.{codingOf, dataOctets}
 use Rattle.address.specs.Address.{addressSize, canonicalAddress}
 use Rattle.address.specs.Parts.{fieldAt}
 use Rattle.layout.specs.Layout.{any, upTo, address, userData, isSet, field, require, done, cut, kept, messageType, Reached, reached, halted, read, readFrom}
-use Rattle.layout.proofs.Steps.{message-goes-on, message-differs, message-ends, octet-goes-on, octet-ends, span-goes-on, span-ends, address-goes-on, address-ends, require-holds, require-fails, done-reached}
+use Rattle.layout.proofs.Steps.{message-goes-on, message-differs, message-ends, octet-goes-on, octet-ends, span-goes-on, span-ends, address-goes-on, address-ends, require-holds, require-fails, done-reached, address-inside}
 use Rattle.submit.specs.declared.SmsSubmit.{SmsSubmit}
 use Rattle.submit.specs.declared.SubmitRead.{SubmitRead}
 use Rattle.submit.specs.Submit.{formatIn, periodSize, headerSize, inCount, submitted, behindCoding, bits, behindFirst, line, submit, answer, unread}
@@ -87,9 +87,6 @@ unfolding kept
 kept-whole x h = eqb-true _ _ (below (λ y. eqb (kept bits y) y) 256 refl x h)
 
 module _ (s : List ℕ) (o : Octets s) where
-  abbrev start : Place
-  start = record { at = 0 }
-
   pub no-first : {why : Refusal} → octetAt s start ≡ Octet.Refused why → read submit s ≡ halted OctetsEnd
   unfolding read line behindFirst
   no-first e = message-ends s start e 1 bits behindFirst
@@ -121,15 +118,12 @@ module _ (s : List ℕ) (o : Octets s) where
 
             module _ {dcs : ℕ} {p₅ : Place} (e₅ : octetAt s p₄ ≡ Octet.Read dcs p₅) where
               pub to-dcs : read submit s ≡ readFrom (behindCoding b mr (canonicalAddress (cut address (drop da s))) pid dcs) s (p₅ .at)
-              unfolding read line behindFirst fieldAt spanAt
+              unfolding read line behindFirst
               to-dcs =
                   let whole : kept bits b ≡ b = kept-whole b (rw (octet-read s start e₁ .1) (o 0)) in
                   message-goes-on s start e₁ 1 bits refl behindFirst m ∙ octet-goes-on s p e₂ _ ∙ address-goes-on s p₂ e₃ _ ∙ octet-goes-on s p₃ e₄ _ ∙ octet-goes-on s p₄ e₅ _
-                  ∙ rw (whole, span-there s p₂ _ e₃ .1)
+                  ∙ rw whole
 
               -- the address and the place lie in the string
               pub room : (da + addressSize (drop da s) ≤ length s) × (p₅ .at ≤ length s)
-              unfolding fieldAt spanAt
-              room =
-                  let (whole, at, to) = span-there s p₂ _ e₃ in
-                  (rw at (omega (arith, whole, length-drop (p₂ .at) s, octet-read s p e₂)), omega (arith, octet-read s p₄ e₅))
+              room = (address-inside s p₂ e₃ (omega (arith, octet-read s p e₂)) .0, omega (arith, octet-read s p₄ e₅))

@@ -34,7 +34,7 @@ use Rattle.parameters.proofs.Made.{one-at-most}
 use Rattle.submit_report.specs.SubmitReport.{reported, rest, outcomeOf, octetsIn, making, parametersOf, reporting, Parts, parts, capitalised}
 use Rattle.submit_report.specs.declared.SmsSubmitReport.{SmsSubmitReport}
 use Rattle.submit_report.proofs.Writing.{size-is}
-use Rattle.submit_report.proofs.Reading.{ack-goes-on, error-goes-on}
+use Rattle.submit_report.proofs.Reading.{outcomes}
 
 -- ---- the octets of parts that pass the checks
 
@@ -48,10 +48,10 @@ module _ (pi : ℕ) (digits : List ℕ) (w : isTime digits ≡ true) (p : Parame
       ∙ parameters-here pi p i d s _ u _ ∙ done-reached s _ _
 
   back : (udhi : ℕ) → udhi ≤ 1 → (cause : OptionalOctet) → (n : ℕ) × (read (outcomeOf cause) (octetsIn udhi cause pi digits p) ≡ reached (reported udhi cause pi (timeOctets digits) p) n)
-  back zero h Absent = (_, ack-goes-on (octetsIn 0 Absent pi digits p) (octet-here _ 0 refl) refl ∙ rest-back 0 Absent _ 1 refl)
-  back (suc zero) h Absent = (_, ack-goes-on (octetsIn 1 Absent pi digits p) (octet-here _ 0 refl) refl ∙ rest-back 1 Absent _ 1 refl)
-  back zero h (Present x) = (_, error-goes-on (octetsIn 0 (Present x) pi digits p) (octet-here _ 0 refl) refl refl (octet-here _ 1 refl) ∙ rest-back 0 (Present x) _ 2 refl)
-  back (suc zero) h (Present x) = (_, error-goes-on (octetsIn 1 (Present x) pi digits p) (octet-here _ 0 refl) refl refl (octet-here _ 1 refl) ∙ rest-back 1 (Present x) _ 2 refl)
+  back zero h Absent = (_, outcomes (octetsIn 0 Absent pi digits p) .ack-goes-on (octet-here _ 0 refl) refl ∙ rest-back 0 Absent _ 1 refl)
+  back (suc zero) h Absent = (_, outcomes (octetsIn 1 Absent pi digits p) .ack-goes-on (octet-here _ 0 refl) refl ∙ rest-back 1 Absent _ 1 refl)
+  back zero h (Present x) = (_, outcomes (octetsIn 0 (Present x) pi digits p) .error-goes-on (octet-here _ 0 refl) refl refl (octet-here _ 1 refl) ∙ rest-back 0 (Present x) _ 2 refl)
+  back (suc zero) h (Present x) = (_, outcomes (octetsIn 1 (Present x) pi digits p) .error-goes-on (octet-here _ 0 refl) refl refl (octet-here _ 1 refl) ∙ rest-back 1 (Present x) _ 2 refl)
   back (suc (suc udhi)) h cause = absurd (omega arith)
 
 -- ---- a record

@@ -5,7 +5,6 @@ use mathlib.Core.Path.{_≡_, _∙_}
 use mathlib.Core.Bool.{true, false}
 use mathlib.Core.List.{List, _∷_, _++_}
 use native.Mathlib.Omega.{arith}
-use native.Mathlib.Nat.{zero-add}
 use borrow.Author.Tests.{le-leb, lt-leb}
 use lib.Dec.{leb}
 use lib.ListN.{length, length-append}
@@ -15,7 +14,7 @@ use Rattle.octets.specs.declared.Checked.{Checked}
 use Rattle.octets.specs.declared.Refusal.{Refusal}
 use Rattle.octets.specs.declared.Refusal.the-variants.{LengthTooLarge, UdhiTooLarge, NotATime, OutputTooShort}
 use Rattle.octets.specs.declared.Written.{Written}
-use Rattle.octets.proofs.Laws.{lent-refused, lent-short, lent-done}
+use Rattle.octets.proofs.Laws.{lent-refused, lent-short, lent-written}
 use Rattle.octets.proofs.Checks.{passed, against, all-passed, one-against}
 use Rattle.time.specs.Time.{isTime, timeOctets, digitsOf}
 use Rattle.time.proofs.Laws.{time-size}
@@ -84,7 +83,7 @@ module _ (udhi : ℕ) (cause : OptionalOctet) (pi : ℕ) (digits : List ℕ) (p 
             short h = lent-short Written.Refused l fine h
 
             pub written : {n : ℕ} {l′ : List ℕ} → length octets ≤ length l → Wrote 0 octets l n l′ → _≡_ {A = Written × List ℕ} (Written.Done n, l′) lent
-            written h w = rw (w .place, zero-add) (lent-done Written.Refused l fine h (w .list))
+            written h w = lent-written l fine h w
 
 -- ---- of a record
 

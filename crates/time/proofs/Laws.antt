@@ -14,7 +14,8 @@ use lib.Seq.{drop-cons}
 use Rattle.octets.specs.Each.{Octets, each}
 use Rattle.octets.proofs.Choice.{and-true, and-means}
 use Rattle.octets.proofs.Each.{each-means}
-use Rattle.octets.proofs.Laws.{take-pad}
+use Rattle.octets.proofs.Laws.{take-pad, pad-full}
+use Rattle.time.specs.declared.Time.{Time}
 use Rattle.time.specs.Time.{hexDigit, isHex, hexValue, capitals, timeDigits, timeOctets, isTime, timeIn, digitsOf}
 use Rattle.time.proofs.Hex.{hex-value, hex-digit}
 
@@ -111,3 +112,8 @@ module _ (i : ℕ) where
 pub time-held : (os : List ℕ) → digitsOf (timeIn os) ≡ timeDigits os
 unfolding timeIn
 time-held os = take-pad 14 (timeDigits os)
+
+-- seven octets that were read, as the time of a record
+pub time-stored : (os : List ℕ) → length os ≡ 7 → {ds : List ℕ} → ds ≡ timeDigits os → _≡_ {A = Time} (record { digits = ds; length = 14 }) (timeIn os)
+unfolding timeIn
+time-stored os seven e = let n : length (timeDigits os) ≡ 14 = length-digits os ∙ rw seven in rw (e, n, pad-full 14 (timeDigits os) n)

@@ -9,7 +9,7 @@ use borrow.Author.Needs.{needs}
 use denote.Ref.{now}
 use lib.ListN.{length}
 use Rattle.octets.specs.declared.Written.{Written}
-use Rattle.octets.proofs.Laws.{lent-refused, lent-short, lent-done}
+use Rattle.octets.proofs.Laws.{lent-refused, lent-short, lent-written}
 use Rattle.address.specs.declared.AddressCheck.{AddressCheck}
 use Rattle.address.specs.Address.{addressMaking}
 use Rattle.address.specs.Parts.{checkOf}
@@ -37,7 +37,7 @@ written : tie.Need-returns-3
 written c =
     let f = passed (c .before .before .before .before .before) in
     let w = c .before .before .put-address .ensures in
-    rw (w .place, zero-add) (lent-done Written.Refused _ (fine-made _ _ _ _ f) (rw (fine-size _ _ _ _ f) (c .before .before .before .before .if1 .left)) (w .list))
+    lent-written _ (fine-made _ _ _ _ f) (rw (fine-size _ _ _ _ f) (c .before .before .before .before .if1 .left)) w
 
 pub encode-parts-spec : {M : Type 1} → statement M
 encode-parts-spec =

@@ -12,47 +12,39 @@ use Rattle.octets.specs.Places.{octetAt, spanAt}
 use Rattle.octets.specs.declared.Octet.{Octet}
 use Rattle.octets.specs.declared.Place.{Place}
 use Rattle.octets.specs.declared.Span.{Span}
-use Rattle.octets.proofs.Places.{octet-read, span-there}
+use Rattle.octets.proofs.Places.{octet-read, span-there, span-inside}
 use Rattle.coding.specs.declared.UserDataCoding.{UserDataCoding}
 use Rattle.coding.specs.Coding.{codingOf, dataOctets}
-use Rattle.coding.proofs.Laws.{data-at-most}
+use Rattle.coding.proofs.Laws.{data-at-most, size-told}
 use Rattle.deliver.specs.Deliver.{delivered}
 use Rattle.deliver.proofs.Reading.{answer-ends, answer-done, no-pid, no-dcs, no-time, no-udl, no-data, all-there}
 use Rattle.deliver.proofs.behind_address.Statement.{statement}
 use Rattle.deliver.proofs.behind_address.Tie as tie
 
--- the number of octets of user data, as the calls tell it
-size-is : {n : ℕ} (dcs udl : ℕ) {k : UserDataCoding} → n ≡ dataOctets k udl → k ≡ codingOf dcs → n ≡ dataOctets (codingOf dcs) udl
-size-is dcs udl e c = e ∙ ap (λ (k : UserDataCoding). dataOctets k udl) c
-
 few : (s : List ℕ) → Octets s → {n : ℕ} (dcs udl at : ℕ) → udl ≡ getD s at 0 → n ≡ dataOctets (codingOf dcs) udl → n ≤ 255
 few s o dcs udl at e size = omega (arith, o at, data-at-most (codingOf dcs) udl)
-
--- a span that is there lies in the string
-inside : (s : List ℕ) (p q : Place) (n a : ℕ) → spanAt s p n ≡ Span.There a q → p .at ≤ length s → a + n ≤ length s
-inside s p q n a e h = let t = span-there s p n e in omega (arith, t .0, t .1, length-drop (p .at) s)
 
 returns-5 : tie.Need-returns-5
 returns-5 c =
     c .refused5 .ensures
-    ∙ answer-ends (no-data _ _ _ _ (sym (c .before .before .before .before .before .before .before .before .before .before .before .before .before .before .before .before .before .before .before .before .before .octet .ensures) ∙ c .before .before .before .before .before .before .before .before .before .before .before .before .before .before .before .before .before .before .before .pid .given .1) (sym (c .before .before .before .before .before .before .before .before .before .before .before .before .before .before .before .before .before .octet2 .ensures) ∙ c .before .before .before .before .before .before .before .before .before .before .before .before .before .before .before .dcs .given .1) (sym (c .before .before .before .before .before .before .before .before .before .before .before .before .before .span .ensures) ∙ c .before .before .before .before .before .before .before .before .before .before .before .scts .given .1) (sym (c .before .before .before .before .before .before .before .before .before .octet3 .ensures) ∙ c .before .before .before .before .before .before .before .udl .given .1) _ (size-is _ _ (c .before .before .before .before .user-data-octets .ensures) (c .before .before .before .before .before .user-data-coding .ensures)) (sym (c .before .before .before .span2 .ensures) ∙ c .before .enum-told5 .given .1))
+    ∙ answer-ends (no-data _ _ _ _ (sym (c .before .before .before .before .before .before .before .before .before .before .before .before .before .before .before .before .before .before .before .before .before .octet .ensures) ∙ c .before .before .before .before .before .before .before .before .before .before .before .before .before .before .before .before .before .before .before .pid .given .1) (sym (c .before .before .before .before .before .before .before .before .before .before .before .before .before .before .before .before .before .octet2 .ensures) ∙ c .before .before .before .before .before .before .before .before .before .before .before .before .before .before .before .dcs .given .1) (sym (c .before .before .before .before .before .before .before .before .before .before .before .before .before .span .ensures) ∙ c .before .before .before .before .before .before .before .before .before .before .before .scts .given .1) (sym (c .before .before .before .before .before .before .before .before .before .octet3 .ensures) ∙ c .before .before .before .before .before .before .before .udl .given .1) _ (size-told _ _ (c .before .before .before .before .user-data-octets .ensures) (c .before .before .before .before .before .user-data-coding .ensures)) (sym (c .before .before .before .span2 .ensures) ∙ c .before .enum-told5 .given .1))
 
 message-requires : tie.Need-message-requires
 message-requires c κs =
     let s = now (c .before .before .before .before .before .before .before .before .before .before .before .before .before .before .before .before .before .before .before .before .before .before .before .args .«data») in
     let at-dcs = octet-read s _ (sym (c .before .before .before .before .before .before .before .before .before .before .before .before .before .before .before .before .before .octet2 .ensures) ∙ c .before .before .before .before .before .before .before .before .before .before .before .before .before .before .before .dcs .given .1) in
     let at-udl = octet-read s _ (sym (c .before .before .before .before .before .before .before .before .before .octet3 .ensures) ∙ c .before .before .before .before .before .before .before .udl .given .1) in
-    let n = (size-is _ _ (c .before .before .before .before .user-data-octets .ensures) (c .before .before .before .before .before .user-data-coding .ensures)) in (
+    let n = (size-told _ _ (c .before .before .before .before .user-data-octets .ensures) (c .before .before .before .before .before .user-data-coding .ensures)) in (
       c .before .before .before .before .before .before .before .before .before .before .before .before .before .before .before .before .before .before .before .before .before .before .before .pre,
-      inside s _ _ 7 _ (sym (c .before .before .before .before .before .before .before .before .before .before .before .before .before .span .ensures) ∙ c .before .before .before .before .before .before .before .before .before .before .before .scts .given .1) (omega (arith, at-dcs)),
-      inside s _ _ _ _ (sym (c .before .before .before .span2 .ensures) ∙ c .before .ud .given .1) (omega (arith, at-udl)),
+      span-inside s _ 7 (sym (c .before .before .before .before .before .before .before .before .before .before .before .before .before .span .ensures) ∙ c .before .before .before .before .before .before .before .before .before .before .before .scts .given .1) (omega (arith, at-dcs)) .0,
+      span-inside s _ _ (sym (c .before .before .before .span2 .ensures) ∙ c .before .ud .given .1) (omega (arith, at-udl)) .0,
       few s (λ i. c .before .before .before .before .before .before .before .before .before .before .before .before .before .before .before .before .before .before .before .before .before .before .shared-slice-known .given i .fits) _ _ _ (at-udl .1) n,
     )
 
 returns-6 : tie.Need-returns-6
 returns-6 c =
     let s = now (c .before .before .before .before .before .before .before .before .before .before .before .before .before .before .before .before .before .before .before .before .before .before .before .before .args .«data») in
-    answer-done (all-there s _ _ _ (sym (c .before .before .before .before .before .before .before .before .before .before .before .before .before .before .before .before .before .before .before .before .before .before .octet .ensures) ∙ c .before .before .before .before .before .before .before .before .before .before .before .before .before .before .before .before .before .before .before .before .pid .given .1) (sym (c .before .before .before .before .before .before .before .before .before .before .before .before .before .before .before .before .before .before .octet2 .ensures) ∙ c .before .before .before .before .before .before .before .before .before .before .before .before .before .before .before .before .dcs .given .1) (sym (c .before .before .before .before .before .before .before .before .before .before .before .before .before .before .span .ensures) ∙ c .before .before .before .before .before .before .before .before .before .before .before .before .scts .given .1) (sym (c .before .before .before .before .before .before .before .before .before .before .octet3 .ensures) ∙ c .before .before .before .before .before .before .before .before .udl .given .1) _ (size-is _ _ (c .before .before .before .before .before .user-data-octets .ensures) (c .before .before .before .before .before .before .user-data-coding .ensures)) (sym (c .before .before .before .before .span2 .ensures) ∙ c .before .before .ud .given .1))
+    answer-done (all-there s _ _ _ (sym (c .before .before .before .before .before .before .before .before .before .before .before .before .before .before .before .before .before .before .before .before .before .before .octet .ensures) ∙ c .before .before .before .before .before .before .before .before .before .before .before .before .before .before .before .before .before .before .before .before .pid .given .1) (sym (c .before .before .before .before .before .before .before .before .before .before .before .before .before .before .before .before .before .before .octet2 .ensures) ∙ c .before .before .before .before .before .before .before .before .before .before .before .before .before .before .before .before .dcs .given .1) (sym (c .before .before .before .before .before .before .before .before .before .before .before .before .before .before .span .ensures) ∙ c .before .before .before .before .before .before .before .before .before .before .before .before .scts .given .1) (sym (c .before .before .before .before .before .before .before .before .before .before .octet3 .ensures) ∙ c .before .before .before .before .before .before .before .before .udl .given .1) _ (size-told _ _ (c .before .before .before .before .before .user-data-octets .ensures) (c .before .before .before .before .before .before .user-data-coding .ensures)) (sym (c .before .before .before .before .span2 .ensures) ∙ c .before .before .ud .given .1))
     (c .message .ensures ∙ rw (span-there s _ 7 (sym (c .before .before .before .before .before .before .before .before .before .before .before .before .before .before .span .ensures) ∙ c .before .before .before .before .before .before .before .before .before .before .before .before .scts .given .1) .1, span-there s _ _ (sym (c .before .before .before .before .span2 .ensures) ∙ c .before .before .ud .given .1) .1))
 
 pub behind-address-spec : {M : Type 1} → statement M

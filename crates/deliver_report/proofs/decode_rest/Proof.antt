@@ -3,9 +3,9 @@
 use mathlib.Core.Path.{sym, ap, _∙_}
 use native.Mathlib.Omega.{arith}
 use borrow.Author.Needs.{needs}
-use Rattle.parameters.proofs.Reading.{stored}
+use Rattle.parameters.proofs.Reading.{parameters-behind, stored}
 use Rattle.deliver_report.specs.DeliverReport.{answer}
-use Rattle.deliver_report.proofs.Reading.{no-indicator, no-parameters, inside, whole}
+use Rattle.deliver_report.proofs.Reading.{no-indicator, no-parameters, whole}
 use Rattle.deliver_report.proofs.decode_rest.Statement.{statement}
 use Rattle.deliver_report.proofs.decode_rest.Tie as tie
 
@@ -24,28 +24,28 @@ sub-start : tie.Need-sub-start
 sub-start c =
     let k = c .before .before .before .before in
     let i = sym (k .before .before .before .read-indicator .ensures) ∙ k .before .indicator .given .1 in
-    let (told, end) = inside _ _ i (λ j. k .before .before .before .before .shared-slice-known .given j .fits) (sym (c .before .before .before .read-parameters .ensures) ∙ c .before .pid .given .1) in
+    let told = parameters-behind _ _ i (λ j. k .before .before .before .before .shared-slice-known .given j .fits) (sym (c .before .before .before .read-parameters .ensures) ∙ c .before .pid .given .1) in
     omega (arith, told .start)
 
 part-stored-octets-end : tie.Need-part-stored-octets-end
 part-stored-octets-end c =
     let k = c .before .before .before .before in
     let i = sym (k .before .before .before .read-indicator .ensures) ∙ k .before .indicator .given .1 in
-    let (told, end) = inside _ _ i (λ j. k .before .before .before .before .shared-slice-known .given j .fits) (sym (c .before .before .before .read-parameters .ensures) ∙ c .before .pid .given .1) in
-    omega (arith, end)
+    let told = parameters-behind _ _ i (λ j. k .before .before .before .before .shared-slice-known .given j .fits) (sym (c .before .before .before .read-parameters .ensures) ∙ c .before .pid .given .1) in
+    omega (arith, told .end)
 
 stored-octets-requires : tie.Need-stored-octets-requires
 stored-octets-requires c κs =
     let k = c .before .before .before .before .before in
     let i = sym (k .before .before .before .read-indicator .ensures) ∙ k .before .indicator .given .1 in
-    let (told, end) = inside _ _ i (λ j. k .before .before .before .before .shared-slice-known .given j .fits) (sym (c .before .before .before .before .read-parameters .ensures) ∙ c .before .before .pid .given .1) in
+    let told = parameters-behind _ _ i (λ j. k .before .before .before .before .shared-slice-known .given j .fits) (sym (c .before .before .before .before .read-parameters .ensures) ∙ c .before .before .pid .given .1) in
     omega (arith, told .counted, told .few)
 
 returns-3 : tie.Need-returns-3
 returns-3 c =
     let k = c .before .before .before .before .before .before in
     let i = sym (k .before .before .before .read-indicator .ensures) ∙ k .before .indicator .given .1 in
-    let (told, end) = inside _ _ i (λ j. k .before .before .before .before .shared-slice-known .given j .fits) (sym (c .before .before .before .before .before .read-parameters .ensures) ∙ c .before .before .before .pid .given .1) in
+    let told = parameters-behind _ _ i (λ j. k .before .before .before .before .shared-slice-known .given j .fits) (sym (c .before .before .before .before .before .read-parameters .ensures) ∙ c .before .before .before .pid .given .1) in
     whole _ _ _ _ i told (stored _ _ _ (told .start) (c .stored-octets .ensures))
 
 pub decode-rest-spec : {M : Type 1} → statement M

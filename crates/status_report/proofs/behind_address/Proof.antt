@@ -3,15 +3,16 @@
 use mathlib.Core.Path.{sym, ap, _∙_}
 use borrow.Author.Needs.{needs}
 use Rattle.status_report.specs.StatusReport.{answer}
-use Rattle.status_report.proofs.Reading.{answer-ends, no-time, no-discharge, no-status, to-status, span-inside}
+use Rattle.status_report.proofs.Reading.{answer-ends, no-time, no-discharge, no-status, to-status}
 use Rattle.status_report.proofs.behind_address.Statement.{statement}
 use Rattle.status_report.proofs.behind_address.Tie as tie
+use Rattle.octets.proofs.Places.{span-inside}
 
 behind-status-requires : tie.Need-behind-status-requires
 behind-status-requires c κs =
     let p = c .before .before .before .before .before .before .before .before .before .before .before .before .before .pre in
-    let (first, there) = span-inside _ _ _ 7 _ (sym (c .before .before .before .before .before .before .before .before .before .before .before .span .ensures) ∙ c .before .before .before .before .before .before .before .before .before .scts .given .1) (p .1) in
-    let (second, _) = span-inside _ _ _ 7 _ (sym (c .before .before .before .before .before .before .before .span2 .ensures) ∙ c .before .before .before .before .before .dt .given .1) there in
+    let (first, there) = span-inside _ _ 7 (sym (c .before .before .before .before .before .before .before .before .before .before .before .span .ensures) ∙ c .before .before .before .before .before .before .before .before .before .scts .given .1) (p .1) in
+    let (second, _) = span-inside _ _ 7 (sym (c .before .before .before .before .before .before .before .span2 .ensures) ∙ c .before .before .before .before .before .dt .given .1) there in
     (p .0, first, second)
 
 returns-4 : tie.Need-returns-4

@@ -3,9 +3,10 @@
 use mathlib.Core.Path.{sym, _∙_}
 use native.Mathlib.Omega.{arith}
 use borrow.Author.Needs.{needs}
-use Rattle.status_report.proofs.Reading.{answer-ends, answer-done, inside, ended, no-indicator, no-parameters, whole}
+use Rattle.status_report.proofs.Reading.{answer-ends, answer-done, ended, no-indicator, no-parameters, whole}
 use Rattle.status_report.proofs.behind_status.Statement.{statement}
 use Rattle.status_report.proofs.behind_status.Tie as tie
+use Rattle.parameters.proofs.Reading.{parameters-behind}
 
 returns : tie.Need-returns
 returns c = answer-done (ended _ _ _ (c .before .if1 .taken)) (c .message .ensures)
@@ -16,15 +17,15 @@ returns-2 c = c .refused .ensures ∙ answer-ends (no-indicator _ _ _ (c .before
 sub-ud : tie.Need-sub-ud
 sub-ud c =
     let i = sym (c .before .before .before .before .before .before .before .before .read-indicator .ensures) ∙ c .before .before .before .before .before .before .indicator .given .1 in
-    let (told, end) = inside _ _ i (λ j. c .before .before .before .before .before .before .before .before .before .before .before .shared-slice-known .given j .fits) (sym (c .before .before .before .before .read-parameters .ensures) ∙ c .before .before .pid .given .1) in
+    let told = parameters-behind _ _ i (λ j. c .before .before .before .before .before .before .before .before .before .before .before .shared-slice-known .given j .fits) (sym (c .before .before .before .before .read-parameters .ensures) ∙ c .before .before .pid .given .1) in
     omega (arith, told .start)
 
 message-requires-2 : tie.Need-message-requires-2
 message-requires-2 c κs =
     let i = sym (c .before .before .before .before .before .before .before .before .read-indicator .ensures) ∙ c .before .before .before .before .before .before .indicator .given .1 in
-    let (told, end) = inside _ _ i (λ j. c .before .before .before .before .before .before .before .before .before .before .before .shared-slice-known .given j .fits) (sym (c .before .before .before .before .read-parameters .ensures) ∙ c .before .before .pid .given .1) in
+    let told = parameters-behind _ _ i (λ j. c .before .before .before .before .before .before .before .before .before .before .before .shared-slice-known .given j .fits) (sym (c .before .before .before .before .read-parameters .ensures) ∙ c .before .before .pid .given .1) in
     let p = c .before .before .before .before .before .before .before .before .before .before .before .before .pre in
-    (p .0, p .1, p .2, omega (arith, told .start, end), omega (arith, told .few))
+    (p .0, p .1, p .2, omega (arith, told .start, told .end), omega (arith, told .few))
 
 returns-3 : tie.Need-returns-3
 returns-3 c =
@@ -34,7 +35,7 @@ returns-3 c =
 returns-4 : tie.Need-returns-4
 returns-4 c =
     let i = sym (c .before .before .before .before .before .before .before .before .before .read-indicator .ensures) ∙ c .before .before .before .before .before .before .before .indicator .given .1 in
-    let (told, end) = inside _ _ i (λ j. c .before .before .before .before .before .before .before .before .before .before .before .before .shared-slice-known .given j .fits) (sym (c .before .before .before .before .before .read-parameters .ensures) ∙ c .before .before .before .pid .given .1) in
+    let told = parameters-behind _ _ i (λ j. c .before .before .before .before .before .before .before .before .before .before .before .before .shared-slice-known .given j .fits) (sym (c .before .before .before .before .before .read-parameters .ensures) ∙ c .before .before .before .pid .given .1) in
     answer-done (whole _ _ _ (c .before .before .before .before .before .before .before .before .before .before .if1 .left) i told) (c .message2 .ensures)
 
 pub behind-status-spec : {M : Type 1} → statement M

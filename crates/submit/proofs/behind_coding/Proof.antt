@@ -12,26 +12,19 @@ use lib.ListN.{length, take, drop, length-drop}
 use Rattle.octets.specs.Places.{spanAt}
 use Rattle.octets.specs.declared.Place.{Place}
 use Rattle.octets.specs.declared.Span.{Span}
-use Rattle.octets.proofs.Places.{octet-read, span-there}
+use Rattle.octets.proofs.Places.{octet-read, span-there, span-inside}
+use Rattle.octets.proofs.Laws.{part-is}
 use Rattle.coding.specs.declared.UserDataCoding.{UserDataCoding}
 use Rattle.coding.specs.Coding.{codingOf, dataOctets}
+use Rattle.coding.proofs.Laws.{size-told}
 use Rattle.submit.specs.Submit.{headerSize, inCount}
-use Rattle.submit.proofs.Parts.{part-is}
 use Rattle.submit.proofs.Reading.{answer-ends, answer-done, no-period, no-udl, no-data, not-whole, passes-count, all-there}
 use Rattle.submit.proofs.behind_coding.Statement.{statement}
 use Rattle.submit.proofs.behind_coding.Tie as tie
 
--- the number of octets of user data, as the calls tell it
-n-is : {n : ℕ} (dcs udl : ℕ) {k : UserDataCoding} → n ≡ dataOctets k udl → k ≡ codingOf dcs → n ≡ dataOctets (codingOf dcs) udl
-n-is dcs udl e c = e ∙ ap (λ (k : UserDataCoding). dataOctets k udl) c
-
 -- the header's octets, as the code cuts the data out
 h-is : {h a : ℕ} (n : ℕ) (udhi : Bool) (s : List ℕ) (p q : Place) → spanAt s p n ≡ Span.There a q → h ≡ headerSize udhi (take (a + n - a) (drop a s)) → h ≡ headerSize udhi (take n (drop (p .at) s))
 h-is {a = a} n udhi s p q e d = d ∙ rw (part-is a n s, span-there s p n e .1)
-
--- a span that is there lies in the string
-inside : (s : List ℕ) (p q : Place) (n a : ℕ) → spanAt s p n ≡ Span.There a q → p .at ≤ length s → a + n ≤ length s
-inside s p q n a e h = let t = span-there s p n e in omega (arith, t .0, t .1, length-drop (p .at) s)
 
 counted : {b : Bool} (dcs udl h : ℕ) {k : UserDataCoding} → k ≡ codingOf dcs → b ≡ inCount k udl h → inCount (codingOf dcs) udl h ≡ b
 counted dcs udl h e d = rw (← e) (sym d)
@@ -48,7 +41,7 @@ no-octets : tie.Need-returns-3
 no-octets c =
     let k2 = c .before .before .before .before .before .before in
     let k1 = k2 .before .before .before .before in
-    c .refused3 .ensures ∙ answer-ends (no-data _ _ _ _ _ _ _ _ (k1 .before .before .before .before .validity-octets .ensures .0) (sym (k1 .before .before .before .span .ensures) ∙ k1 .before .vp .given .1) (sym (k2 .before .before .before .octet .ensures) ∙ k2 .before .udl .given .1) _ (n-is _ _ (c .before .before .before .before .user-data-octets .ensures) (c .before .before .before .before .before .user-data-coding .ensures)) (sym (c .before .before .before .span2 .ensures) ∙ c .before .enum-told3 .given .1))
+    c .refused3 .ensures ∙ answer-ends (no-data _ _ _ _ _ _ _ _ (k1 .before .before .before .before .validity-octets .ensures .0) (sym (k1 .before .before .before .span .ensures) ∙ k1 .before .vp .given .1) (sym (k2 .before .before .before .octet .ensures) ∙ k2 .before .udl .given .1) _ (size-told _ _ (c .before .before .before .before .user-data-octets .ensures) (c .before .before .before .before .before .user-data-coding .ensures)) (sym (c .before .before .before .span2 .ensures) ∙ c .before .enum-told3 .given .1))
 
 ends : tie.Need-add-end
 ends c =
@@ -56,7 +49,7 @@ ends c =
     let k2 = k3 .before .before .before .before .before .before in
     let k1 = k2 .before .before .before .before in
     let s = now (k1 .before .before .before .before .before .before .args .«data») in
-    let t = inside s _ _ _ _ (sym (k3 .before .before .before .span2 .ensures) ∙ k3 .before .ud .given .1) (let r = octet-read s _ (sym (k2 .before .before .before .octet .ensures) ∙ k2 .before .udl .given .1) in omega (arith, r)) in omega (arith, k1 .before .before .before .before .before .before .good)
+    let t = span-inside s _ _ (sym (k3 .before .before .before .span2 .ensures) ∙ k3 .before .ud .given .1) (let r = octet-read s _ (sym (k2 .before .before .before .octet .ensures) ∙ k2 .before .udl .given .1) in omega (arith, r)) .0 in omega (arith, k1 .before .before .before .before .before .before .good)
 
 ends-inside : tie.Need-part-header-size-end
 ends-inside c =
@@ -64,7 +57,7 @@ ends-inside c =
     let k2 = k3 .before .before .before .before .before .before in
     let k1 = k2 .before .before .before .before in
     let s = now (k1 .before .before .before .before .before .before .args .«data») in
-    inside s _ _ _ _ (sym (k3 .before .before .before .span2 .ensures) ∙ k3 .before .ud .given .1) (let r = octet-read s _ (sym (k2 .before .before .before .octet .ensures) ∙ k2 .before .udl .given .1) in omega (arith, r))
+    span-inside s _ _ (sym (k3 .before .before .before .span2 .ensures) ∙ k3 .before .ud .given .1) (let r = octet-read s _ (sym (k2 .before .before .before .octet .ensures) ∙ k2 .before .udl .given .1) in omega (arith, r)) .0
 
 longer : tie.Need-returns-4
 longer c =
@@ -73,7 +66,7 @@ longer c =
     let k2 = k3 .before .before .before .before .before .before in
     let k1 = k2 .before .before .before .before in
     let s = now (k1 .before .before .before .before .before .before .args .«data») in
-    c .refused4 .ensures ∙ answer-ends (not-whole s _ _ _ _ _ _ _ (k1 .before .before .before .before .validity-octets .ensures .0) (sym (k1 .before .before .before .span .ensures) ∙ k1 .before .vp .given .1) (sym (k2 .before .before .before .octet .ensures) ∙ k2 .before .udl .given .1) _ (n-is _ _ (k3 .before .before .before .before .user-data-octets .ensures) (k3 .before .before .before .before .before .user-data-coding .ensures)) (sym (k3 .before .before .before .span2 .ensures) ∙ k3 .before .ud .given .1) _ (h-is _ _ s _ _ (sym (k3 .before .before .before .span2 .ensures) ∙ k3 .before .ud .given .1) (g .header-size .ensures .0)) (c .before .if1 .taken))
+    c .refused4 .ensures ∙ answer-ends (not-whole s _ _ _ _ _ _ _ (k1 .before .before .before .before .validity-octets .ensures .0) (sym (k1 .before .before .before .span .ensures) ∙ k1 .before .vp .given .1) (sym (k2 .before .before .before .octet .ensures) ∙ k2 .before .udl .given .1) _ (size-told _ _ (k3 .before .before .before .before .user-data-octets .ensures) (k3 .before .before .before .before .before .user-data-coding .ensures)) (sym (k3 .before .before .before .span2 .ensures) ∙ k3 .before .ud .given .1) _ (h-is _ _ s _ _ (sym (k3 .before .before .before .span2 .ensures) ∙ k3 .before .ud .given .1) (g .header-size .ensures .0)) (c .before .if1 .taken))
 
 more-septets : tie.Need-returns-5
 more-septets c =
@@ -83,7 +76,7 @@ more-septets c =
     let k2 = k3 .before .before .before .before .before .before in
     let k1 = k2 .before .before .before .before in
     let s = now (k1 .before .before .before .before .before .before .args .«data») in
-    c .refused5 .ensures ∙ answer-ends (passes-count s _ _ _ _ _ _ _ (k1 .before .before .before .before .validity-octets .ensures .0) (sym (k1 .before .before .before .span .ensures) ∙ k1 .before .vp .given .1) (sym (k2 .before .before .before .octet .ensures) ∙ k2 .before .udl .given .1) _ (n-is _ _ (k3 .before .before .before .before .user-data-octets .ensures) (k3 .before .before .before .before .before .user-data-coding .ensures)) (sym (k3 .before .before .before .span2 .ensures) ∙ k3 .before .ud .given .1) _ (h-is _ _ s _ _ (sym (k3 .before .before .before .span2 .ensures) ∙ k3 .before .ud .given .1) (g .header-size .ensures .0)) (e .if1 .left) (counted _ _ _ (c .before .before .before .user-data-coding2 .ensures) (c .before .before .in-count .ensures) ∙ not-true _ (c .before .if2 .taken)))
+    c .refused5 .ensures ∙ answer-ends (passes-count s _ _ _ _ _ _ _ (k1 .before .before .before .before .validity-octets .ensures .0) (sym (k1 .before .before .before .span .ensures) ∙ k1 .before .vp .given .1) (sym (k2 .before .before .before .octet .ensures) ∙ k2 .before .udl .given .1) _ (size-told _ _ (k3 .before .before .before .before .user-data-octets .ensures) (k3 .before .before .before .before .before .user-data-coding .ensures)) (sym (k3 .before .before .before .span2 .ensures) ∙ k3 .before .ud .given .1) _ (h-is _ _ s _ _ (sym (k3 .before .before .before .span2 .ensures) ∙ k3 .before .ud .given .1) (g .header-size .ensures .0)) (e .if1 .left) (counted _ _ _ (c .before .before .before .user-data-coding2 .ensures) (c .before .before .in-count .ensures) ∙ not-true _ (c .before .if2 .taken)))
 
 message-there : tie.Need-message-requires
 message-there c κs =
@@ -95,7 +88,7 @@ message-there c κs =
     let s = now (k1 .before .before .before .before .before .before .args .«data») in
     let start = k1 .before .before .before .before .before .before in
     let r = octet-read s _ (sym (k2 .before .before .before .octet .ensures) ∙ k2 .before .udl .given .1) in
-    (start .pre .0, rw (← k1 .before .before .before .before .validity-octets .ensures .0) (inside s _ _ _ _ (sym (k1 .before .before .before .span .ensures) ∙ k1 .before .vp .given .1) (start .pre .1)), inside s _ _ _ _ (sym (k3 .before .before .before .span2 .ensures) ∙ k3 .before .ud .given .1) (omega (arith, r)), (n-is _ _ (k3 .before .before .before .before .user-data-octets .ensures) (k3 .before .before .before .before .before .user-data-coding .ensures)), e .if1 .left, counted _ _ _ (c .before .before .user-data-coding2 .ensures) (c .before .in-count .ensures) ∙ not-false _ (c .if2 .left))
+    (start .pre .0, rw (← k1 .before .before .before .before .validity-octets .ensures .0) (span-inside s _ _ (sym (k1 .before .before .before .span .ensures) ∙ k1 .before .vp .given .1) (start .pre .1) .0), span-inside s _ _ (sym (k3 .before .before .before .span2 .ensures) ∙ k3 .before .ud .given .1) (omega (arith, r)) .0, (size-told _ _ (k3 .before .before .before .before .user-data-octets .ensures) (k3 .before .before .before .before .before .user-data-coding .ensures)), e .if1 .left, counted _ _ _ (c .before .before .user-data-coding2 .ensures) (c .before .in-count .ensures) ∙ not-false _ (c .if2 .left))
 
 done : tie.Need-returns-6
 done c =
@@ -105,7 +98,7 @@ done c =
     let k2 = k3 .before .before .before .before .before .before in
     let k1 = k2 .before .before .before .before in
     let s = now (k1 .before .before .before .before .before .before .args .«data») in
-    answer-done (all-there s _ _ _ _ _ _ _ (k1 .before .before .before .before .validity-octets .ensures .0) (sym (k1 .before .before .before .span .ensures) ∙ k1 .before .vp .given .1) (sym (k2 .before .before .before .octet .ensures) ∙ k2 .before .udl .given .1) _ (n-is _ _ (k3 .before .before .before .before .user-data-octets .ensures) (k3 .before .before .before .before .before .user-data-coding .ensures)) (sym (k3 .before .before .before .span2 .ensures) ∙ k3 .before .ud .given .1) _ (h-is _ _ s _ _ (sym (k3 .before .before .before .span2 .ensures) ∙ k3 .before .ud .given .1) (g .header-size .ensures .0)) (e .if1 .left) (counted _ _ _ (c .before .before .before .user-data-coding2 .ensures) (c .before .before .in-count .ensures) ∙ not-false _ (c .before .if2 .left)))
+    answer-done (all-there s _ _ _ _ _ _ _ (k1 .before .before .before .before .validity-octets .ensures .0) (sym (k1 .before .before .before .span .ensures) ∙ k1 .before .vp .given .1) (sym (k2 .before .before .before .octet .ensures) ∙ k2 .before .udl .given .1) _ (size-told _ _ (k3 .before .before .before .before .user-data-octets .ensures) (k3 .before .before .before .before .before .user-data-coding .ensures)) (sym (k3 .before .before .before .span2 .ensures) ∙ k3 .before .ud .given .1) _ (h-is _ _ s _ _ (sym (k3 .before .before .before .span2 .ensures) ∙ k3 .before .ud .given .1) (g .header-size .ensures .0)) (e .if1 .left) (counted _ _ _ (c .before .before .before .user-data-coding2 .ensures) (c .before .before .in-count .ensures) ∙ not-false _ (c .before .if2 .left)))
     (c .message .ensures ∙ rw (span-there s _ _ (sym (k1 .before .before .before .span .ensures) ∙ k1 .before .vp .given .1) .1, span-there s _ _ (sym (k3 .before .before .before .span2 .ensures) ∙ k3 .before .ud .given .1) .1))
 
 pub behind-coding-spec : {M : Type 1} → statement M

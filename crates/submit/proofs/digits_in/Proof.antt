@@ -7,9 +7,8 @@ use denote.Ref.{now}
 use lib.ListN.{length}
 use lib.Seq.{take-all}
 use Rattle.octets.specs.Arrays.{pad}
-use Rattle.octets.proofs.Laws.{pad-full}
 use Rattle.time.specs.Time.{timeIn, timeDigits}
-use Rattle.time.proofs.Laws.{length-digits}
+use Rattle.time.proofs.Laws.{time-stored}
 use Rattle.submit.specs.Submit.{periodSize}
 use Rattle.submit.proofs.digits_in.Statement.{statement}
 use Rattle.submit.proofs.digits_in.Tie as tie
@@ -23,12 +22,11 @@ unfolding periodSize
 seven c κs = let p = rw (c .if1 .left) at (c .before .before .pre) in omega arith
 
 whole : tie.Need-returns-2
-unfolding timeIn periodSize
+unfolding periodSize
 whole c =
     let os = now (c .before .before .before .args .octets) in
     let p : length os ≡ 7 = rw (c .before .if1 .left) at (c .before .before .before .pre) in
-    let n : length (timeDigits os) ≡ 14 = length-digits os ∙ rw p in
-    rw (c .decode-time .ensures, take-all 7 os (omega arith), c .before .if1 .left, pad-full 14 (timeDigits os) n, n)
+    rw (c .before .if1 .left) (time-stored os p (c .decode-time .ensures ∙ rw (take-all 7 os (omega arith))))
 
 pub digits-in-spec : {M : Type 1} → statement M
 digits-in-spec = tie.close (tie.spec none seven whole)

@@ -7,9 +7,11 @@ use denote.Ref.{now}
 use lib.ListN.{drop}
 use Rattle.coding.specs.Coding.{codingOf}
 use Rattle.coding.proofs.Laws.{data-at-most}
-use Rattle.submit.proofs.Parts.{part-is, part-size, take-less, address-there, message-is}
+use Rattle.submit.proofs.Parts.{take-less, message-is}
 use Rattle.submit.proofs.message.Statement.{statement}
 use Rattle.submit.proofs.message.Tie as tie
+use Rattle.octets.proofs.Laws.{part-is, part-size}
+use Rattle.layout.proofs.Fields.{address-there}
 
 data-fits : tie.Need-data-in-requires
 data-fits c κs =

@@ -5,7 +5,7 @@ use native.Mathlib.Omega.{arith}
 use borrow.Author.Needs.{needs}
 use Rattle.parameters.proofs.Reading.{stored}
 use Rattle.submit_report.specs.SubmitReport.{answer}
-use Rattle.submit_report.proofs.Reading.{no-indicator, no-time, no-parameters, time-inside, inside, whole}
+use Rattle.submit_report.proofs.Reading.{no-indicator, no-time, no-parameters, time-inside, parameters-there, whole}
 use Rattle.submit_report.proofs.decode_rest.Statement.{statement}
 use Rattle.submit_report.proofs.decode_rest.Tie as tie
 
@@ -24,35 +24,39 @@ returns-3 c =
     c .refused3 .ensures ∙ ap answer (sym (no-parameters _ _ _ _ (sym (k .before .before .before .before .before .before .before .read-indicator .ensures) ∙ k .before .before .before .before .before .indicator .given .1) (sym (k .before .before .before .span .ensures) ∙ k .before .scts .given .1) (sym (c .before .before .before .before .read-parameters .ensures) ∙ c .before .before .r .given .1)))
 
 decode-time-requires : tie.Need-decode-time-requires
-decode-time-requires c κs = let k = c .before .before .before .before in time-inside _ _ (sym (k .before .before .before .span .ensures) ∙ k .before .scts .given .1) .0
+decode-time-requires c κs = let k = c .before .before .before .before in time-inside _ _ (sym (k .before .before .before .before .before .before .before .read-indicator .ensures) ∙ k .before .before .before .before .before .indicator .given .1) (sym (k .before .before .before .span .ensures) ∙ k .before .scts .given .1) .0
 
 sub-start : tie.Need-sub-start
 sub-start c =
     let k = c .before .before .before .before .before in
+    let i = sym (k .before .before .before .before .before .before .before .read-indicator .ensures) ∙ k .before .before .before .before .before .indicator .given .1 in
     let t = sym (k .before .before .before .span .ensures) ∙ k .before .scts .given .1 in
-    let (told, end) = inside _ _ t (λ j. k .before .before .before .before .before .before .before .before .shared-slice-known .given j .fits) (sym (c .before .before .before .before .read-parameters .ensures) ∙ c .before .before .pid .given .1) in
+    let told = parameters-there _ _ i t (λ j. k .before .before .before .before .before .before .before .before .shared-slice-known .given j .fits) (sym (c .before .before .before .before .read-parameters .ensures) ∙ c .before .before .pid .given .1) in
     omega (arith, told .start)
 
 part-stored-octets-end : tie.Need-part-stored-octets-end
 part-stored-octets-end c =
     let k = c .before .before .before .before .before in
+    let i = sym (k .before .before .before .before .before .before .before .read-indicator .ensures) ∙ k .before .before .before .before .before .indicator .given .1 in
     let t = sym (k .before .before .before .span .ensures) ∙ k .before .scts .given .1 in
-    let (told, end) = inside _ _ t (λ j. k .before .before .before .before .before .before .before .before .shared-slice-known .given j .fits) (sym (c .before .before .before .before .read-parameters .ensures) ∙ c .before .before .pid .given .1) in
-    omega (arith, end)
+    let told = parameters-there _ _ i t (λ j. k .before .before .before .before .before .before .before .before .shared-slice-known .given j .fits) (sym (c .before .before .before .before .read-parameters .ensures) ∙ c .before .before .pid .given .1) in
+    omega (arith, told .end)
 
 stored-octets-requires : tie.Need-stored-octets-requires
 stored-octets-requires c κs =
     let k = c .before .before .before .before .before .before in
+    let i = sym (k .before .before .before .before .before .before .before .read-indicator .ensures) ∙ k .before .before .before .before .before .indicator .given .1 in
     let t = sym (k .before .before .before .span .ensures) ∙ k .before .scts .given .1 in
-    let (told, end) = inside _ _ t (λ j. k .before .before .before .before .before .before .before .before .shared-slice-known .given j .fits) (sym (c .before .before .before .before .before .read-parameters .ensures) ∙ c .before .before .before .pid .given .1) in
+    let told = parameters-there _ _ i t (λ j. k .before .before .before .before .before .before .before .before .shared-slice-known .given j .fits) (sym (c .before .before .before .before .before .read-parameters .ensures) ∙ c .before .before .before .pid .given .1) in
     omega (arith, told .counted, told .few)
 
 returns-4 : tie.Need-returns-4
 returns-4 c =
     let k = c .before .before .before .before .before .before .before in
+    let i = sym (k .before .before .before .before .before .before .before .read-indicator .ensures) ∙ k .before .before .before .before .before .indicator .given .1 in
     let t = sym (k .before .before .before .span .ensures) ∙ k .before .scts .given .1 in
-    let (told, end) = inside _ _ t (λ j. k .before .before .before .before .before .before .before .before .shared-slice-known .given j .fits) (sym (c .before .before .before .before .before .before .read-parameters .ensures) ∙ c .before .before .before .before .pid .given .1) in
-    whole _ _ _ _ (sym (k .before .before .before .before .before .before .before .read-indicator .ensures) ∙ k .before .before .before .before .before .indicator .given .1) t told (c .before .before .decode-time .ensures) (stored _ _ _ (told .start) (c .stored-octets .ensures))
+    let told = parameters-there _ _ i t (λ j. k .before .before .before .before .before .before .before .before .shared-slice-known .given j .fits) (sym (c .before .before .before .before .before .before .read-parameters .ensures) ∙ c .before .before .before .before .pid .given .1) in
+    whole _ _ _ _ i t told (c .before .before .decode-time .ensures) (stored _ _ _ (told .start) (c .stored-octets .ensures))
 
 pub decode-rest-spec : {M : Type 1} → statement M
 decode-rest-spec =

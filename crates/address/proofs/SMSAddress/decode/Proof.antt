@@ -12,10 +12,10 @@ use lib.Seq.{getD-drop, getD-take, drop-drop, take-nil}
 use Rattle.octets.specs.Arrays.{pad}
 use Rattle.octets.specs.Each.{Octets}
 use Rattle.octets.specs.Lent.{Wrote}
-use Rattle.octets.proofs.Laws.{sets-zeros}
+use Rattle.octets.proofs.Laws.{sets-zeros, part-is, part-size}
+use Rattle.octets.proofs.Each.{octets-take, octets-drop}
 use Rattle.address.specs.declared.SMSAddress.{SMSAddress}
 use Rattle.address.specs.Address.{typeOfNumber, planOf, valueText, addressWith, textIn, addressIn, addressSize}
-use Rattle.address.proofs.DigitTexts.{below-take}
 use Rattle.address.proofs.Shapes.{read-fits}
 use Rattle.address.proofs.SMSAddress.decode.Statement.{statement}
 use Rattle.address.proofs.SMSAddress.decode.Tie as tie
@@ -54,14 +54,11 @@ module _ (d : List ℕ) (at : ℕ) where
 
 -- a part of octets is octets
 cut-octets : (d : List ℕ) → Octets d → (n k : ℕ) → Octets (take n (drop k d))
-cut-octets d o n k = below-take 256 n (drop k d) (omega arith) (λ i. rw getD-drop (o (k + i)))
+cut-octets d o n k = octets-take n (drop k d) (octets-drop k d o)
 
 -- the value as the code cuts it out
-part-is : (at x : ℕ) (s : List ℕ) → take (at + 2 + x - (at + 2)) s ≡ take x s
-part-is at x s = let e : at + 2 + x - (at + 2) ≡ x = omega arith in rw e
-
 part-long : (d : List ℕ) (at x : ℕ) → at + 2 + x ≤ length d → x ≤ length (take (at + 2 + x - (at + 2)) (drop (at + 2) d))
-part-long d at x h = rw part-is (simp (length-take, length-drop) (omega arith))
+part-long d at x h = rw (part-is (at + 2) x d, part-size (at + 2) x d h) (omega arith)
 
 value-text-requires : tie.Need-value-text-requires
 value-text-requires c κs =
@@ -75,7 +72,7 @@ returns c =
     let d = now (a .«data») in
     let known = c .before .before .before .before .shared-slice-known2 .given in
     let x = (getD d (a .at) 0 + 1) / 2 in
-    whole d (a .at) (c .value-text .last .1 .1 .1 .0) (c .value-text .result) _ (known (a .at) .fits) (cut-octets d (λ i. known i .fits) (a .at + 2 + x - (a .at + 2)) (a .at + 2)) (part-is (a .at) _ _) (c .value-text .ensures)
+    whole d (a .at) (c .value-text .last .1 .1 .1 .0) (c .value-text .result) _ (known (a .at) .fits) (cut-octets d (λ i. known i .fits) (a .at + 2 + x - (a .at + 2)) (a .at + 2)) (part-is (a .at + 2) x d) (c .value-text .ensures)
 
 pub decode-spec : {M : Type 1} → statement M
 decode-spec =
