@@ -24,7 +24,7 @@ use Rattle.parameters.specs.Line.{Parameters, parameters, parametersOctets}
 use Rattle.parameters.specs.Optional.{held}
 use Rattle.parameters.specs.declared.OptionalOctet.{OptionalOctet}
 use Rattle.parameters.specs.declared.OptionalOctet.the-variants.{Absent, Present}
-use Rattle.parameters.proofs.Back.{data-limit, octet-here, indicator-here, not-extended, parameters-here}
+use Rattle.parameters.proofs.Back.{octet-here, indicator-here, not-extended, parameters-here, parameters-limit}
 use Rattle.deliver_report.specs.DeliverReport.{reported, rest, outcomeOf, octetsIn, partsChecks, parametersOf, reporting, Parts, parts, partsOctets}
 use Rattle.deliver_report.specs.declared.SmsDeliverReport.{SmsDeliverReport}
 use Rattle.parameters.proofs.Made.{one-at-most}
@@ -74,16 +74,7 @@ module _ {octets : List ℕ} {answer : Written} (r : SmsDeliverReport) (e : repo
 
   -- and has at most 146 octets
   pub at-most : length octets ≤ 146
-  at-most =
-      rw (← passed .is, size-is)
-      (omega (
-        arith,
-        one-at-most (r .«tp_failure_cause»),
-        one-at-most (r .«tp_pid»),
-        one-at-most (r .«tp_dcs»),
-        one-at-most (r .«tp_user_data_length»),
-        data-limit (r .«tp_dcs») (r .«tp_user_data_length») (length (dataOf (r .«tp_user_data»))) (passed .held),
-      ))
+  at-most = rw (← passed .is, size-is) (omega (arith, one-at-most (r .«tp_failure_cause»), parameters-limit (parametersOf r) (passed .held)))
 
 -- a writer's answer and octets depend on the parts alone
 pub written-alike : (r q : SmsDeliverReport) → parts r ≡ parts q → reporting r ≡ reporting q

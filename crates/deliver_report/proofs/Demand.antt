@@ -7,9 +7,10 @@ use mathlib.Core.List.{List, [], _∷_, _++_, append-nil}
 use native.Mathlib.Omega.{arith}
 use borrow.Author.Tests.{le-leb, eqb-true, eqb-false}
 use lib.ListN.{length}
-use Rattle.octets.specs.Each.{Octets}
+use Rattle.octets.specs.Each.{Octets, each}
 use Rattle.octets.specs.Checks.{checked}
 use Rattle.octets.proofs.Laws.{take-pad}
+use Rattle.octets.proofs.Each.{octets-tested}
 use Rattle.coding.specs.Coding.{dataWith}
 use Rattle.layout.specs.Demand.{Demand3}
 use Rattle.layout.specs.Layout.{octet, first, indicator, bit, isSet, messageType, kept, indicatorSize, Field, standsAs, joined, anyPastLimit, reached, after, reading, readFrom, fieldsOf, read, canonicalOf, unwritable}
@@ -93,10 +94,8 @@ unfolding errorLine readFrom reading after fieldsOf parameters kept indicatorSiz
 stands-in-line = (refl, refl, refl)
 
 are-octets : Octets (0x00 ∷ 0xff ∷ 0x00 ∷ [])
-are-octets zero = omega arith
-are-octets (suc zero) = omega arith
-are-octets (suc (suc zero)) = omega arith
-are-octets (suc (suc (suc i))) = omega arith
+unfolding each
+are-octets = octets-tested (0x00 ∷ 0xff ∷ 0x00 ∷ []) refl
 
 -- so it is beside the line's records, and is written
 stands-beside : Stopped parts reporting errorLine (0x00 ∷ 0xff ∷ 0x00 ∷ []) stopped false

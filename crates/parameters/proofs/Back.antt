@@ -29,10 +29,14 @@ use Rattle.parameters.specs.declared.OptionalOctet.the-variants.{Absent,
 use Rattle.parameters.proofs.Made.{one-at-most, three-bits}
 
 -- user data that pass have at most 140 octets
-pub data-limit : (dcs udl : OptionalOctet) (n : ℕ) → found (dataChecks dcs udl n) ≡ Checked.Fine → n ≤ 140
+data-limit : (dcs udl : OptionalOctet) (n : ℕ) → found (dataChecks dcs udl n) ≡ Checked.Fine → n ≤ 140
 unfolding dataChecks checkedData
 data-limit dcs Absent n h = omega (arith, eqb-true n 0 (holds UserDataWithoutLength (eqb n 0) [] h .0))
 data-limit dcs (Present udl) n h = data-passed (orZero dcs) udl n h .1
+
+-- and parameters at most 143
+pub parameters-limit : (p : Parameters) → found (dataChecks (p .dcs) (p .udl) (length (p .ud))) ≡ Checked.Fine → held (p .pid) + held (p .dcs) + held (p .udl) + length (p .ud) ≤ 143
+parameters-limit p h = omega (arith, one-at-most (p .pid), one-at-most (p .dcs), one-at-most (p .udl), data-limit (p .dcs) (p .udl) (length (p .ud)) h)
 
 -- three bits are told by their number
 three : {a b c x y z : ℕ} → a ≤ 1 → b ≤ 1 → c ≤ 1 → x ≤ 1 → y ≤ 1 → z ≤ 1 → a + 2 * b + 4 * c ≡ x + 2 * y + 4 * z → (a ≡ x) × (b ≡ y) × (c ≡ z)

@@ -38,7 +38,7 @@ use Rattle.parameters.specs.Line.{Parameters, parameters, parametersOctets}
 use Rattle.parameters.specs.Optional.{octetsHeld, held}
 use Rattle.parameters.specs.declared.OptionalOctet.{OptionalOctet}
 use Rattle.parameters.specs.declared.OptionalOctet.the-variants.{Absent, Present}
-use Rattle.parameters.proofs.Back.{data-limit, indicator-here, not-extended, parameters-here}
+use Rattle.parameters.proofs.Back.{indicator-here, not-extended, parameters-here, parameters-limit}
 use Rattle.parameters.proofs.Made.{one-at-most}
 use Rattle.status_report.specs.StatusReport.{bits, reported, behindStatus, behindAddress, line, statusReport, octetsIn, optionalChecks, checksBehind, making, firstOf, parametersOf, reporting, parts, capitalised, tooLong}
 use Rattle.status_report.specs.declared.SmsStatusReport.{SmsStatusReport}
@@ -65,7 +65,7 @@ unfolding optionalChecks
 optional-size Absent p h = omega (arith, eqb-true (length (parametersOctets p)) 0 (holds ParametersWithoutIndicator (eqb (length (parametersOctets p)) 0) [] h .0))
 optional-size (Present i) p h =
     let (x, d) = both-hold (indicatorChecks i (p .pid) (p .dcs) (p .udl)) (dataChecks (p .dcs) (p .udl) (length (p .ud))) h in
-    simp length-append (omega (arith, one-at-most (p .pid), one-at-most (p .dcs), one-at-most (p .udl), data-limit (p .dcs) (p .udl) (length (p .ud)) d))
+    simp length-append (omega (arith, parameters-limit p d))
 
 -- ---- the first octet
 

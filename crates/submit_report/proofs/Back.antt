@@ -29,7 +29,7 @@ use Rattle.parameters.specs.Line.{Parameters, parameters, parametersOctets}
 use Rattle.parameters.specs.Optional.{held}
 use Rattle.parameters.specs.declared.OptionalOctet.{OptionalOctet}
 use Rattle.parameters.specs.declared.OptionalOctet.the-variants.{Absent, Present}
-use Rattle.parameters.proofs.Back.{data-limit, octet-here, indicator-here, not-extended, parameters-here}
+use Rattle.parameters.proofs.Back.{octet-here, indicator-here, not-extended, parameters-here, parameters-limit}
 use Rattle.parameters.proofs.Made.{one-at-most}
 use Rattle.submit_report.specs.SubmitReport.{reported, rest, outcomeOf, octetsIn, making, parametersOf, reporting, Parts, parts, capitalised}
 use Rattle.submit_report.specs.declared.SmsSubmitReport.{SmsSubmitReport}
@@ -99,16 +99,7 @@ module _ {os : List ℕ} {answer : Written} (r : SmsSubmitReport) (e : reporting
 
   -- and has at most 153 octets
   pub at-most : length os ≤ 153
-  at-most =
-      rw (← passed .is, size-is _ _ _ _ _ (passed .timed))
-      (omega (
-        arith,
-        one-at-most (r .«tp_failure_cause»),
-        one-at-most (r .«tp_pid»),
-        one-at-most (r .«tp_dcs»),
-        one-at-most (r .«tp_user_data_length»),
-        data-limit (r .«tp_dcs») (r .«tp_user_data_length») (length (dataOf (r .«tp_user_data»))) (passed .held),
-      ))
+  at-most = rw (← passed .is, size-is _ _ _ _ _ (passed .timed)) (omega (arith, one-at-most (r .«tp_failure_cause»), parameters-limit (parametersOf r) (passed .held)))
 
 -- a writer's answer and octets depend on the parts alone
 pub written-alike : (r q : SmsSubmitReport) → parts r ≡ parts q → reporting r ≡ reporting q

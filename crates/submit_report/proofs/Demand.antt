@@ -14,7 +14,7 @@ use Rattle.octets.specs.Lent.{refused}
 use Rattle.octets.specs.declared.Refusal.{Refusal}
 use Rattle.octets.specs.declared.Refusal.the-variants.{NotATime}
 use Rattle.octets.proofs.Laws.{take-pad}
-use Rattle.octets.proofs.Checks.{check-holds}
+use Rattle.octets.proofs.Checks.{check-holds, checked-then}
 use Rattle.coding.specs.Coding.{dataWith}
 use Rattle.time.specs.Time.{isTime, timeDigits, timeIn}
 use Rattle.time.proofs.Laws.{octets-back, digits-time, length-digits, time-held}
@@ -51,10 +51,7 @@ bit-small b x = omega arith
 
 -- a check that holds, between others
 between : {holds : Bool} → holds ≡ true → (why : Refusal) (more : List Check) (xs : List ℕ) (checks : List Check) → checked (checks ++ ((why unless holds) ∷ more)) xs ≡ checked (checks ++ more) xs
-unfolding checked
-between e why more xs [] = check-holds e why more xs
-between e why more xs ((w unless true) ∷ checks) = between e why more xs checks
-between e why more xs ((w unless false) ∷ checks) = refl
+between e why more xs checks = checked-then xs checks _ ∙ rw (check-holds e why more xs, ← checked-then xs checks more)
 
 -- ---- a record that was read
 
