@@ -26,7 +26,7 @@ use Rattle.address.proofs.Laws.{canonical-reads, octets-again, length-short, re
 use Rattle.layout.specs.Demand.{Demand3}
 use Rattle.layout.specs.Layout.{messageType, kept, isSet, Field, reached, read, canonicalOf, unwritable}
 use Rattle.layout.proofs.Makes.{Makes}
-use Rattle.layout.proofs.Demand.{Answers, Writes, demand3, answers-plain}
+use Rattle.layout.proofs.Demand.{Answers, Writes, demand3, answers-plain, answers-two}
 use Rattle.layout.proofs.Rewriting.{Told}
 use Rattle.deliver.proofs.Writing.{by-parts}
 use Rattle.deliver.specs.declared.SmsDeliver.{SmsDeliver}
@@ -93,17 +93,11 @@ module _ (x : ℕ) (hx : x < 256) (mti : eqb (messageType (kept bits x)) 0 ≡ t
       ∙ check-holds mti WrongMessageType (dataChecks dcs udl (length (parts r .userData)) ++ later) (octetsOf (parts r))
       ∙ its-checks (octetsOf (parts r)) ∙ ap answered its-octets
 
-answers : (a b : Bool) (xs ys : List ℕ) → xs ≡ ys → Answers (if b then refused UserDataTooLong else if a then refused AddressTooLong else made xs (Written.Done (length xs))) ys (a || (b || false))
-answers true true xs ys e = (UserDataTooLong, refl)
-answers true false xs ys e = (AddressTooLong, refl)
-answers false true xs ys e = (UserDataTooLong, refl)
-answers false false xs ys e = rw e
-
 delivered-makes : Makes (Writes parts delivering octetsOf) line
 unfolding line behindAddress
 delivered-makes x hx mti f wf pid hp dcs hd t ot wt udl hu d od wd = record {
   octets = its-octets x hx mti f wf pid dcs t ot wt udl hu d wd ∙ rw (append-nil, append-assoc);
-  answer = rw (its-making x hx mti f wf pid dcs t ot wt udl hu d wd) (answers (ltb 12 (length (canonicalAddress f))) (ltb 140 (length d)) _ _ (rw (append-nil, append-assoc)));
+  answer = rw (its-making x hx mti f wf pid dcs t ot wt udl hu d wd) (answers-two (ltb 12 (length (canonicalAddress f))) (ltb 140 (length d)) AddressTooLong UserDataTooLong _ _ (rw (append-nil, append-assoc)));
 }
 
 -- demand 3 of DELIVER

@@ -29,6 +29,13 @@ pub answers-checked : (fails : Bool) (why : Refusal) (making : Making Written) (
 answers-checked true why making octets b a = (why, refl)
 answers-checked false why making octets b a = a
 
+-- the second of two fields is checked first
+pub answers-two : (a b : Bool) (why also : Refusal) (xs octets : List ℕ) → xs ≡ octets → Answers (if b then refused also else if a then refused why else made xs (Written.Done (length xs))) octets (a || (b || false))
+answers-two true true why also xs octets e = (also, refl)
+answers-two true false why also xs octets e = (why, refl)
+answers-two false true why also xs octets e = (also, refl)
+answers-two false false why also xs octets e = rw e
+
 lent : (making : Making Written) (octets : List ℕ) (b : Bool) → Answers making octets b → (buffer : List ℕ) → length octets ≤ length buffer
     → (b ≡ false → lend Written.Refused making buffer ≡ (Written.Done (length octets), octets ++ drop (length octets) buffer))
     × (b ≡ true → (why : Refusal) × (lend Written.Refused making buffer ≡ (Written.Refused why, buffer)))

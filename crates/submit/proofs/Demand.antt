@@ -11,28 +11,30 @@ use lib.Dec.{eqb, ltb}
 use lib.ListN.{length, getD, take, length-take}
 use Rattle.octets.specs.Arrays.{pad}
 use Rattle.octets.specs.Choice.{if_then_else_, flag}
+use Rattle.octets.specs.Checks.{Check, _unless_, checked}
 use Rattle.octets.specs.Each.{Octets}
 use Rattle.octets.specs.Lent.{Making, refused, made}
 use Rattle.octets.specs.declared.Checked.{Checked}
-use Rattle.octets.specs.declared.Refusal.the-variants.{UserDataTooLong, AddressTooLong}
+use Rattle.octets.specs.declared.Refusal.the-variants.{UserDataTooLong, AddressTooLong, WrongMessageType, ValidityFormatDisagrees, NotATime, NoDestination}
 use Rattle.octets.specs.declared.Written.{Written}
 use Rattle.octets.proofs.Laws.{take-pad}
 use Rattle.octets.proofs.Table.{below}
-use Rattle.coding.specs.Coding.{codingOf, dataOctets, checkedData, dataWith}
-use Rattle.coding.proofs.Laws.{data-held, data-at-most}
+use Rattle.octets.proofs.Checks.{check-holds, no-checks}
+use Rattle.coding.specs.Coding.{codingOf, dataOctets, checkedData, dataWith, dataChecks}
+use Rattle.coding.proofs.Laws.{data-held, data-at-most, data-limit}
 use Rattle.time.specs.Time.{timeIn}
 use Rattle.address.specs.declared.AddressCheck.{AddressCheck}
-use Rattle.address.specs.Address.{typeOfNumber, planOf, textIn, addressIn, addressWith, addressOctets, octetsOr, canonicalAddress, addressMaking}
+use Rattle.address.specs.Address.{typeOfNumber, planOf, textIn, addressIn, addressWith, addressOctets, octetsOr, canonicalAddress, addressMaking, addressChecks}
 use Rattle.address.specs.Parts.{checkOf}
 use Rattle.address.proofs.Checks.{encoding-parts}
-use Rattle.address.proofs.Laws.{Field as AddressField, canonical-reads, canonical-field, text-short, read-written, address-equal}
+use Rattle.address.proofs.Laws.{Field as AddressField, canonical-reads, canonical-field, text-short, read-written, address-equal, read-checked}
 use Rattle.layout.specs.Demand.{Demand3}
 use Rattle.layout.specs.Layout.{first, octet, octets, address, isSet, messageType, kept, reached, read, canonicalOf, unwritable}
-use Rattle.layout.proofs.Demand.{Answers, Writes, demand3, answers-plain}
+use Rattle.layout.proofs.Demand.{Answers, Writes, demand3, answers-plain, answers-two}
 use Rattle.layout.proofs.Rewriting.{Told}
 use Rattle.layout.proofs.Makes.{Makes}
 use Rattle.submit.specs.declared.SmsSubmit.{SmsSubmit}
-use Rattle.submit.specs.Submit.{formatIn, periodIn, ofFormat, periodOctets, headerSize, inCount, textWith, submitted, bits, behindCoding, behindFirst, line, submit, answer, unread, making, flagsOf, lengthIf, lengthsFit, submitting}
+use Rattle.submit.specs.Submit.{formatIn, periodIn, ofFormat, periodOctets, headerSize, inCount, textWith, submitted, bits, behindCoding, behindFirst, line, submit, answer, unread, making, flagsOf, lengthIf, lengthsFit, submitting, timeHolds}
 use Rattle.submit.specs.Parts.{Destination, Parts, parts}
 use Rattle.submit.proofs.Period.{digitsCount, digitsBeside, Held, period-held}
 use Rattle.submit.proofs.Reading.{kept-whole}
@@ -53,12 +55,8 @@ octetsOf p =
 abbrev firstOf : ℕ → ℕ
 firstOf f = flag (isSet 7 f) 128 + flag (isSet 6 f) 64 + flag (isSet 5 f) 32 + flag (isSet 2 f) 4 + 8 * formatIn f + 1
 
-implied : (a b : Bool) → (not a || b) ≡ true → a ≡ true → b ≡ true
-implied true b e h = e
-implied false b e h = absurd (false≢true h)
-
 first-back : (f : ℕ) → f < 256 → messageType f ≡ 1 → firstOf f ≡ f
-first-back f h m = eqb-true _ _ (implied _ _ (below (λ y. not (eqb (messageType y) 1) || eqb (firstOf y) y) 256 refl f h) (eq-eqb _ _ m))
+first-back f h m = eqb-true _ _ (rw (eq-eqb _ _ m) at (below (λ y. if eqb (messageType y) 1 then eqb (firstOf y) y else true) 256 refl f h))
 
 -- the canonical octets of an address are their own
 canonical-twice : (f : List ℕ) → AddressField f → canonicalAddress (canonicalAddress f) ≡ canonicalAddress f
@@ -104,33 +102,27 @@ module _ (f : ℕ) (small : f < 256) (mti : messageType f ≡ 1) (mr : ℕ) (da 
   unfolding submitted addressIn addressWith
   by-checks = by-parts sent all-fit ∙ rw (take-pad 290 (textIn da), data-held ud)
 
-  -- the address alone
-  address-made : addressMaking (typeOfNumber (getD da 1 0)) (planOf (getD da 1 0)) (textIn da) ≡ (if ltb 12 (length da) then refused AddressTooLong else made da (Written.Done (length da)))
-  unfolding addressIn addressWith
-  address-made =
-      ap (addressMaking (typeOfNumber (getD da 1 0)) (planOf (getD da 1 0))) (sym (take-pad 290 (textIn da))) ∙ sym (encoding-parts (addressIn da) (text-short da whole)) ∙ read-written da whole ∙ rw own
+  -- what its checks come to
+  abbrev answered : List ℕ → Making Written
+  answered xs = if ltb 140 (length ud) then refused UserDataTooLong else if ltb 12 (length da) then refused AddressTooLong else made xs (Written.Done (length xs))
 
-  data-checks : (b : Bool) → ltb 140 (length ud) ≡ b → checkedData dcs udl (length ud) ≡ (if b then Checked.Against UserDataTooLong else Checked.Fine)
-  unfolding checkedData
-  data-checks true q = rw (eq-eqb _ _ (sym size), lt-leb (length ud) 140 (ltb-true _ _ q))
-  data-checks false q = rw (eq-eqb _ _ (sym size), le-leb (length ud) 140 (ltb-false _ _ q))
+  last : List Check
+  last = (NotATime unless timeHolds (periodIn (formatIn f) vp) (digitsBeside (formatIn f) vp)) ∷ []
 
-  made-string : checkOf (addressMaking (typeOfNumber (getD da 1 0)) (planOf (getD da 1 0)) (textIn da)) ≡ AddressCheck.Fine (getD da 0 0) → ltb 140 (length ud) ≡ false
-      → submitting sent ≡ made string (Written.Done (length string))
-  unfolding canonicalAddress submitted
-  made-string fine q = by-checks ∙ all-made _ _ _ _ _ _ _ _ _ _ _ _ _ _ _ mti (sym (held .format)) refl (data-checks false q) fine (held .time) ∙ rw (first-back f small mti, held .octets, own)
+  its-checks : (xs : List ℕ) → checked (dataChecks dcs udl (length ud) ++ (addressChecks (typeOfNumber (getD da 1 0)) (planOf (getD da 1 0)) (textIn da) ++ last)) xs ≡ answered xs
+  unfolding addressIn addressWith last
+  its-checks xs =
+      let a = rw (take-pad 290 (textIn da), own) at (read-checked da whole last xs) in
+      data-limit dcs udl (length ud) size _ xs ∙ rw (a, check-holds (held .time) NotATime [] xs, no-checks)
+
+  its-making : submitting sent ≡ answered string
+  unfolding making canonicalAddress submitted last
+  its-making =
+      by-checks ∙ check-holds (eq-eqb _ _ mti) WrongMessageType _ _ ∙ check-holds (eq-eqb _ _ (sym (held .format))) ValidityFormatDisagrees _ _ ∙ check-holds refl NoDestination _ _ ∙ its-checks _
+      ∙ rw (first-back f small mti, held .octets, own)
 
   answers : Answers (submitting sent) string (ltb 12 (length da) || (ltb 140 (length ud) || false))
-  answers = by (ltb 12 (length da)) refl (ltb 140 (length ud)) refl
-    where
-      too-long : ltb 140 (length ud) ≡ true → submitting sent ≡ refused UserDataTooLong
-      too-long q = by-checks ∙ data-against _ _ _ _ _ _ _ _ _ _ _ _ _ _ _ mti (sym (held .format)) refl (data-checks true q)
-
-      by : (a : Bool) → ltb 12 (length da) ≡ a → (b : Bool) → ltb 140 (length ud) ≡ b → Answers (submitting sent) string (a || (b || false))
-      by true p true q = (UserDataTooLong, too-long q)
-      by false p true q = (UserDataTooLong, too-long q)
-      by true p false q = (AddressTooLong, by-checks ∙ address-against _ _ _ _ _ _ _ _ _ _ _ _ _ _ _ mti (sym (held .format)) refl (data-checks false q) (ap checkOf address-made ∙ rw p))
-      by false p false q = made-string (ap checkOf address-made ∙ rw p) q
+  answers = rw its-making (answers-two (ltb 12 (length da)) (ltb 140 (length ud)) AddressTooLong UserDataTooLong string string refl)
 
 submit-writes : Makes (Writes parts submitting octetsOf) line
 unfolding line behindFirst behindCoding
