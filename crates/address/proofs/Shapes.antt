@@ -1,9 +1,9 @@
 -- What is written of an address: its octets read as what was written. What is read of an address can be written.
 -- Assumes nothing.
 use Prim.Native.Nat.{ℕ, _+_, _*_, _/_, _<_, _≤_}
-use mathlib.Core.Path.{_≡_, refl, sym, ap, subst}
+use mathlib.Core.Path.{_≡_, refl, sym, subst}
 use mathlib.Core.Bool.{Bool, true, false}
-use mathlib.Core.List.{List, [], _∷_, map}
+use mathlib.Core.List.{List, _∷_, map}
 use mathlib.Core.Option.{Option, none, some}
 use native.Mathlib.Omega.{arith}
 use lib.Dec.{eqb}
@@ -15,7 +15,6 @@ use Rattle.octets.proofs.SemiOctets.{semi-pairs, length-pairs, pairs-octets, se
 use Rattle.octets.proofs.Each.{below-cons, below-take, Below}
 use Rattle.septets.specs.Septets.{septetsIn, packedSeptets}
 use Rattle.septets.proofs.Inverse.{length-packed, length-septets, septets-septets, digits-of}
-use Rattle.text.specs.Reading.{textOf}
 use Rattle.text.specs.Writing.{septetsOf}
 use Rattle.text.proofs.Adequate.{text-packed-text}
 use Rattle.text.proofs.Laws.{read-writable, text-short}

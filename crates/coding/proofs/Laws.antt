@@ -11,7 +11,7 @@ use lib.ListN.{length as size}
 use Rattle.octets.specs.Arrays.{pad}
 use Rattle.octets.specs.Checks.{Check, _unless_, checked, afterChecked}
 use Rattle.octets.specs.Choice.{if_then_else_}
-use Rattle.octets.specs.Lent.{Making, refused}
+use Rattle.octets.specs.Lent.{refused}
 use Rattle.octets.specs.declared.Checked.{Checked}
 use Rattle.octets.specs.declared.Refusal.the-variants.{UserDataLengthDisagrees, UserDataTooLong}
 use Rattle.octets.proofs.Checks.{checked-then, holds}

@@ -1,6 +1,5 @@
 -- TP-Data-Coding-Scheme (TS 23.038 §4) and TP-User-Data-Length (TS 23.040 §9.2.3.16).
 use Prim.Native.Nat.{ℕ, _+_, _*_, _/_, _%_}
-use mathlib.Core.Bool.{Bool, true, false}
 use mathlib.Core.List.{List, [], _∷_}
 use lib.Dec.{eqb, leb}
 use lib.ListN.{length as size, take}

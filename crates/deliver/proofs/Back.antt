@@ -1,20 +1,18 @@
 -- Demand 2 of document 01 for SMS-DELIVER: what was written is read back with the same parts, time letters capital.
 -- Assumes nothing.
-use Prim.Native.Nat.{ℕ, _+_, _≤_, _<_}
+use Prim.Native.Nat.{ℕ, _+_, _≤_}
 use mathlib.Core.Path.{_≡_, refl, sym, ap, _∙_}
-use mathlib.Core.Bool.{Bool, true, false, not, _&&_, _||_, false≢true}
-use mathlib.Core.List.{List, [], _∷_, _++_, append-nil, append-assoc}
-use mathlib.Core.Option.{Option, none, some}
+use mathlib.Core.Bool.{Bool, true, _&&_}
+use mathlib.Core.List.{List, [], _∷_, _++_, append-assoc}
 use native.Mathlib.Omega.{arith}
-use borrow.Author.Tests.{eq-eqb, eqb-true, leb-true, ltb-false}
-use lib.Dec.{eqb, leb, ltb}
+use borrow.Author.Tests.{eqb-true, ltb-false}
+use lib.Dec.{eqb, ltb}
 use lib.ListN.{length, take, length-append}
-use lib.Seq.{length-take-le, take-at, drop-at}
-use Rattle.octets.specs.Checks.{checked, _unless_}
-use Rattle.octets.specs.Choice.{if_then_else_, flag}
-use Rattle.octets.specs.Lent.{Making, refused, made}
-use Rattle.octets.specs.declared.Refusal.{Refusal}
-use Rattle.octets.specs.declared.Refusal.the-variants.{LengthTooLarge, WrongMessageType, NotATime, UserDataLengthDisagrees, UserDataTooLong, NumberTypeOrPlanTooLarge, NotInAlphabet, AddressTooLong}
+use lib.Seq.{length-take-le}
+use Rattle.octets.specs.Checks.{_unless_}
+use Rattle.octets.specs.Choice.{flag}
+use Rattle.octets.specs.Lent.{made}
+use Rattle.octets.specs.declared.Refusal.the-variants.{LengthTooLarge, WrongMessageType, NotATime}
 use Rattle.octets.specs.declared.Written.{Written}
 use Rattle.octets.proofs.Choice.{and-true, or-false, both, both-holds, same, same-is}
 use Rattle.octets.proofs.Checks.{holds, both-hold, made-unless, made-told}
@@ -22,14 +20,10 @@ use Rattle.octets.proofs.Laws.{take-pad}
 use Rattle.coding.specs.Coding.{codingOf, dataOctets, dataWith, dataOf, dataChecks, checkedData}
 use Rattle.coding.proofs.Laws.{data-held, data-passed}
 use Rattle.time.specs.Time.{isTime, timeDigits, timeOctets, timeIn, digitsOf, capitals}
-use Rattle.time.proofs.Laws.{digits-back, length-digits, length-octets, time-means, time-held, time-size}
-use Rattle.address.specs.Address.{addressIn, addressWith, addressOctets, addressSize, canonicalAddress, octetsOr, isSome, textIn, textHeld, addressChecks}
-use Rattle.address.specs.declared.SMSAddress.{SMSAddress}
-use Rattle.address.proofs.Shapes.{octets-read}
+use Rattle.time.proofs.Laws.{digits-back, length-digits, time-means, time-held, time-size}
+use Rattle.address.specs.Address.{addressIn, addressWith, addressOctets, addressSize, canonicalAddress, octetsOr, textHeld, addressChecks}
 use Rattle.address.proofs.Laws.{Spelled, address-passed}
-use Rattle.layout.specs.Layout.{Kind, first, octet, octets, any, leading, address, userData, isSet, messageType, kept, Whole, canon, Format, field, require, done, reached, reading, readFrom, read}
-use Rattle.layout.proofs.Fields.{own}
-use Rattle.layout.proofs.Laws.{goes-on}
+use Rattle.layout.specs.Layout.{first, octet, octets, any, address, userData, isSet, messageType, kept, Format, field, reached, reading, readFrom, read}
 use Rattle.layout.proofs.Back.{field-read, field-last, message-read, done-read}
 use Rattle.deliver.specs.declared.SmsDeliver.{SmsDeliver}
 use Rattle.deliver.specs.Deliver.{bits, delivered, behindAddress, line, deliver, octetsIn, making, flagsOf, delivering, parts, capitalised, tooLong}

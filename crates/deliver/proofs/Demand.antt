@@ -2,35 +2,34 @@
 -- Assumes nothing.
 use Prim.Native.Nat.{ℕ, _+_, _≤_, _<_}
 use mathlib.Core.Path.{_≡_, refl, sym, ap, _∙_}
-use mathlib.Core.Bool.{Bool, true, false, _||_, _&&_}
+use mathlib.Core.Bool.{true, false, _||_}
 use mathlib.Core.List.{List, [], _∷_, _++_, append-nil, append-assoc}
 use native.Mathlib.Omega.{arith}
-use borrow.Author.Tests.{eqb-true, le-leb, le-ltb}
-use lib.Dec.{eqb, leb, ltb}
-use lib.ListN.{length, take, drop}
+use borrow.Author.Tests.{eqb-true}
+use lib.Dec.{eqb, ltb}
+use lib.ListN.{length}
 use Rattle.octets.specs.Checks.{Check, _unless_, checked}
 use Rattle.octets.specs.Choice.{if_then_else_, flag}
 use Rattle.octets.specs.Each.{Octets}
 use Rattle.octets.specs.Lent.{Making, refused, made}
 use Rattle.octets.specs.declared.Refusal.the-variants.{LengthTooLarge, WrongMessageType, NotATime, UserDataTooLong, AddressTooLong}
 use Rattle.octets.specs.declared.Written.{Written}
-use Rattle.octets.proofs.Laws.{take-pad}
 use Rattle.octets.proofs.Table.{below}
 use Rattle.octets.proofs.Checks.{check-holds, no-checks}
-use Rattle.coding.specs.Coding.{codingOf, dataOctets, dataChecks, dataWith, dataOf}
+use Rattle.coding.specs.Coding.{codingOf, dataOctets, dataChecks, dataWith}
 use Rattle.coding.proofs.Laws.{data-held, data-at-most, data-limit}
-use Rattle.time.specs.Time.{isTime, timeDigits, timeOctets, timeIn, digitsOf}
+use Rattle.time.specs.Time.{isTime, timeDigits, timeIn, digitsOf}
 use Rattle.time.proofs.Laws.{octets-back, digits-time, length-digits, time-held}
-use Rattle.address.specs.Address.{addressIn, addressWith, addressOctets, canonicalAddress, octetsOr, textIn, textHeld, addressChecks}
+use Rattle.address.specs.Address.{canonicalAddress, addressChecks}
 use Rattle.address.proofs.Laws.{canonical-reads, octets-again, length-short, read-checked, Field as AddressField}
 use Rattle.layout.specs.Demand.{Demand3}
-use Rattle.layout.specs.Layout.{messageType, kept, isSet, Field, reached, read, canonicalOf, unwritable}
+use Rattle.layout.specs.Layout.{messageType, kept, isSet, reached, read, canonicalOf, unwritable}
 use Rattle.layout.proofs.Makes.{Makes}
 use Rattle.layout.proofs.Demand.{Answers, Writes, demand3, answers-plain, answers-two}
 use Rattle.layout.proofs.Rewriting.{Told}
 use Rattle.deliver.proofs.Writing.{by-parts}
 use Rattle.deliver.specs.declared.SmsDeliver.{SmsDeliver}
-use Rattle.deliver.specs.Deliver.{bits, delivered, behindAddress, line, deliver, answer, unread, octetsIn, making, flagsOf, delivering, Parts, parts}
+use Rattle.deliver.specs.Deliver.{bits, delivered, behindAddress, line, deliver, answer, unread, octetsIn, making, delivering, Parts, parts}
 
 -- ---- the parts alone
 

@@ -1,13 +1,11 @@
 -- What the line comes to behind the address, field by field; and the record of fields that are there.
 -- Assumes nothing.
-use Prim.Native.Nat.{ℕ, _+_, _-_, _*_, _/_, _%_, _≤_, _<_}
-use mathlib.Core.Path.{_≡_, refl, sym, ap, _∙_}
-use mathlib.Core.Bool.{Bool, true, false}
-use mathlib.Core.List.{List, [], _∷_}
+use Prim.Native.Nat.{ℕ, _+_, _-_, _/_, _%_, _≤_}
+use mathlib.Core.Path.{_≡_, refl, _∙_}
+use mathlib.Core.List.{List}
 use native.Mathlib.Omega.{arith}
 use lib.Dec.{eqb}
-use lib.ListN.{length, take, drop, replicate, length-take, length-drop}
-use lib.Seq.{length-take-le}
+use lib.ListN.{length, take, drop}
 use Rattle.octets.specs.Arrays.{pad}
 use Rattle.octets.specs.Each.{Octets}
 use Rattle.octets.specs.Places.{octetAt, spanAt}
@@ -17,19 +15,17 @@ use Rattle.octets.specs.declared.Place.{Place}
 use Rattle.octets.specs.declared.Refusal.{Refusal}
 use Rattle.octets.specs.declared.Refusal.the-variants.{OctetsEnd, WrongMessageType}
 use Rattle.octets.specs.declared.Span.{Span}
-use Rattle.octets.proofs.Laws.{pad-full, part-is, part-size}
-use Rattle.octets.proofs.Places.{octet-read, span-there, start}
-use Rattle.octets.proofs.Each.{octets-take, octets-drop}
-use Rattle.coding.specs.Coding.{codingOf, dataOctets, dataWith}
+use Rattle.octets.proofs.Laws.{part-is, part-size}
+use Rattle.octets.proofs.Places.{octet-read, start}
+use Rattle.coding.specs.Coding.{codingOf, dataOctets}
 use Rattle.coding.proofs.Laws.{data-stored}
-use Rattle.time.specs.Time.{timeDigits, timeIn}
-use Rattle.time.proofs.Laws.{length-digits, time-stored}
+use Rattle.time.specs.Time.{timeDigits}
+use Rattle.time.proofs.Laws.{time-stored}
 use Rattle.address.specs.Address.{addressIn, addressSize, canonicalAddress}
 use Rattle.address.specs.Parts.{fieldAt}
 use Rattle.address.specs.declared.SMSAddress.{SMSAddress}
-use Rattle.address.proofs.Laws.{canonical-reads}
 use Rattle.layout.specs.Layout.{Format, any, upTo, address, userData, field, done, cut, kept, messageType, Reached, reached, halted, read, readFrom}
-use Rattle.layout.proofs.Fields.{cut-whole, address-there}
+use Rattle.layout.proofs.Fields.{address-there}
 use Rattle.layout.proofs.FirstOctet.{kept-bit, kept-type}
 use Rattle.layout.proofs.Steps.{message-goes-on, message-differs, message-ends, octet-goes-on, octet-ends, span-goes-on, span-ends, address-goes-on, address-ends, done-reached, address-inside}
 use Rattle.deliver.specs.declared.SmsDeliver.{SmsDeliver}

@@ -1,11 +1,11 @@
 -- SMS-DELIVER (TS 23.040 §9.2.2.1): its line, its reader's answer, and what its writer makes.
-use Prim.Native.Nat.{ℕ, _+_, _*_}
-use mathlib.Core.Bool.{Bool, true, false, _||_}
+use Prim.Native.Nat.{ℕ, _+_}
+use mathlib.Core.Bool.{Bool, false, _||_}
 use mathlib.Core.List.{List, [], _∷_, _++_}
 use lib.Dec.{eqb, ltb}
-use lib.ListN.{length, take}
+use lib.ListN.{length}
 use Rattle.octets.specs.Choice.{if_then_else_, flag}
-use Rattle.octets.specs.Checks.{Check, _unless_, checked}
+use Rattle.octets.specs.Checks.{_unless_, checked}
 use Rattle.octets.specs.Lent.{Making, refused}
 use Rattle.octets.specs.declared.Outcome.{Outcome}
 use Rattle.octets.specs.declared.Refusal.{Refusal}

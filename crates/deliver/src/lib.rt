@@ -1,8 +1,7 @@
 // SMS-DELIVER (TS 23.040 §9.2.2.1).
 ghost use mathlib.Core.Path.{_≡_};
 ghost use mathlib.Core.Bool.{true, false};
-ghost use mathlib.Core.List.{List, [], _∷_, _++_};
-ghost use Prim.Native.Nat.{_+_, _*_, _/_, _%_, _≤_, _<_};
+ghost use Prim.Native.Nat.{_+_, _/_, _%_, _≤_, _<_};
 ghost use lib.ListN.{length, take, drop};
 ghost use Rattle.octets.specs.Lent.{Wrote, lend};
 ghost use Rattle.layout.specs.Layout.{read, readFrom, kept, cut, address as addressKind};

@@ -3,7 +3,7 @@
 use Prim.Native.Nat.{ℕ, _+_, _≤_}
 use mathlib.Core.Path.{_≡_, refl, sym, ap, _∙_}
 use mathlib.Core.Bool.{Bool, true, false}
-use mathlib.Core.List.{List, [], _∷_, _++_, append-nil}
+use mathlib.Core.List.{List, [], _∷_}
 use native.Mathlib.Omega.{arith}
 use borrow.Author.Tests.{leb-true}
 use lib.Dec.{leb}
@@ -17,7 +17,7 @@ use Rattle.octets.specs.declared.Written.{Written}
 use Rattle.octets.proofs.Laws.{take-pad}
 use Rattle.octets.proofs.Checks.{holds, both-hold, made-told}
 use Rattle.coding.specs.Coding.{dataWith, dataOf}
-use Rattle.layout.specs.Layout.{reached, reading, readFrom, read}
+use Rattle.layout.specs.Layout.{reached, readFrom, read}
 use Rattle.layout.proofs.Steps.{done-reached}
 use Rattle.parameters.specs.Checking.{indicatorChecks, dataChecks}
 use Rattle.parameters.specs.Line.{Parameters, parameters, parametersOctets}

@@ -1,38 +1,27 @@
 -- The readers of SMS-DELIVER-REPORT, field by field.
 -- Assumes nothing.
-use Prim.Native.Nat.{ℕ, _-_, _≤_, _<_}
-use mathlib.Core.Path.{_≡_, refl, ap, _∙_}
-use mathlib.Core.Bool.{Bool, false, not, _&&_}
-use mathlib.Core.List.{List, [], _∷_}
-use native.Mathlib.Omega.{arith}
-use borrow.Author.Tests.{eq-eqb, ne-eqb}
-use lib.Bits.{bitAnd}
+use Prim.Native.Nat.{ℕ, _-_}
+use mathlib.Core.Path.{_≡_}
+use mathlib.Core.Bool.{Bool}
+use mathlib.Core.List.{List}
 use lib.Dec.{eqb}
-use lib.ListN.{length, getD, take, drop}
+use lib.ListN.{length, take, drop}
 use Rattle.octets.specs.Arrays.{pad}
-use Rattle.octets.specs.Each.{Octets}
-use Rattle.octets.specs.Places.{octetAt}
 use Rattle.octets.specs.declared.Octet.{Octet}
 use Rattle.octets.specs.declared.Outcome.{Outcome}
 use Rattle.octets.specs.declared.Place.{Place}
 use Rattle.octets.specs.declared.Refusal.{Refusal}
-use Rattle.octets.specs.declared.Refusal.the-variants.{OctetsEnd, WrongMessageType}
-use Rattle.octets.proofs.Places.{octet-read, octet-refused}
-use Rattle.coding.specs.Coding.{dataWith}
+use Rattle.octets.specs.declared.Refusal.the-variants.{OctetsEnd}
 use Rattle.coding.proofs.Laws.{data-stored}
-use Rattle.layout.specs.Layout.{any, isSet, messageType, Format, one, reached, halted, readFrom, indicatorAt, stops, read}
-use Rattle.layout.proofs.FirstOctet.{kept-bit}
-use Rattle.layout.proofs.Laws.{within-from}
-use Rattle.layout.proofs.Steps.{message-goes-on, message-differs, message-ends, octet-goes-on, octet-ends, indicator-goes-on, indicator-ends, then-goes-on, then-ends, done-reached}
+use Rattle.layout.specs.Layout.{halted, readFrom, indicatorAt}
+use Rattle.layout.proofs.Steps.{indicator-goes-on, indicator-ends, then-goes-on, then-ends, done-reached}
 use Rattle.parameters.specs.Line.{parameters, parametersAnswer}
 use Rattle.parameters.specs.declared.OptionalOctet.{OptionalOctet}
-use Rattle.parameters.specs.declared.OptionalOctet.the-variants.{Absent, Present}
 use Rattle.parameters.specs.declared.ParametersRead.{ParametersRead}
-use Rattle.parameters.proofs.Reading.{Told, parameters-told, parameters-halted, indicator-within}
+use Rattle.parameters.proofs.Reading.{Told, parameters-halted}
 use Rattle.parameters.proofs.Outcomes.{Outcomes, outcomes-of}
 use Rattle.deliver_report.specs.DeliverReport.{reported, rest, ackLine, errorLine, stopped, ack, error, answer}
 use Rattle.deliver_report.specs.declared.DeliverReportRead.{DeliverReportRead}
-use Rattle.deliver_report.specs.declared.SmsDeliverReport.{SmsDeliverReport}
 
 -- ---- behind first octet and cause
 

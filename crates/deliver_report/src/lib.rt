@@ -9,7 +9,7 @@ ghost use Rattle.layout.specs.Demand.{Rewrites};
 ghost use mathlib.Core.List.{_∷_, _++_};
 ghost use Rattle.parameters.specs.Optional.{held, octetsHeld};
 ghost use Rattle.parameters.specs.Line.{parametersOctets, noParameters};
-ghost use Rattle.deliver_report.specs.DeliverReport.{reported, rest, ack, error, answer, firstOctet, octetsIn, making, reporting};
+ghost use Rattle.deliver_report.specs.DeliverReport.{reported, rest, ack, error, answer, firstOctet, making, reporting};
 use coding::UserData;
 use octets::Checked;
 use octets::Octet;

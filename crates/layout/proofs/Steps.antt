@@ -1,10 +1,10 @@
 -- Steps of a reader: what a line comes to from a place on, by what the methods that read at the place answer. A reader's proof takes one step for each field.
 -- Assumes nothing.
-use Prim.Native.Nat.{ℕ, zero, suc, _+_, _≤_, _<_}
+use Prim.Native.Nat.{ℕ, _+_, _≤_, _<_}
 use mathlib.Core.Path.{_≡_, refl, sym, ap, _∙_}
 use mathlib.Core.Bool.{Bool, true, false, not, _&&_}
 use mathlib.Core.List.{List, [], _∷_}
-use native.Mathlib.Nat.{add-zero, zero-add, suc-add}
+use native.Mathlib.Nat.{add-zero}
 use native.Mathlib.Omega.{arith}
 use borrow.Author.Tests.{eq-eqb, ne-eqb}
 use lib.Bits.{bitAnd}
@@ -12,7 +12,6 @@ use lib.Dec.{eqb, leb}
 use lib.ListN.{length, take, drop, length-drop, drop-of-length-le}
 use lib.Seq.{drop-cons, drop-drop, getD-take, getD-drop}
 use Rattle.octets.specs.Choice.{if_then_else_}
-use Rattle.octets.specs.Each.{Octets}
 use Rattle.octets.specs.Places.{octetAt, spanAt}
 use Rattle.octets.specs.declared.Octet.{Octet}
 use Rattle.octets.specs.declared.Place.{Place}
@@ -20,11 +19,10 @@ use Rattle.octets.specs.declared.Refusal.{Refusal}
 use Rattle.octets.specs.declared.Refusal.the-variants.{OctetsEnd, WrongMessageType}
 use Rattle.octets.specs.declared.Span.{Span}
 use Rattle.octets.proofs.Places.{start, octet-read, octet-refused, span-there, span-inside, span-refused}
-use Rattle.octets.proofs.Each.{octets-take, octets-drop}
 use Rattle.address.specs.Address.{addressSize, canonicalAddress}
 use Rattle.address.specs.Parts.{fieldAt}
-use Rattle.layout.specs.Layout.{Limit, Kind, first, octet, octets, address, indicator, messageType, kept, indicatorSize, size, canon, cut, behind, Format, field, require, endOr, done, _then_, message, Reached, reached, halted, after, reading, readFrom, leadingAt, indicatorAt, plain, stopping, stops, read}
-use Rattle.layout.proofs.Fields.{cut-whole, indicator-positive}
+use Rattle.layout.specs.Layout.{Limit, Kind, first, octet, octets, address, indicator, messageType, kept, indicatorSize, size, canon, cut, behind, Format, field, require, endOr, done, _then_, message, Reached, reached, halted, after, reading, readFrom, leadingAt, indicatorAt, stopping, stops, read}
+use Rattle.layout.proofs.Fields.{indicator-positive}
 use Rattle.layout.proofs.FirstOctet.{descends, kept-type}
 use Rattle.layout.proofs.Laws.{goes-on, ends}
 

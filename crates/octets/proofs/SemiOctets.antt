@@ -1,6 +1,6 @@
 -- Semi-octets and octets: there and back, how many, and how large.
 -- Assumes nothing.
-use Prim.Native.Nat.{ℕ, zero, suc, _+_, _*_, _/_, _%_, _<_}
+use Prim.Native.Nat.{ℕ, zero, suc, _+_, _*_, _/_, _%_}
 use mathlib.Core.Path.{_≡_, refl, ap₂}
 use mathlib.Core.List.{List, [], _∷_}
 use native.Mathlib.Omega.{arith}

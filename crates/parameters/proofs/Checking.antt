@@ -1,20 +1,16 @@
 -- What the checks of indicator and parameters find.
 -- Assumes nothing.
 use Prim.Native.Nat.{ℕ}
-use mathlib.Core.Path.{_≡_, refl, sym, _∙_}
+use mathlib.Core.Path.{_≡_, refl, _∙_}
 use mathlib.Core.Bool.{Bool, true, false, not, _||_}
-use mathlib.Core.List.{List, [], _∷_, _++_}
-use native.Mathlib.Omega.{arith}
+use mathlib.Core.List.{List, _++_}
 use borrow.Author.Tests.{eq-eqb, leb-true, leb-false, le-ltb, lt-ltb}
 use lib.Dec.{leb, ltb}
 use lib.ListN.{length}
 use Rattle.octets.specs.Choice.{if_then_else_}
-use Rattle.octets.specs.Checks.{Check, _unless_, checked, found}
-use Rattle.octets.specs.Lent.{refused, made}
+use Rattle.octets.specs.Checks.{Check, checked, found}
 use Rattle.octets.specs.declared.Checked.{Checked}
-use Rattle.octets.specs.declared.Refusal.{Refusal}
 use Rattle.octets.specs.declared.Refusal.the-variants.{IndicatorExtended, UserDataTooLong}
-use Rattle.octets.specs.declared.Written.{Written}
 use Rattle.octets.proofs.Checks.{passed, against, all-passed, one-against}
 use Rattle.layout.specs.Layout.{isSet, Field, anyPastLimit}
 use Rattle.layout.proofs.Demand.{Answers}

@@ -13,9 +13,9 @@ use Rattle.octets.specs.Choice.{if_then_else_}
 use Rattle.octets.specs.Checks.{found}
 use Rattle.octets.specs.declared.Checked.{Checked}
 use Rattle.octets.specs.declared.Refusal.the-variants.{UserDataTooLong}
-use Rattle.coding.specs.Coding.{codingOf, dataOctets}
+use Rattle.coding.specs.Coding.{codingOf}
 use Rattle.coding.proofs.Laws.{data-at-most}
-use Rattle.layout.specs.Layout.{bit, isSet, Field, joined, pastLimit, anyPastLimit, Format, done, _then_}
+use Rattle.layout.specs.Layout.{bit, isSet, Field, joined, pastLimit, anyPastLimit, _then_}
 use Rattle.layout.proofs.Makes.{Makes, makes-then}
 use Rattle.parameters.specs.Checking.{dataChecks}
 use Rattle.parameters.specs.Line.{Parameters, announced, dataFor, parameters, parametersOctets}

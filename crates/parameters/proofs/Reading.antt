@@ -20,7 +20,7 @@ use Rattle.octets.specs.declared.Span.{Span}
 use Rattle.octets.proofs.Places.{span-there}
 use Rattle.octets.proofs.Each.{octets-drop}
 use Rattle.coding.specs.Coding.{codingOf, dataOctets}
-use Rattle.layout.specs.Layout.{any, upTo, isSet, Format, done, _then_, Reached, reached, halted, reading, readFrom, indicatorSize, indicatorAt, leadingAt}
+use Rattle.layout.specs.Layout.{upTo, isSet, Format, done, _then_, Reached, reached, halted, reading, readFrom, indicatorSize, indicatorAt, leadingAt}
 use Rattle.layout.proofs.Makes.{makes}
 use Rattle.layout.proofs.Fields.{indicator-positive}
 use Rattle.layout.proofs.Steps.{goOn, part-by-part, octet-goes-on, octet-ends, span-goes-on, span-ends, done-reached}

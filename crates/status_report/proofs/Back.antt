@@ -2,20 +2,18 @@
 -- Assumes nothing.
 use Prim.Native.Nat.{ℕ, _+_, _≤_, _<_}
 use mathlib.Core.Path.{_≡_, refl, sym, ap, _∙_}
-use mathlib.Core.Bool.{Bool, true, false, not, _&&_, _||_, false≢true}
-use mathlib.Core.List.{List, [], _∷_, _++_, append-nil}
-use mathlib.Core.Option.{Option, none, some}
+use mathlib.Core.Bool.{Bool, true, _&&_}
+use mathlib.Core.List.{List, [], _∷_, _++_}
 use native.Mathlib.Omega.{arith}
-use borrow.Author.Tests.{eq-eqb, eqb-true, leb-true, ltb-false}
-use lib.Dec.{eqb, leb, ltb}
+use borrow.Author.Tests.{eqb-true, ltb-false}
+use lib.Dec.{eqb, ltb}
 use lib.ListN.{length, take, drop, length-append, length-drop}
-use lib.Seq.{length-take-le, take-at, drop-at, drop-drop}
+use lib.Seq.{length-take-le, drop-at, drop-drop}
 use Rattle.octets.specs.Checks.{_unless_, found}
-use Rattle.octets.specs.Choice.{if_then_else_, flag}
-use Rattle.octets.specs.Lent.{Making, refused, made}
+use Rattle.octets.specs.Choice.{flag}
+use Rattle.octets.specs.Lent.{made}
 use Rattle.octets.specs.declared.Checked.{Checked}
-use Rattle.octets.specs.declared.Refusal.{Refusal}
-use Rattle.octets.specs.declared.Refusal.the-variants.{LengthTooLarge, WrongMessageType, NotATime, NumberTypeOrPlanTooLarge, NotInAlphabet, AddressTooLong, ParametersWithoutIndicator}
+use Rattle.octets.specs.declared.Refusal.the-variants.{LengthTooLarge, NotATime, ParametersWithoutIndicator}
 use Rattle.octets.specs.declared.Written.{Written}
 use Rattle.octets.proofs.Choice.{and-true, or-false, both, both-holds, same, same-is}
 use Rattle.octets.proofs.Checks.{holds, both-hold, made-unless, made-told}
@@ -24,22 +22,17 @@ use Rattle.coding.specs.Coding.{dataWith, dataOf}
 use Rattle.coding.proofs.Laws.{data-held}
 use Rattle.time.specs.Time.{isTime, timeDigits, timeOctets, timeIn, digitsOf, capitals}
 use Rattle.time.proofs.Laws.{digits-back, length-digits, time-means, time-held, time-size}
-use Rattle.address.specs.Address.{addressIn, addressWith, addressOctets, addressSize, addressChecks, canonicalAddress, octetsOr, isSome, textIn, textHeld}
-use Rattle.address.specs.declared.SMSAddress.{SMSAddress}
-use Rattle.address.proofs.Shapes.{octets-read}
+use Rattle.address.specs.Address.{addressIn, addressWith, addressOctets, addressSize, addressChecks, canonicalAddress, octetsOr, textHeld}
 use Rattle.address.proofs.Laws.{Spelled, address-passed}
-use Rattle.layout.specs.Layout.{Kind, first, octet, octets, any, leading, address, isSet, messageType, kept, Whole, canon, Format, field, require, one, reached, reading, readFrom, read}
-use Rattle.layout.proofs.Fields.{own}
-use Rattle.layout.proofs.Laws.{goes-on}
+use Rattle.layout.specs.Layout.{octet, octets, any, address, isSet, messageType, kept, Format, field, one, reached, reading, readFrom, read}
 use Rattle.layout.proofs.Steps.{done-reached, end-not-reached}
 use Rattle.layout.proofs.Back.{field-read, message-read}
 use Rattle.parameters.specs.Checking.{indicatorChecks, dataChecks}
-use Rattle.parameters.specs.Line.{Parameters, parameters, parametersOctets}
+use Rattle.parameters.specs.Line.{Parameters, parametersOctets}
 use Rattle.parameters.specs.Optional.{octetsHeld, held}
 use Rattle.parameters.specs.declared.OptionalOctet.{OptionalOctet}
 use Rattle.parameters.specs.declared.OptionalOctet.the-variants.{Absent, Present}
 use Rattle.parameters.proofs.Back.{indicator-here, not-extended, parameters-here, parameters-limit}
-use Rattle.parameters.proofs.Made.{one-at-most}
 use Rattle.status_report.specs.StatusReport.{bits, reported, behindStatus, behindAddress, line, statusReport, octetsIn, optionalChecks, checksBehind, making, firstOf, parametersOf, reporting, parts, capitalised, tooLong}
 use Rattle.status_report.specs.declared.SmsStatusReport.{SmsStatusReport}
 

@@ -5,8 +5,7 @@ use mathlib.Core.Path.{_≡_, refl, sym, _∙_}
 use mathlib.Core.List.{List}
 use native.Mathlib.Omega.{arith}
 use lib.Dec.{eqb}
-use lib.ListN.{length, take, drop, length-drop}
-use lib.Seq.{length-take-le}
+use lib.ListN.{length, take, drop}
 use Rattle.octets.specs.Arrays.{pad}
 use Rattle.octets.specs.Each.{Octets}
 use Rattle.octets.specs.Places.{octetAt, spanAt}
@@ -16,27 +15,23 @@ use Rattle.octets.specs.declared.Place.{Place}
 use Rattle.octets.specs.declared.Refusal.{Refusal}
 use Rattle.octets.specs.declared.Refusal.the-variants.{OctetsEnd, WrongMessageType}
 use Rattle.octets.specs.declared.Span.{Span}
-use Rattle.octets.proofs.Laws.{pad-full, part-is, part-size}
+use Rattle.octets.proofs.Laws.{part-is, part-size}
 use Rattle.octets.proofs.Places.{octet-read, span-there, start}
-use Rattle.octets.proofs.Each.{octets-take, octets-drop}
-use Rattle.coding.specs.Coding.{dataWith}
 use Rattle.coding.proofs.Laws.{data-stored}
-use Rattle.time.specs.Time.{timeDigits, timeIn}
-use Rattle.time.proofs.Laws.{length-digits, time-stored}
+use Rattle.time.specs.Time.{timeDigits}
+use Rattle.time.proofs.Laws.{time-stored}
 use Rattle.address.specs.Address.{addressIn, addressSize, canonicalAddress}
 use Rattle.address.specs.Parts.{fieldAt}
 use Rattle.address.specs.declared.SMSAddress.{SMSAddress}
-use Rattle.address.proofs.Laws.{canonical-reads}
 use Rattle.layout.specs.Layout.{Format, any, address, field, one, cut, kept, messageType, Reached, reached, halted, read, readFrom, indicatorAt}
-use Rattle.layout.proofs.Fields.{cut-whole, address-there}
+use Rattle.layout.proofs.Fields.{address-there}
 use Rattle.layout.proofs.FirstOctet.{kept-bit}
-use Rattle.layout.proofs.Laws.{within-from}
 use Rattle.layout.proofs.Steps.{message-goes-on, message-differs, message-ends, octet-goes-on, octet-ends, span-goes-on, span-ends, address-goes-on, address-ends, indicator-goes-on, indicator-ends, end-reached, end-not-reached, then-goes-on, then-ends, done-reached, address-inside}
 use Rattle.parameters.specs.Line.{Parameters, parameters, parametersAnswer, noParameters}
 use Rattle.parameters.specs.declared.OptionalOctet.{OptionalOctet}
 use Rattle.parameters.specs.declared.OptionalOctet.the-variants.{Absent, Present}
 use Rattle.parameters.specs.declared.ParametersRead.{ParametersRead}
-use Rattle.parameters.proofs.Reading.{Told, parameters-told, parameters-halted, indicator-within}
+use Rattle.parameters.proofs.Reading.{Told, parameters-halted}
 use Rattle.status_report.specs.declared.SmsStatusReport.{SmsStatusReport}
 use Rattle.status_report.specs.declared.StatusReportRead.{StatusReportRead}
 use Rattle.status_report.specs.StatusReport.{bits, reported, behindStatus, behindAddress, line, statusReport, answer, unread}

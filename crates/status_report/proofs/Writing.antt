@@ -1,13 +1,12 @@
 -- What the writer makes, check by check.
 -- Assumes nothing.
 use Prim.Native.Nat.{ℕ, _+_, _/_, _≤_, _<_}
-use mathlib.Core.Path.{_≡_, refl, sym, ap, _∙_}
-use mathlib.Core.Bool.{Bool, true, false}
+use mathlib.Core.Path.{_≡_, sym, _∙_}
+use mathlib.Core.Bool.{true}
 use mathlib.Core.List.{List, _∷_}
 use native.Mathlib.Omega.{arith}
 use borrow.Author.Tests.{eq-eqb, ne-eqb, lt-ltb, le-ltb}
 use lib.ListN.{length, length-append}
-use lib.Seq.{length-sets}
 use Rattle.octets.specs.Checks.{_unless_, checked, found}
 use Rattle.octets.specs.Lent.{Making, refused, made, lend, Wrote}
 use Rattle.octets.specs.declared.Checked.{Checked}
@@ -16,7 +15,7 @@ use Rattle.octets.specs.declared.Refusal.the-variants.{LengthTooLarge, NotATime
 use Rattle.octets.specs.declared.Written.{Written}
 use Rattle.octets.proofs.Laws.{lent-refused, lent-short, lent-written}
 use Rattle.octets.proofs.Checks.{holds, passed, against, all-passed, one-against}
-use Rattle.time.specs.Time.{isTime, timeOctets, digitsOf}
+use Rattle.time.specs.Time.{isTime, digitsOf}
 use Rattle.time.proofs.Laws.{time-size}
 use Rattle.address.specs.declared.AddressCheck.{AddressCheck}
 use Rattle.address.specs.Address.{addressMaking, textHeld}

@@ -1,6 +1,6 @@
 -- SMS-STATUS-REPORT (TS 23.040 §9.2.2.3): its line, its reader's answer, and what its writer makes.
 use Prim.Native.Nat.{ℕ, _+_}
-use mathlib.Core.Bool.{Bool, true, false, _||_}
+use mathlib.Core.Bool.{Bool, false, _||_}
 use mathlib.Core.List.{List, [], _∷_, _++_}
 use lib.Dec.{eqb, ltb}
 use lib.ListN.{length}

@@ -1,12 +1,12 @@
 -- Demand 3 of SMS-SUBMIT.
 -- Assumes nothing.
 use Prim.Native.Nat.{ℕ, _+_, _*_, _≤_, _<_}
-use mathlib.Core.Path.{_≡_, refl, sym, ap, _∙_}
-use mathlib.Core.Bool.{Bool, true, false, not, _||_, false≢true}
+use mathlib.Core.Path.{_≡_, refl, sym, _∙_}
+use mathlib.Core.Bool.{Bool, true, false, _||_}
 use mathlib.Core.List.{List, [], _∷_, _++_, append-nil}
 use mathlib.Core.Option.{Option, none, some}
 use native.Mathlib.Omega.{arith}
-use borrow.Author.Tests.{eqb-true, eq-eqb, le-leb, lt-leb, leb-true, ltb-true, ltb-false}
+use borrow.Author.Tests.{eqb-true, eq-eqb, le-leb, leb-true}
 use lib.Dec.{eqb, ltb}
 use lib.ListN.{length, getD, take, length-take}
 use Rattle.octets.specs.Arrays.{pad}
@@ -14,22 +14,18 @@ use Rattle.octets.specs.Choice.{if_then_else_, flag}
 use Rattle.octets.specs.Checks.{Check, _unless_, checked}
 use Rattle.octets.specs.Each.{Octets}
 use Rattle.octets.specs.Lent.{Making, refused, made}
-use Rattle.octets.specs.declared.Checked.{Checked}
 use Rattle.octets.specs.declared.Refusal.the-variants.{UserDataTooLong, AddressTooLong, WrongMessageType, ValidityFormatDisagrees, NotATime, NoDestination}
 use Rattle.octets.specs.declared.Written.{Written}
 use Rattle.octets.proofs.Laws.{take-pad}
 use Rattle.octets.proofs.Table.{below}
 use Rattle.octets.proofs.Checks.{check-holds, no-checks}
-use Rattle.coding.specs.Coding.{codingOf, dataOctets, checkedData, dataWith, dataChecks}
+use Rattle.coding.specs.Coding.{codingOf, dataOctets, dataWith, dataChecks}
 use Rattle.coding.proofs.Laws.{data-held, data-at-most, data-limit}
 use Rattle.time.specs.Time.{timeIn}
-use Rattle.address.specs.declared.AddressCheck.{AddressCheck}
-use Rattle.address.specs.Address.{typeOfNumber, planOf, textIn, addressIn, addressWith, addressOctets, octetsOr, canonicalAddress, addressMaking, addressChecks}
-use Rattle.address.specs.Parts.{checkOf}
-use Rattle.address.proofs.Checks.{encoding-parts}
-use Rattle.address.proofs.Laws.{Field as AddressField, canonical-reads, canonical-field, text-short, read-written, address-equal, read-checked}
+use Rattle.address.specs.Address.{typeOfNumber, planOf, textIn, addressIn, addressWith, addressOctets, octetsOr, canonicalAddress, addressChecks}
+use Rattle.address.proofs.Laws.{Field as AddressField, canonical-reads, canonical-field, text-short, address-equal, read-checked}
 use Rattle.layout.specs.Demand.{Demand3}
-use Rattle.layout.specs.Layout.{first, octet, octets, address, isSet, messageType, kept, reached, read, canonicalOf, unwritable}
+use Rattle.layout.specs.Layout.{octets, isSet, messageType, kept, reached, read, canonicalOf, unwritable}
 use Rattle.layout.proofs.Demand.{Answers, Writes, demand3, answers-plain, answers-two}
 use Rattle.layout.proofs.Rewriting.{Told}
 use Rattle.layout.proofs.Makes.{Makes}
@@ -39,7 +35,7 @@ use Rattle.submit.specs.Parts.{Destination, Parts, parts}
 use Rattle.submit.proofs.Period.{digitsCount, digitsBeside, Held, period-held}
 use Rattle.submit.proofs.Reading.{kept-whole}
 use Rattle.submit.proofs.Text.{readable-short}
-use Rattle.submit.proofs.Writing.{by-parts, data-against, address-against, all-made}
+use Rattle.submit.proofs.Writing.{by-parts}
 
 -- the octets of the parts
 abbrev addressOf : Option Destination → List ℕ

@@ -1,26 +1,20 @@
 -- Parts of a string, as the code cuts them out, and the record that they make.
 -- Assumes nothing.
-use Prim.Native.Nat.{ℕ, zero, suc, _+_, _-_, _/_, _%_, _≤_}
+use Prim.Native.Nat.{ℕ, zero, suc, _/_, _%_, _≤_}
 use mathlib.Core.Bool.{true}
 use mathlib.Core.Path.{_≡_, refl, ap}
 use mathlib.Core.List.{List, [], _∷_}
 use native.Mathlib.Nat.{le-of-suc-le-suc}
 use native.Mathlib.Omega.{arith}
 use lib.Dec.{eqb}
-use lib.ListN.{length, take, drop, length-drop}
-use lib.Seq.{length-take-le}
+use lib.ListN.{take}
 use Rattle.octets.specs.Arrays.{pad}
-use Rattle.octets.specs.Each.{Octets}
-use Rattle.octets.proofs.Each.{octets-take, octets-drop}
 use Rattle.coding.specs.declared.UserData.{UserData}
 use Rattle.coding.specs.Coding.{codingOf, dataWith}
 use Rattle.time.specs.declared.Time.{Time}
 use Rattle.time.specs.Time.{timeIn}
 use Rattle.address.specs.declared.SMSAddress.{SMSAddress}
-use Rattle.address.specs.Address.{addressIn, addressSize, canonicalAddress}
-use Rattle.address.proofs.Laws.{canonical-reads}
-use Rattle.layout.specs.Layout.{address, cut}
-use Rattle.layout.proofs.Fields.{cut-whole}
+use Rattle.address.specs.Address.{addressIn}
 use Rattle.submit.specs.declared.SmsSubmit.{SmsSubmit}
 use Rattle.submit.specs.declared.SubmitText.{SubmitText}
 use Rattle.submit.specs.declared.ValidityPeriod.{ValidityPeriod}

@@ -1,10 +1,9 @@
 -- What was written is read as it was (demand 2), but for header and text, which are derived.
 -- Assumes nothing.
 use Prim.Native.Nat.{ℕ, _+_, _*_, _<_}
-use mathlib.Core.Path.{_≡_, refl, sym, ap, _∙_}
-use mathlib.Core.Bool.{Bool, true, false, not, _&&_, false≢true}
+use mathlib.Core.Path.{_≡_, refl, sym, _∙_}
+use mathlib.Core.Bool.{Bool, true, _&&_}
 use mathlib.Core.List.{List, []}
-use mathlib.Core.Option.{Option, none, some}
 use native.Mathlib.Omega.{arith}
 use borrow.Author.Tests.{eqb-true, ltb-true}
 use lib.Dec.{eqb, leb, ltb}
@@ -16,9 +15,7 @@ use Rattle.octets.proofs.Table.{allBelow, below}
 use Rattle.octets.specs.Choice.{if_then_else_, flag}
 use Rattle.time.specs.Time.{timeIn, timeDigits, timeOctets, capitals}
 use Rattle.time.proofs.Laws.{digits-back}
-use Rattle.address.specs.Address.{textIn, addressIn, addressWith, addressOctets, addressSize, canonicalAddress, octetsOr, isSome, textHeld}
-use Rattle.address.specs.declared.SMSAddress.{SMSAddress}
-use Rattle.address.proofs.Shapes.{octets-read}
+use Rattle.address.specs.Address.{addressIn, addressWith, addressOctets, octetsOr}
 use Rattle.layout.specs.Layout.{isSet, messageType, reached, halted, read}
 use Rattle.coding.specs.Coding.{codingOf, dataOf}
 use Rattle.coding.proofs.Laws.{data-held}

@@ -7,7 +7,7 @@ use mathlib.Core.List.{List}
 use native.Mathlib.Omega.{arith}
 use borrow.Author.Tests.{eqb-true, le-leb, lt-leb}
 use lib.Dec.{eqb, leb}
-use lib.ListN.{length, take, drop, length-drop}
+use lib.ListN.{length, take, drop}
 use lib.Seq.{length-take-le}
 use Rattle.octets.specs.Each.{Octets}
 use Rattle.octets.specs.Places.{octetAt, spanAt}

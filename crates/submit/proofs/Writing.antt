@@ -1,27 +1,25 @@
 -- What the writer makes, check by check.
 -- Assumes nothing.
-use Prim.Native.Nat.{ℕ, _+_, _*_, _/_, _≤_, _<_}
-use mathlib.Core.Path.{_≡_, refl, _∙_}
-use mathlib.Core.Bool.{Bool, true, false, _&&_}
+use Prim.Native.Nat.{ℕ, _+_, _*_, _/_, _≤_}
+use mathlib.Core.Path.{_≡_, _∙_}
+use mathlib.Core.Bool.{Bool, true, false}
 use mathlib.Core.List.{List, [], _∷_, _++_}
-use mathlib.Core.Logic.{⊎-elim}
 use native.Mathlib.Omega.{arith}
 use borrow.Author.Tests.{eqb-true, eq-eqb, ne-eqb, leb-true}
 use lib.Dec.{eqb, leb}
 use lib.ListN.{length, take, length-append}
-use Rattle.octets.proofs.Choice.{chosen, and-true}
+use Rattle.octets.proofs.Choice.{and-true}
 use Rattle.octets.proofs.Checks.{holds, both-hold, made-told}
 use Rattle.octets.specs.Checks.{_unless_, checked, afterChecked}
 use Rattle.octets.specs.Lent.{Making, refused, made}
 use Rattle.octets.specs.declared.Checked.{Checked}
 use Rattle.octets.specs.declared.Refusal.{Refusal}
-use Rattle.octets.specs.declared.Refusal.the-variants.{LengthTooLarge, WrongMessageType, ValidityFormatDisagrees, NoDestination, UserDataLengthDisagrees, UserDataTooLong, NumberTypeOrPlanTooLarge, NotInAlphabet, AddressTooLong, NotATime}
+use Rattle.octets.specs.declared.Refusal.the-variants.{LengthTooLarge, WrongMessageType, ValidityFormatDisagrees, NoDestination, NotATime}
 use Rattle.octets.specs.declared.Written.{Written}
 use Rattle.coding.specs.Coding.{codingOf, dataOctets, checkedData, dataOf, dataChecks}
 use Rattle.coding.proofs.Laws.{data-checked, data-passed}
 use Rattle.address.specs.declared.AddressCheck.{AddressCheck}
-use Rattle.octets.specs.Choice.{if_then_else_}
-use Rattle.address.specs.Address.{isSome, addressOctets, octetsOr, addressChecks, addressMaking}
+use Rattle.address.specs.Address.{addressOctets, octetsOr, addressChecks, addressMaking}
 use Rattle.address.specs.Parts.{checkOf}
 use Rattle.address.proofs.Checks.{afterCheck, address-checked, fine-size}
 use Rattle.address.proofs.Laws.{Spelled, address-passed}

@@ -2,22 +2,18 @@
 -- Assumes nothing.
 use Prim.Native.Nat.{ℕ, _+_, _<_}
 use mathlib.Core.Path.{_≡_, refl, ap, _∙_}
-use mathlib.Core.Bool.{Bool, true}
-use mathlib.Core.List.{List, [], _∷_, _++_, append-nil}
+use mathlib.Core.Bool.{Bool}
+use mathlib.Core.List.{List, [], _∷_, _++_}
 use native.Mathlib.Nat.{add-assoc}
 use native.Mathlib.Omega.{arith}
-use borrow.Author.Tests.{eq-eqb}
-use lib.Dec.{eqb, leb}
+use lib.Dec.{leb}
 use lib.ListN.{length, length-append}
-use lib.Seq.{take-at, drop-at}
 use Rattle.octets.specs.Choice.{if_then_else_}
 use Rattle.octets.specs.declared.Refusal.{Refusal}
-use Rattle.octets.specs.declared.Refusal.the-variants.{WrongMessageType, HeaderNotWhole, HeaderPassesCount}
+use Rattle.octets.specs.declared.Refusal.the-variants.{HeaderNotWhole, HeaderPassesCount}
 use Rattle.coding.specs.Coding.{codingOf, dataOctets}
 use Rattle.address.specs.Address.{addressSize, canonicalAddress}
-use Rattle.layout.specs.Layout.{Kind, first, octet, octets, any, leading, require, done, address, userData, isSet, messageType, Whole, canon, Format, field, Reached, reached, halted, reading, readFrom, read}
-use Rattle.layout.proofs.Fields.{own}
-use Rattle.layout.proofs.Laws.{goes-on}
+use Rattle.layout.specs.Layout.{octet, octets, any, require, done, address, userData, isSet, messageType, Reached, reached, halted, reading, readFrom, read}
 use Rattle.layout.proofs.Back.{field-read, field-last, message-read}
 use Rattle.submit.specs.declared.SmsSubmit.{SmsSubmit}
 use Rattle.submit.specs.Submit.{formatIn, periodSize, headerSize, inCount, submitted, bits, behindCoding, behindFirst, line, submit}

@@ -1,7 +1,7 @@
 // SMS-SUBMIT (TS 23.040 §9.2.2.2).
 ghost use mathlib.Core.Path.{_≡_};
 ghost use mathlib.Core.Bool.{true, false};
-ghost use mathlib.Core.List.{List, [], _∷_, _++_};
+ghost use mathlib.Core.List.{_++_};
 ghost use Prim.Native.Nat.{_+_, _-_, _*_, _/_, _%_, _≤_, _<_};
 ghost use lib.ListN.{length, take, drop};
 ghost use Rattle.octets.specs.Lent.{Wrote, lend};
@@ -11,10 +11,10 @@ ghost use Rattle.septets.specs.Septets.{headerSeptets, fillBits, septetsIn};
 ghost use Rattle.text.specs.Reading.{textOf};
 ghost use Rattle.time.specs.Time.{timeIn};
 ghost use Rattle.layout.specs.Demand.{Rewrites};
-ghost use Rattle.layout.specs.Layout.{read, readFrom, cut, isSet, address as addressKind};
+ghost use Rattle.layout.specs.Layout.{read, readFrom, cut, address as addressKind};
 ghost use Rattle.address.specs.Address.{addressMaking, addressSize, canonicalAddress};
 ghost use Rattle.address.specs.Parts.{checkOf};
-ghost use Rattle.submit.specs.Submit.{submit, behindCoding, submitted, answer, unread, headerSize, inCount, readable, textWith, formatIn, formatOf, periodIn, ofFormat, periodSize, periodOctets, timeHolds, isAbsolute, lengthIf, octetsIn, making, submitting};
+ghost use Rattle.submit.specs.Submit.{submit, behindCoding, submitted, answer, unread, headerSize, inCount, readable, textWith, formatIn, formatOf, periodIn, ofFormat, periodSize, periodOctets, timeHolds, lengthIf, octetsIn, making, submitting};
 use address::AddressCheck;
 use address::SMSAddress;
 use coding::UserData;

@@ -2,16 +2,16 @@
 -- Assumes nothing.
 use Prim.Native.Nat.{ℕ, zero, suc, _+_, _≤_}
 use mathlib.Core.Path.{_≡_, refl, sym, ap, _∙_}
-use mathlib.Core.Bool.{Bool, true, false, _&&_}
-use mathlib.Core.List.{List, [], _∷_, _++_, append-nil}
+use mathlib.Core.Bool.{true, _&&_}
+use mathlib.Core.List.{List, [], _∷_, _++_}
 use native.Mathlib.Omega.{arith}
 use borrow.Author.Tests.{leb-true}
 use lib.Dec.{leb}
-use lib.ListN.{length, drop, length-append}
-use lib.Seq.{length-take-le, drop-drop, take-at, drop-at}
+use lib.ListN.{length, drop}
+use lib.Seq.{length-take-le, drop-drop, drop-at}
 use Rattle.octets.specs.Checks.{_unless_, found}
 use Rattle.octets.specs.Choice.{if_then_else_}
-use Rattle.octets.specs.Lent.{Making, made, refused}
+use Rattle.octets.specs.Lent.{made, refused}
 use Rattle.octets.specs.declared.Checked.{Checked}
 use Rattle.octets.specs.declared.Refusal.the-variants.{LengthTooLarge, UdhiTooLarge, NotATime}
 use Rattle.octets.specs.declared.Written.{Written}
@@ -21,7 +21,7 @@ use Rattle.octets.proofs.Choice.{and-true}
 use Rattle.coding.specs.Coding.{dataWith, dataOf}
 use Rattle.time.specs.Time.{isTime, timeDigits, timeOctets, timeIn, digitsOf}
 use Rattle.time.proofs.Laws.{time-means, length-digits, digits-back, time-size}
-use Rattle.layout.specs.Layout.{octets, any, Format, time, reached, reading, readFrom, read}
+use Rattle.layout.specs.Layout.{octets, any, time, reached, readFrom, read}
 use Rattle.layout.proofs.Steps.{done-reached}
 use Rattle.layout.proofs.Back.{field-here}
 use Rattle.parameters.specs.Checking.{indicatorChecks, dataChecks}

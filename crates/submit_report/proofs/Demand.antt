@@ -6,7 +6,6 @@ use mathlib.Core.Bool.{Bool, true, false, _||_}
 use mathlib.Core.List.{List, [], _∷_, _++_, append-nil}
 use native.Mathlib.Omega.{arith}
 use borrow.Author.Tests.{le-leb, eqb-true}
-use lib.Dec.{eqb, leb}
 use lib.ListN.{length, length-append}
 use Rattle.octets.specs.Checks.{Check, _unless_, checked}
 use Rattle.octets.specs.Each.{Octets}

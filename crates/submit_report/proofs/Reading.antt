@@ -1,43 +1,32 @@
 -- The readers of SMS-SUBMIT-REPORT, field by field.
 -- Assumes nothing.
 use Prim.Native.Nat.{ℕ, _+_, _-_, _≤_}
-use mathlib.Core.Path.{_≡_, refl, ap, _∙_}
-use mathlib.Core.Bool.{not}
-use mathlib.Core.List.{List, [], _∷_}
-use native.Mathlib.Omega.{arith}
-use borrow.Author.Tests.{eq-eqb, ne-eqb}
-use lib.Bits.{bitAnd}
-use lib.Dec.{eqb}
-use lib.ListN.{length, take, drop, length-drop}
+use mathlib.Core.Path.{_≡_, _∙_}
+use mathlib.Core.List.{List}
+use lib.ListN.{length, take, drop}
 use lib.Seq.{length-take-le}
 use Rattle.octets.specs.Arrays.{pad}
 use Rattle.octets.specs.Each.{Octets}
-use Rattle.octets.specs.Places.{octetAt, spanAt}
+use Rattle.octets.specs.Places.{spanAt}
 use Rattle.octets.specs.declared.Octet.{Octet}
 use Rattle.octets.specs.declared.Outcome.{Outcome}
 use Rattle.octets.specs.declared.Place.{Place}
 use Rattle.octets.specs.declared.Refusal.{Refusal}
-use Rattle.octets.specs.declared.Refusal.the-variants.{OctetsEnd, WrongMessageType}
+use Rattle.octets.specs.declared.Refusal.the-variants.{OctetsEnd}
 use Rattle.octets.specs.declared.Span.{Span}
-use Rattle.octets.proofs.Laws.{pad-full}
 use Rattle.octets.proofs.Places.{span-there, span-inside}
-use Rattle.coding.specs.Coding.{dataWith}
 use Rattle.coding.proofs.Laws.{data-stored}
-use Rattle.time.specs.Time.{timeDigits, timeIn}
-use Rattle.time.proofs.Laws.{length-digits, time-stored}
-use Rattle.layout.specs.Layout.{any, bit, messageType, Format, one, reached, halted, readFrom, indicatorAt, stops, read}
-use Rattle.layout.proofs.FirstOctet.{kept-bit}
-use Rattle.layout.proofs.Laws.{within-from}
-use Rattle.layout.proofs.Steps.{message-goes-on, message-differs, message-ends, octet-goes-on, octet-ends, indicator-goes-on, indicator-ends, span-goes-on, span-ends, stops-by, stops-none, then-goes-on, then-ends, done-reached}
+use Rattle.time.specs.Time.{timeDigits}
+use Rattle.time.proofs.Laws.{time-stored}
+use Rattle.layout.specs.Layout.{any, halted, readFrom, indicatorAt}
+use Rattle.layout.proofs.Steps.{indicator-goes-on, indicator-ends, span-goes-on, span-ends, then-goes-on, then-ends, done-reached}
 use Rattle.parameters.specs.Line.{parameters, parametersAnswer}
 use Rattle.parameters.specs.declared.OptionalOctet.{OptionalOctet}
-use Rattle.parameters.specs.declared.OptionalOctet.the-variants.{Absent, Present}
 use Rattle.parameters.specs.declared.ParametersRead.{ParametersRead}
 use Rattle.parameters.proofs.Reading.{Told, parameters-told, parameters-halted, indicator-within}
 use Rattle.parameters.proofs.Outcomes.{Outcomes, outcomes-of}
 use Rattle.submit_report.specs.SubmitReport.{reported, rest, ackLine, errorLine, stopped, ack, error, answer}
 use Rattle.submit_report.specs.declared.SubmitReportRead.{SubmitReportRead}
-use Rattle.submit_report.specs.declared.SmsSubmitReport.{SmsSubmitReport}
 
 -- ---- behind first octet and cause
 

@@ -16,7 +16,7 @@ use Rattle.octets.specs.declared.Refusal.the-variants.{LengthTooLarge, UdhiTooL
 use Rattle.octets.specs.declared.Written.{Written}
 use Rattle.octets.proofs.Laws.{lent-refused, lent-short, lent-written}
 use Rattle.octets.proofs.Checks.{passed, against, all-passed, one-against}
-use Rattle.time.specs.Time.{isTime, timeOctets, digitsOf}
+use Rattle.time.specs.Time.{isTime, digitsOf}
 use Rattle.time.proofs.Laws.{time-size}
 use Rattle.parameters.specs.Checking.{indicatorChecks, dataChecks}
 use Rattle.parameters.specs.Line.{Parameters}

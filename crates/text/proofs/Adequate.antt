@@ -1,14 +1,14 @@
 -- A text is written exactly when it is characters of the two tables, one after the other; and text to septets and back is the text.
 -- Assumes nothing.
-use Prim.Native.Nat.{ℕ, zero, suc, _+_, _-_, _*_, _/_, _%_, _<_, _≤_}
+use Prim.Native.Nat.{ℕ, zero, suc, _+_, _-_, _/_, _%_, _<_, _≤_}
 use mathlib.Core.Path.{_≡_, refl, sym, _∙_, ap, ap₂, subst}
 use mathlib.Core.Bool.{Bool, true, false, true≢false}
-use mathlib.Core.List.{List, [], _∷_, _++_, append-assoc}
+use mathlib.Core.List.{List, [], _∷_, _++_}
 use mathlib.Core.Option.{Option, none, some}
 use mathlib.Core.Logic.{_↔_}
 use native.Mathlib.Omega.{arith}
 use native.Mathlib.Nat.{not-suc-le-zero, zero-add}
-use borrow.Author.Tests.{ltb-true, ltb-false, eqb-true, eqb-false, ne-eqb, eq-eqb, lt-ltb, le-ltb}
+use borrow.Author.Tests.{ltb-true, ltb-false, eqb-true, ne-eqb, lt-ltb, le-ltb}
 use lib.Dec.{eqb, ltb}
 use lib.ListN.{length, getD, drop, length-append}
 use lib.Seq.{drop-append-seam}
@@ -17,12 +17,11 @@ use Rattle.octets.proofs.Choice.{and-true}
 use Rattle.octets.proofs.Table.{below}
 use Rattle.septets.specs.Septets.{Digits, septetsIn, packedSeptets}
 use Rattle.septets.proofs.Inverse.{unpack-pack}
-use Rattle.text.specs.declared.Extension.{Extension}
 use Rattle.text.specs.declared.Code.{Code}
 use Rattle.text.specs.declared.Code.the-variants.{Single, Escaped, Absent}
 use Rattle.text.specs.declared.Scalar.{Scalar}
 use Rattle.text.specs.declared.Scalar.the-variants.{Read, Broken}
-use Rattle.text.specs.Alphabet.{alphabet, extension, row, character, escaped}
+use Rattle.text.specs.Alphabet.{alphabet, extension, row, character}
 use Rattle.text.specs.Reading.{utf8, textOf, afterEscape}
 use Rattle.text.specs.Writing.{same, codeOf, before, behind, scan, septetsOf, twoOctets, threeOctets, firstCharacter}
 use Rattle.text.specs.Characters.{Entry, plain, extended, octetsFor, septetsFor, spelled, coded}

@@ -3,7 +3,6 @@
 use Prim.Native.Nat.{ℕ, _<_, _≤_}
 use mathlib.Core.Path.{_≡_, refl, sym, _∙_, ap}
 use mathlib.Core.Bool.{Bool, true, false, _&&_, false≢true}
-use mathlib.Core.List.{List, [], _∷_}
 use mathlib.Core.Option.{Option, none, some}
 use native.Mathlib.Omega.{arith}
 use borrow.Author.Tests.{ltb-true, eqb-true, eqb-false, ne-eqb, leb-true}
@@ -15,7 +14,7 @@ use Rattle.octets.proofs.Table.{below}
 use Rattle.text.specs.declared.Extension.{Extension}
 use Rattle.text.specs.declared.Code.{Code}
 use Rattle.text.specs.declared.Code.the-variants.{Single, Escaped, Absent}
-use Rattle.text.specs.Alphabet.{alphabet, extension, row, rowWith, indexOf, character, characterOr, escaped}
+use Rattle.text.specs.Alphabet.{alphabet, extension, row, rowWith, indexOf, character, escaped}
 use Rattle.text.specs.Reading.{utf8}
 use Rattle.text.specs.Writing.{codeOf, codeAfterEscape, extendedCode}
 use Rattle.text.proofs.Rows.{Stands, row-stands, index-found}

@@ -1,22 +1,16 @@
 -- `deliver::behind_address` meets its contract: field by field, as the line has them.
 -- Assumes nothing.
-use Prim.Native.Nat.{ℕ, _+_, _≤_, _<_}
-use mathlib.Core.Path.{_≡_, refl, sym, ap, _∙_}
+use Prim.Native.Nat.{ℕ, _≤_}
+use mathlib.Core.Path.{_≡_, sym, _∙_}
 use mathlib.Core.List.{List}
 use native.Mathlib.Omega.{arith}
 use borrow.Author.Needs.{needs}
 use denote.Ref.{now}
-use lib.ListN.{length, getD, take, drop, length-drop}
+use lib.ListN.{getD}
 use Rattle.octets.specs.Each.{Octets}
-use Rattle.octets.specs.Places.{octetAt, spanAt}
-use Rattle.octets.specs.declared.Octet.{Octet}
-use Rattle.octets.specs.declared.Place.{Place}
-use Rattle.octets.specs.declared.Span.{Span}
 use Rattle.octets.proofs.Places.{octet-read, span-there, span-inside}
-use Rattle.coding.specs.declared.UserDataCoding.{UserDataCoding}
 use Rattle.coding.specs.Coding.{codingOf, dataOctets}
 use Rattle.coding.proofs.Laws.{data-at-most, size-told}
-use Rattle.deliver.specs.Deliver.{delivered}
 use Rattle.deliver.proofs.Reading.{answer-ends, answer-done, no-pid, no-dcs, no-time, no-udl, no-data, all-there}
 use Rattle.deliver.proofs.behind_address.Statement.{statement}
 use Rattle.deliver.proofs.behind_address.Tie as tie

@@ -1,21 +1,21 @@
 -- `submit::behind_coding` meets its contract: field by field, as the line has them.
 -- Assumes nothing.
-use Prim.Native.Nat.{ℕ, _+_, _-_, _≤_}
-use mathlib.Core.Path.{_≡_, sym, ap, _∙_}
+use Prim.Native.Nat.{ℕ, _+_, _-_}
+use mathlib.Core.Path.{_≡_, sym, _∙_}
 use mathlib.Core.Bool.{Bool}
 use mathlib.Core.List.{List}
 use native.Mathlib.Omega.{arith}
 use borrow.Author.Needs.{needs}
 use borrow.Author.Tests.{not-true, not-false}
 use denote.Ref.{now}
-use lib.ListN.{length, take, drop, length-drop}
+use lib.ListN.{take, drop}
 use Rattle.octets.specs.Places.{spanAt}
 use Rattle.octets.specs.declared.Place.{Place}
 use Rattle.octets.specs.declared.Span.{Span}
 use Rattle.octets.proofs.Places.{octet-read, span-there, span-inside}
 use Rattle.octets.proofs.Laws.{part-is}
 use Rattle.coding.specs.declared.UserDataCoding.{UserDataCoding}
-use Rattle.coding.specs.Coding.{codingOf, dataOctets}
+use Rattle.coding.specs.Coding.{codingOf}
 use Rattle.coding.proofs.Laws.{size-told}
 use Rattle.submit.specs.Submit.{headerSize, inCount}
 use Rattle.submit.proofs.Reading.{answer-ends, answer-done, no-period, no-udl, no-data, not-whole, passes-count, all-there}

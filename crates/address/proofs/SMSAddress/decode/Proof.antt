@@ -1,15 +1,14 @@
 -- `address::SMSAddress::decode` meets its contract: length octet, type octet, value.
 -- Assumes nothing.
-use Prim.Native.Nat.{ℕ, suc, _+_, _-_, _*_, _/_, _%_, _≤_, _<_}
-use mathlib.Core.Path.{_≡_, refl, sym, ap, _∙_}
+use Prim.Native.Nat.{ℕ, suc, _+_, _-_, _/_, _≤_, _<_}
+use mathlib.Core.Path.{_≡_, refl, ap, _∙_}
 use mathlib.Core.List.{List, [], _∷_}
 use native.Mathlib.Omega.{arith}
 use native.Mathlib.Nat.{add-zero, zero-add}
 use borrow.Author.Needs.{needs}
 use denote.Ref.{now}
-use lib.ListN.{length, getD, take, drop, replicate, length-take, length-drop}
+use lib.ListN.{length, getD, take, drop, replicate}
 use lib.Seq.{getD-drop, getD-take, drop-drop, take-nil}
-use Rattle.octets.specs.Arrays.{pad}
 use Rattle.octets.specs.Each.{Octets}
 use Rattle.octets.specs.Lent.{Wrote}
 use Rattle.octets.proofs.Laws.{sets-zeros, part-is, part-size}
