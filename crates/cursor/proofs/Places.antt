@@ -1,0 +1,39 @@
+-- Behind no octets of a place stands the place, or the end: from there on the same octets are left, so a reader answers as from the place on.
+-- Assumes nothing.
+use Prim.Native.Nat.{ℕ, _+_, _-_, _<_, _≤_}
+use mathlib.Core.Path.{_≡_, sym, ap, _∙_}
+use mathlib.Core.List.{List}
+use mathlib.Core.Logic.{_⊎_, inl, inr, ⊎-elim}
+use native.Mathlib.Omega.{arith}
+use borrow.Author.Tests.{leb-true, leb-false, le-leb, lt-leb}
+use borrow.Rule.Slice.PartAt.{part-to-end}
+use lib.Dec.{leb}
+use lib.ListN.{length, take, drop, drop-of-length-le}
+use Rattle.octets.proofs.Choice.{chosen}
+use Rattle.layout.specs.Layout.{Layout, Reached, read}
+use Rattle.cursor.specs.Cursor.{from, behindPlace}
+
+module _ (s : List ℕ) (place : ℕ) where
+  pub place-inside : (count : ℕ) → place + count ≤ length s → place + count ≡ behindPlace s place count
+  unfolding behindPlace
+  place-inside count h = rw (le-leb _ _ h)
+
+  pub place-past : (count : ℕ) → length s < place + count → length s ≡ behindPlace s place count
+  unfolding behindPlace
+  place-past count h = rw (lt-leb _ _ h)
+
+  module _ {at : ℕ} (e : at ≡ behindPlace s place 0) where
+    -- which of the two it is
+    which : ((place ≤ length s) × (at ≡ place)) ⊎ ((length s < place) × (at ≡ length s))
+    unfolding behindPlace
+    which = ⊎-elim (λ w. inl (omega (arith, leb-true (place + 0) (length s) (w .0)), omega (arith, w .1))) (λ w. inr (omega (arith, leb-false (place + 0) (length s) (w .0)), sym (w .1))) (chosen (leb (place + 0) (length s)) (sym e))
+
+    pub within : at ≤ length s
+    within = ⊎-elim (λ w. omega (arith, w .0, w .1)) (λ w. omega (arith, w .1)) which
+
+    left : drop at s ≡ drop place s
+    left = ⊎-elim (λ w. rw (w .1)) (λ w. drop-of-length-le s {i = at} (omega (arith, w .1)) ∙ sym (drop-of-length-le s {i = place} (omega (arith, w .0)))) which
+
+    pub answers : {R A : Type 0} (layout : Layout R) (answer : Reached R → A) {r : A} → r ≡ answer (read layout (take (length s - at) (drop at s))) → r ≡ answer (from layout s place)
+    unfolding from
+    answers layout answer h = h ∙ ap (λ (t : List ℕ). answer (read layout t)) (part-to-end s at ∙ left)
