@@ -1,4 +1,4 @@
--- Behind no octets of a place stands the place, or the end: from there on the same octets are left, so a reader answers as from the place on.
+-- What the place behind so many octets is. From the start it is as many octets on, or the end: from there on the same octets are left as from that many on, so a reader answers the same.
 -- Assumes nothing.
 use Prim.Native.Nat.{ℕ, _+_, _-_, _<_, _≤_}
 use mathlib.Core.Path.{_≡_, sym, ap, _∙_}
@@ -22,17 +22,22 @@ module _ (s : List ℕ) (place : ℕ) where
   unfolding behindPlace
   place-past count h = rw (lt-leb _ _ h)
 
-  module _ {at : ℕ} (e : at ≡ behindPlace s place 0) where
+  -- from the start
+  module _ {at : ℕ} (e : at ≡ behindPlace s 0 place) where
     -- which of the two it is
     which : ((place ≤ length s) × (at ≡ place)) ⊎ ((length s < place) × (at ≡ length s))
     unfolding behindPlace
-    which = ⊎-elim (λ w. inl (omega (arith, leb-true (place + 0) (length s) (w .0)), omega (arith, w .1))) (λ w. inr (omega (arith, leb-false (place + 0) (length s) (w .0)), sym (w .1))) (chosen (leb (place + 0) (length s)) (sym e))
+    which = ⊎-elim (λ w. inl (omega (arith, leb-true (0 + place) (length s) (w .0)), omega (arith, w .1))) (λ w. inr (omega (arith, leb-false (0 + place) (length s) (w .0)), sym (w .1))) (chosen (leb (0 + place) (length s)) (sym e))
 
     pub within : at ≤ length s
     within = ⊎-elim (λ w. omega (arith, w .0, w .1)) (λ w. omega (arith, w .1)) which
 
     left : drop at s ≡ drop place s
     left = ⊎-elim (λ w. rw (w .1)) (λ w. drop-of-length-le s {i = at} (omega (arith, w .1)) ∙ sym (drop-of-length-le s {i = place} (omega (arith, w .0)))) which
+
+    pub from-there : {R : Type 0} (layout : Layout R) → from layout s at ≡ from layout s place
+    unfolding from
+    from-there layout = ap (read layout) left
 
     pub answers : {R A : Type 0} (layout : Layout R) (answer : Reached R → A) {r : A} → r ≡ answer (read layout (take (length s - at) (drop at s))) → r ≡ answer (from layout s place)
     unfolding from

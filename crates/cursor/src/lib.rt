@@ -12,6 +12,11 @@ use submit::SubmitRead;
 use submit_report::SmsSubmitReport;
 use submit_report::SubmitReportRead;
 
+pub struct Cursor<'a> {
+    pub octets: &'a [u8],
+    pub place: usize,
+}
+
 // The place so many octets further on, but not past the end.
 fn place_behind(octets: &[u8], place: usize, count: usize) -> usize
     ensures { λ r. ⌜ r ≡ behindPlace (now (octets .entry)) place count ⌝ }
@@ -38,48 +43,129 @@ fn octet_at(octets: &[u8], place: usize) -> Octet
 fn submit_at(octets: &[u8], place: usize) -> SubmitRead
     ensures { λ r. ⌜ r ≡ submitFrom (now (octets .entry)) place ⌝ }
 {
-    let at = place_behind(octets, place, 0);
+    let at = place_behind(octets, 0, place);
     submit::decode_sms_submit_tpdu(&octets[at..])
 }
 
 fn deliver_at(octets: &[u8], place: usize) -> DeliverRead
     ensures { λ r. ⌜ r ≡ deliverFrom (now (octets .entry)) place ⌝ }
 {
-    let at = place_behind(octets, place, 0);
+    let at = place_behind(octets, 0, place);
     SmsDeliver::decode(&octets[at..])
 }
 
 fn submit_report_ack_at(octets: &[u8], place: usize) -> SubmitReportRead
     ensures { λ r. ⌜ r ≡ submitReportAckFrom (now (octets .entry)) place ⌝ }
 {
-    let at = place_behind(octets, place, 0);
+    let at = place_behind(octets, 0, place);
     SmsSubmitReport::decode_for_rp_ack(&octets[at..])
 }
 
 fn submit_report_error_at(octets: &[u8], place: usize) -> SubmitReportRead
     ensures { λ r. ⌜ r ≡ submitReportErrorFrom (now (octets .entry)) place ⌝ }
 {
-    let at = place_behind(octets, place, 0);
+    let at = place_behind(octets, 0, place);
     SmsSubmitReport::decode_for_rp_error(&octets[at..])
 }
 
 fn deliver_report_ack_at(octets: &[u8], place: usize) -> DeliverReportRead
     ensures { λ r. ⌜ r ≡ deliverReportAckFrom (now (octets .entry)) place ⌝ }
 {
-    let at = place_behind(octets, place, 0);
+    let at = place_behind(octets, 0, place);
     SmsDeliverReport::decode_for_rp_ack(&octets[at..])
 }
 
 fn deliver_report_error_at(octets: &[u8], place: usize) -> DeliverReportRead
     ensures { λ r. ⌜ r ≡ deliverReportErrorFrom (now (octets .entry)) place ⌝ }
 {
-    let at = place_behind(octets, place, 0);
+    let at = place_behind(octets, 0, place);
     SmsDeliverReport::decode_for_rp_error(&octets[at..])
 }
 
 fn status_report_at(octets: &[u8], place: usize) -> StatusReportRead
     ensures { λ r. ⌜ r ≡ statusReportFrom (now (octets .entry)) place ⌝ }
 {
-    let at = place_behind(octets, place, 0);
+    let at = place_behind(octets, 0, place);
     SmsStatusReport::decode(&octets[at..])
+}
+
+// A cursor at the start of the octets.
+pub fn new<'a>(octets: &'a [u8]) -> Cursor<'a>
+    ensures { λ r. ⌜ (r .octets ≡ octets .entry) × (r .place ≡ 0) ⌝ }
+{
+    Cursor { octets, place: 0 }
+}
+
+// The place.
+pub fn place<'a>(c: Cursor<'a>) -> usize
+    ensures { λ r. ⌜ r ≡ c .entry .place ⌝ }
+{
+    c.place
+}
+
+// The same octets, the place so many further on, but not past the end.
+pub fn behind<'a>(c: Cursor<'a>, count: usize) -> Cursor<'a>
+    ensures { λ r. ⌜ (r .octets ≡ c .entry .octets) × (r .place ≡ behindPlace (now (c .entry .octets)) (c .entry .place) count) ⌝ }
+{
+    Cursor {
+        octets: c.octets,
+        place: place_behind(c.octets, c.place, count),
+    }
+}
+
+// The octet at the place, with the next place.
+pub fn read_octet<'a>(c: Cursor<'a>) -> Octet
+    ensures { λ r. ⌜ r ≡ octetFrom (now (c .entry .octets)) (c .entry .place) ⌝ }
+{
+    octet_at(c.octets, c.place)
+}
+
+// The message that starts at the place, by kind.
+pub fn decode_sms_submit_tpdu<'a>(c: Cursor<'a>) -> SubmitRead
+    ensures { λ r. ⌜ r ≡ submitFrom (now (c .entry .octets)) (c .entry .place) ⌝ }
+{
+    submit_at(c.octets, c.place)
+}
+
+pub fn decode_deliver<'a>(c: Cursor<'a>) -> DeliverRead
+    ensures { λ r. ⌜ r ≡ deliverFrom (now (c .entry .octets)) (c .entry .place) ⌝ }
+{
+    deliver_at(c.octets, c.place)
+}
+
+pub fn decode_submit_report_ack<'a>(c: Cursor<'a>) -> SubmitReportRead
+    ensures { λ r. ⌜ r ≡ submitReportAckFrom (now (c .entry .octets)) (c .entry .place) ⌝ }
+{
+    submit_report_ack_at(c.octets, c.place)
+}
+
+pub fn decode_submit_report_error<'a>(c: Cursor<'a>) -> SubmitReportRead
+    ensures { λ r. ⌜ r ≡ submitReportErrorFrom (now (c .entry .octets)) (c .entry .place) ⌝ }
+{
+    submit_report_error_at(c.octets, c.place)
+}
+
+pub fn decode_deliver_report_ack<'a>(c: Cursor<'a>) -> DeliverReportRead
+    ensures { λ r. ⌜ r ≡ deliverReportAckFrom (now (c .entry .octets)) (c .entry .place) ⌝ }
+{
+    deliver_report_ack_at(c.octets, c.place)
+}
+
+pub fn decode_deliver_report_error<'a>(c: Cursor<'a>) -> DeliverReportRead
+    ensures { λ r. ⌜ r ≡ deliverReportErrorFrom (now (c .entry .octets)) (c .entry .place) ⌝ }
+{
+    deliver_report_error_at(c.octets, c.place)
+}
+
+pub fn decode_status_report<'a>(c: Cursor<'a>) -> StatusReportRead
+    ensures { λ r. ⌜ r ≡ statusReportFrom (now (c .entry .octets)) (c .entry .place) ⌝ }
+{
+    status_report_at(c.octets, c.place)
+}
+
+// The SUBMIT that stands behind so many octets.
+pub fn submit_behind(octets: &[u8], count: usize) -> SubmitRead
+    ensures { λ r. ⌜ r ≡ submitFrom (now (octets .entry)) count ⌝ }
+{
+    decode_sms_submit_tpdu(behind(new(octets), count))
 }
