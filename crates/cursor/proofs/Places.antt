@@ -1,16 +1,15 @@
--- What the place behind so many octets is. From the start it is as many octets on, or the end: from there on the same octets are left as from that many on, so a reader answers the same.
+-- What the place behind so many octets is. From the start it is as many octets on, or the end, and the same octets are left.
 -- Assumes nothing.
-use Prim.Native.Nat.{ℕ, _+_, _-_, _<_, _≤_}
+use Prim.Native.Nat.{ℕ, _+_, _<_, _≤_}
 use mathlib.Core.Path.{_≡_, sym, ap, _∙_}
 use mathlib.Core.List.{List}
 use mathlib.Core.Logic.{_⊎_, inl, inr, ⊎-elim}
 use native.Mathlib.Omega.{arith}
 use borrow.Author.Tests.{leb-true, leb-false, le-leb, lt-leb}
-use borrow.Rule.Slice.PartAt.{part-to-end}
 use lib.Dec.{leb}
-use lib.ListN.{length, take, drop, drop-of-length-le}
+use lib.ListN.{length, drop, drop-of-length-le}
 use Rattle.octets.proofs.Choice.{chosen}
-use Rattle.layout.specs.Layout.{Layout, Reached, read}
+use Rattle.layout.specs.Layout.{Layout, read}
 use Rattle.cursor.specs.Cursor.{from, behindPlace}
 
 module _ (s : List ℕ) (place : ℕ) where
@@ -32,13 +31,8 @@ module _ (s : List ℕ) (place : ℕ) where
     pub within : at ≤ length s
     within = ⊎-elim (λ w. omega (arith, w .0, w .1)) (λ w. omega (arith, w .1)) which
 
-    left : drop at s ≡ drop place s
+    pub left : drop at s ≡ drop place s
     left = ⊎-elim (λ w. rw (w .1)) (λ w. drop-of-length-le s {i = at} (omega (arith, w .1)) ∙ sym (drop-of-length-le s {i = place} (omega (arith, w .0)))) which
 
     pub from-there : {R : Type 0} (layout : Layout R) → from layout s at ≡ from layout s place
-    unfolding from
     from-there layout = ap (read layout) left
-
-    pub answers : {R A : Type 0} (layout : Layout R) (answer : Reached R → A) {r : A} → r ≡ answer (read layout (take (length s - at) (drop at s))) → r ≡ answer (from layout s place)
-    unfolding from
-    answers layout answer h = h ∙ ap (λ (t : List ℕ). answer (read layout t)) (part-to-end s at ∙ left)

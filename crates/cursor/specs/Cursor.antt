@@ -21,7 +21,7 @@ use Rattle.status_report.specs.StatusReport as StatusReport
 use Rattle.status_report.specs.declared.StatusReportRead.{StatusReportRead}
 
 -- what a layout's reader finds from a place on; past the end there are no octets
-unfoldable pub from : {R : Type 0} → Layout R → List ℕ → ℕ → Reached R
+abbrev pub from : {R : Type 0} → Layout R → List ℕ → ℕ → Reached R
 from layout s place = read layout (drop place s)
 
 -- the place so many octets further on, or the end of the string

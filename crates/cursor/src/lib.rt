@@ -1,5 +1,6 @@
 // A cursor: octets and a place in them. Messages that lie one behind the other are read through it in turn.
 ghost use mathlib.Core.Path.{_≡_};
+ghost use lib.ListN.{drop};
 ghost use Rattle.cursor.specs.Cursor.{behindPlace, octetFrom, submitFrom, deliverFrom, submitReportAckFrom, submitReportErrorFrom, deliverReportAckFrom, deliverReportErrorFrom, statusReportFrom};
 use deliver::DeliverRead;
 use deliver::SmsDeliver;
@@ -32,6 +33,14 @@ fn place_behind(octets: &[u8], place: usize, count: usize) -> usize
     }
 }
 
+// The octets from a place on; none past the end.
+fn rest<'a>(octets: &'a [u8], place: usize) -> &'a [u8]
+    ensures { λ r. ⌜ now r ≡ drop place (now (octets .entry)) ⌝ }
+{
+    let at = place_behind(octets, 0, place);
+    &octets[at..]
+}
+
 // What is read from a place on: one octet, and each message.
 fn octet_at(octets: &[u8], place: usize) -> Octet
     ensures { λ r. ⌜ r ≡ octetFrom (now (octets .entry)) place ⌝ }
@@ -43,50 +52,43 @@ fn octet_at(octets: &[u8], place: usize) -> Octet
 fn submit_at(octets: &[u8], place: usize) -> SubmitRead
     ensures { λ r. ⌜ r ≡ submitFrom (now (octets .entry)) place ⌝ }
 {
-    let at = place_behind(octets, 0, place);
-    submit::decode_sms_submit_tpdu(&octets[at..])
+    submit::decode_sms_submit_tpdu(rest(octets, place))
 }
 
 fn deliver_at(octets: &[u8], place: usize) -> DeliverRead
     ensures { λ r. ⌜ r ≡ deliverFrom (now (octets .entry)) place ⌝ }
 {
-    let at = place_behind(octets, 0, place);
-    SmsDeliver::decode(&octets[at..])
+    SmsDeliver::decode(rest(octets, place))
 }
 
 fn submit_report_ack_at(octets: &[u8], place: usize) -> SubmitReportRead
     ensures { λ r. ⌜ r ≡ submitReportAckFrom (now (octets .entry)) place ⌝ }
 {
-    let at = place_behind(octets, 0, place);
-    SmsSubmitReport::decode_for_rp_ack(&octets[at..])
+    SmsSubmitReport::decode_for_rp_ack(rest(octets, place))
 }
 
 fn submit_report_error_at(octets: &[u8], place: usize) -> SubmitReportRead
     ensures { λ r. ⌜ r ≡ submitReportErrorFrom (now (octets .entry)) place ⌝ }
 {
-    let at = place_behind(octets, 0, place);
-    SmsSubmitReport::decode_for_rp_error(&octets[at..])
+    SmsSubmitReport::decode_for_rp_error(rest(octets, place))
 }
 
 fn deliver_report_ack_at(octets: &[u8], place: usize) -> DeliverReportRead
     ensures { λ r. ⌜ r ≡ deliverReportAckFrom (now (octets .entry)) place ⌝ }
 {
-    let at = place_behind(octets, 0, place);
-    SmsDeliverReport::decode_for_rp_ack(&octets[at..])
+    SmsDeliverReport::decode_for_rp_ack(rest(octets, place))
 }
 
 fn deliver_report_error_at(octets: &[u8], place: usize) -> DeliverReportRead
     ensures { λ r. ⌜ r ≡ deliverReportErrorFrom (now (octets .entry)) place ⌝ }
 {
-    let at = place_behind(octets, 0, place);
-    SmsDeliverReport::decode_for_rp_error(&octets[at..])
+    SmsDeliverReport::decode_for_rp_error(rest(octets, place))
 }
 
 fn status_report_at(octets: &[u8], place: usize) -> StatusReportRead
     ensures { λ r. ⌜ r ≡ statusReportFrom (now (octets .entry)) place ⌝ }
 {
-    let at = place_behind(octets, 0, place);
-    SmsStatusReport::decode(&octets[at..])
+    SmsStatusReport::decode(rest(octets, place))
 }
 
 // A cursor at the start of the octets.
