@@ -91,83 +91,85 @@ fn status_report_at(octets: &[u8], place: usize) -> StatusReportRead
     SmsStatusReport::decode(rest(octets, place))
 }
 
-// A cursor at the start of the octets.
-pub fn new<'a>(octets: &'a [u8]) -> Cursor<'a>
-    ensures { λ r. ⌜ (r .octets ≡ octets .entry) × (r .place ≡ 0) ⌝ }
-{
-    Cursor { octets, place: 0 }
-}
-
-// The place.
-pub fn place<'a>(c: Cursor<'a>) -> usize
-    ensures { λ r. ⌜ r ≡ c .entry .place ⌝ }
-{
-    c.place
-}
-
-// The same octets, the place so many further on, but not past the end.
-pub fn behind<'a>(c: Cursor<'a>, count: usize) -> Cursor<'a>
-    ensures { λ r. ⌜ (r .octets ≡ c .entry .octets) × (r .place ≡ behindPlace (now (c .entry .octets)) (c .entry .place) count) ⌝ }
-{
-    Cursor {
-        octets: c.octets,
-        place: place_behind(c.octets, c.place, count),
+impl<'a> Cursor<'a> {
+    // A cursor at the start of the octets.
+    pub fn new(octets: &'a [u8]) -> Cursor<'a>
+        ensures { λ r. ⌜ (r .octets ≡ octets .entry) × (r .place ≡ 0) ⌝ }
+    {
+        Cursor { octets, place: 0 }
     }
-}
 
-// The octet at the place, with the next place.
-pub fn read_octet<'a>(c: Cursor<'a>) -> Octet
-    ensures { λ r. ⌜ r ≡ octetFrom (now (c .entry .octets)) (c .entry .place) ⌝ }
-{
-    octet_at(c.octets, c.place)
-}
+    // The place.
+    pub fn place(self) -> usize
+        ensures { λ r. ⌜ r ≡ self .entry .place ⌝ }
+    {
+        self.place
+    }
 
-// The message that starts at the place, by kind.
-pub fn decode_sms_submit_tpdu<'a>(c: Cursor<'a>) -> SubmitRead
-    ensures { λ r. ⌜ r ≡ submitFrom (now (c .entry .octets)) (c .entry .place) ⌝ }
-{
-    submit_at(c.octets, c.place)
-}
+    // The same octets, the place so many further on, but not past the end.
+    pub fn behind(self, count: usize) -> Cursor<'a>
+        ensures { λ r. ⌜ (r .octets ≡ self .entry .octets) × (r .place ≡ behindPlace (now (self .entry .octets)) (self .entry .place) count) ⌝ }
+    {
+        Cursor {
+            octets: self.octets,
+            place: place_behind(self.octets, self.place, count),
+        }
+    }
 
-pub fn decode_deliver<'a>(c: Cursor<'a>) -> DeliverRead
-    ensures { λ r. ⌜ r ≡ deliverFrom (now (c .entry .octets)) (c .entry .place) ⌝ }
-{
-    deliver_at(c.octets, c.place)
-}
+    // The octet at the place, with the next place.
+    pub fn read_octet(self) -> Octet
+        ensures { λ r. ⌜ r ≡ octetFrom (now (self .entry .octets)) (self .entry .place) ⌝ }
+    {
+        octet_at(self.octets, self.place)
+    }
 
-pub fn decode_submit_report_ack<'a>(c: Cursor<'a>) -> SubmitReportRead
-    ensures { λ r. ⌜ r ≡ submitReportAckFrom (now (c .entry .octets)) (c .entry .place) ⌝ }
-{
-    submit_report_ack_at(c.octets, c.place)
-}
+    // The message that starts at the place, by kind.
+    pub fn decode_sms_submit_tpdu(self) -> SubmitRead
+        ensures { λ r. ⌜ r ≡ submitFrom (now (self .entry .octets)) (self .entry .place) ⌝ }
+    {
+        submit_at(self.octets, self.place)
+    }
 
-pub fn decode_submit_report_error<'a>(c: Cursor<'a>) -> SubmitReportRead
-    ensures { λ r. ⌜ r ≡ submitReportErrorFrom (now (c .entry .octets)) (c .entry .place) ⌝ }
-{
-    submit_report_error_at(c.octets, c.place)
-}
+    pub fn decode_deliver(self) -> DeliverRead
+        ensures { λ r. ⌜ r ≡ deliverFrom (now (self .entry .octets)) (self .entry .place) ⌝ }
+    {
+        deliver_at(self.octets, self.place)
+    }
 
-pub fn decode_deliver_report_ack<'a>(c: Cursor<'a>) -> DeliverReportRead
-    ensures { λ r. ⌜ r ≡ deliverReportAckFrom (now (c .entry .octets)) (c .entry .place) ⌝ }
-{
-    deliver_report_ack_at(c.octets, c.place)
-}
+    pub fn decode_submit_report_ack(self) -> SubmitReportRead
+        ensures { λ r. ⌜ r ≡ submitReportAckFrom (now (self .entry .octets)) (self .entry .place) ⌝ }
+    {
+        submit_report_ack_at(self.octets, self.place)
+    }
 
-pub fn decode_deliver_report_error<'a>(c: Cursor<'a>) -> DeliverReportRead
-    ensures { λ r. ⌜ r ≡ deliverReportErrorFrom (now (c .entry .octets)) (c .entry .place) ⌝ }
-{
-    deliver_report_error_at(c.octets, c.place)
-}
+    pub fn decode_submit_report_error(self) -> SubmitReportRead
+        ensures { λ r. ⌜ r ≡ submitReportErrorFrom (now (self .entry .octets)) (self .entry .place) ⌝ }
+    {
+        submit_report_error_at(self.octets, self.place)
+    }
 
-pub fn decode_status_report<'a>(c: Cursor<'a>) -> StatusReportRead
-    ensures { λ r. ⌜ r ≡ statusReportFrom (now (c .entry .octets)) (c .entry .place) ⌝ }
-{
-    status_report_at(c.octets, c.place)
+    pub fn decode_deliver_report_ack(self) -> DeliverReportRead
+        ensures { λ r. ⌜ r ≡ deliverReportAckFrom (now (self .entry .octets)) (self .entry .place) ⌝ }
+    {
+        deliver_report_ack_at(self.octets, self.place)
+    }
+
+    pub fn decode_deliver_report_error(self) -> DeliverReportRead
+        ensures { λ r. ⌜ r ≡ deliverReportErrorFrom (now (self .entry .octets)) (self .entry .place) ⌝ }
+    {
+        deliver_report_error_at(self.octets, self.place)
+    }
+
+    pub fn decode_status_report(self) -> StatusReportRead
+        ensures { λ r. ⌜ r ≡ statusReportFrom (now (self .entry .octets)) (self .entry .place) ⌝ }
+    {
+        status_report_at(self.octets, self.place)
+    }
 }
 
 // The SUBMIT that stands behind so many octets.
 pub fn submit_behind(octets: &[u8], count: usize) -> SubmitRead
     ensures { λ r. ⌜ r ≡ submitFrom (now (octets .entry)) count ⌝ }
 {
-    decode_sms_submit_tpdu(behind(new(octets), count))
+    Cursor::new(octets).behind(count).decode_sms_submit_tpdu()
 }

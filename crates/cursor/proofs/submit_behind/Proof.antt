@@ -47,15 +47,15 @@ use Rattle.cursor.proofs.Cursor as T
 use Rattle.cursor.proofs.Cursor.Laws as T′
 use Rattle.cursor.proofs.Held.{B, said, meets-by}
 use Rattle.cursor.proofs.Places.{from-there}
-use Rattle.cursor.proofs.new as new
-use Rattle.cursor.proofs.new.Symbol as new-def
-use Rattle.cursor.proofs.new.Met as new-thm
-use Rattle.cursor.proofs.behind as behind
-use Rattle.cursor.proofs.behind.Symbol as behind-def
-use Rattle.cursor.proofs.behind.Met as behind-thm
-use Rattle.cursor.proofs.decode_sms_submit_tpdu as decode
-use Rattle.cursor.proofs.decode_sms_submit_tpdu.Symbol as decode-def
-use Rattle.cursor.proofs.decode_sms_submit_tpdu.Met as decode-thm
+use Rattle.cursor.proofs.Cursor.new as new
+use Rattle.cursor.proofs.Cursor.new.Symbol as new-def
+use Rattle.cursor.proofs.Cursor.new.Met as new-thm
+use Rattle.cursor.proofs.Cursor.behind as behind
+use Rattle.cursor.proofs.Cursor.behind.Symbol as behind-def
+use Rattle.cursor.proofs.Cursor.behind.Met as behind-thm
+use Rattle.cursor.proofs.Cursor.decode_sms_submit_tpdu as decode
+use Rattle.cursor.proofs.Cursor.decode_sms_submit_tpdu.Symbol as decode-def
+use Rattle.cursor.proofs.Cursor.decode_sms_submit_tpdu.Met as decode-thm
 use Rattle.cursor.proofs.submit_behind as this
 use Rattle.cursor.proofs.submit_behind.Key.{name}
 use Rattle.cursor.proofs.submit_behind.Statement.{statement}
@@ -177,6 +177,6 @@ submit-behind-spec 𝓤 H 𝓜 𝓖 𝓡 =
     meets-by 𝓤 H 𝓜 𝓖 𝓡 this.ended stayed c code.env name code.function (goes-none-slice 𝓤 H (𝓖 .A) W 1 (0 ∷ []) tt (plain (λ _. u8)) yes, (goes-none 𝓤 H (𝓖 .A) W 1 (λ _. usize) yes (λ κs x f. refl), tt)) (code.unfolded 𝓤 H 𝓜 𝓡) (λ fm.
     walked 𝓤 H (𝓖 .A) this.ended stayed c (WpFn 𝓤 H (𝓣 .C) (𝓣 .Λ) code.function) (λ κs. (slice-vals, (uint-vals w64, tt))) (λ κs. (shr-slice-tells (named 0) (κs .0) u8, (uint-tells w64, tt))) (λ κs qs bounds a g are. via 𝓤 _ (fst∗ 𝓤 _ (emp 𝓤))
     (walk 𝓤 H (𝓖 .A) W (𝓜 .mem) (𝓡 .run) (κs .0) (qs .0) (a .0) (a .1 .0) (are .1 .0 .1) (𝓣 .C) (𝓣 .Λ) fm
-    (cited 𝓤 H (New 𝓤 H (𝓖 .A) (𝓜 .mem) (𝓡 .run)) 𝓜 𝓡 code.env new-def.name new-def.routine code.calls-cursor·new (new-thm.met 𝓤 H 𝓜 𝓖 𝓡))
-    (cited 𝓤 H (Behind 𝓤 H (𝓖 .A) (𝓜 .mem) (𝓡 .run)) 𝓜 𝓡 code.env behind-def.name behind-def.routine code.calls-cursor·behind (behind-thm.met 𝓤 H 𝓜 𝓖 𝓡))
-    (cited 𝓤 H (Decode 𝓤 H (𝓖 .A) (𝓜 .mem) (𝓡 .run)) 𝓜 𝓡 code.env decode-def.name decode-def.routine code.calls-cursor·decode-sms-submit-tpdu (decode-thm.met 𝓤 H 𝓜 𝓖 𝓡)) (are .0))))
+    (cited 𝓤 H (New 𝓤 H (𝓖 .A) (𝓜 .mem) (𝓡 .run)) 𝓜 𝓡 code.env new-def.name new-def.routine code.calls-cursor·Cursor·new (new-thm.met 𝓤 H 𝓜 𝓖 𝓡))
+    (cited 𝓤 H (Behind 𝓤 H (𝓖 .A) (𝓜 .mem) (𝓡 .run)) 𝓜 𝓡 code.env behind-def.name behind-def.routine code.calls-cursor·Cursor·behind (behind-thm.met 𝓤 H 𝓜 𝓖 𝓡))
+    (cited 𝓤 H (Decode 𝓤 H (𝓖 .A) (𝓜 .mem) (𝓡 .run)) 𝓜 𝓡 code.env decode-def.name decode-def.routine code.calls-cursor·Cursor·decode-sms-submit-tpdu (decode-thm.met 𝓤 H 𝓜 𝓖 𝓡)) (are .0))))

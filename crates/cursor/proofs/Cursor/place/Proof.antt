@@ -1,4 +1,4 @@
--- `cursor::place` meets its contract: a walk of its MIR, by hand. The place is read from its field, and the struct is seen at exit as it was passed.
+-- `cursor::Cursor::place` meets its contract: a walk of its MIR, by hand. The place is read from its field, and the struct is seen at exit as it was passed.
 -- Assumes nothing.
 use mathlib.Core.Path.{refl}
 use Prim.Native.Nat.{_<_, _^_}
@@ -29,10 +29,10 @@ use denote.Exit.{yes}
 use Rattle.cursor.specs.declared.Cursor.{Cursor}
 use Rattle.cursor.proofs.Cursor.Laws.{lowered}
 use Rattle.cursor.proofs.Held.{B, Of, laws, typed, meets-by}
-use Rattle.cursor.proofs.place as place
-use Rattle.cursor.proofs.place.Key.{name}
-use Rattle.cursor.proofs.place.Statement.{statement}
-use Rattle.cursor.proofs.place.Code as code
+use Rattle.cursor.proofs.Cursor.place as place
+use Rattle.cursor.proofs.Cursor.place.Key.{name}
+use Rattle.cursor.proofs.Cursor.place.Statement.{statement}
+use Rattle.cursor.proofs.Cursor.place.Code as code
 
 abbrev stayed : Stays (place.ended .signature .params) (place.ended .kept)
 stayed = (stay-none B yes, tt)

@@ -1,4 +1,4 @@
--- `cursor::read_octet` meets its contract: `octet_at` through a cursor.
+-- `cursor::Cursor::read_octet` meets its contract: `octet_at` through a cursor.
 -- Assumes nothing.
 use mathlib.Core.Path.{refl}
 use contract.Running.{givenOf}
@@ -9,9 +9,9 @@ use Rattle.cursor.specs.Cursor.{octetFrom}
 use Rattle.cursor.proofs.Through.{goes-through}
 use Rattle.cursor.proofs.octet_at.Symbol as callee
 use Rattle.cursor.proofs.octet_at.Met.{met}
-use Rattle.cursor.proofs.read_octet.Key.{name}
-use Rattle.cursor.proofs.read_octet.Statement.{statement}
-use Rattle.cursor.proofs.read_octet.Code as code
+use Rattle.cursor.proofs.Cursor.read_octet.Key.{name}
+use Rattle.cursor.proofs.Cursor.read_octet.Statement.{statement}
+use Rattle.cursor.proofs.Cursor.read_octet.Code as code
 
 pub read-octet-spec : {M : Type 1} → statement M
 unfolding code.routine

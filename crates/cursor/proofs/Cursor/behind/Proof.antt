@@ -1,4 +1,4 @@
--- `cursor::behind` meets its contract: a walk of its MIR, by hand. `place_behind` is called on the slice, the place and the count, and a struct is made anew of the slice and the answer.
+-- `cursor::Cursor::behind` meets its contract: a walk of its MIR, by hand. `place_behind` is called on the slice, the place and the count, and a struct is made anew of the slice and the answer.
 -- What the struct owns is had twice at exit: as it was passed, and with the answer's facts in the place of those of its own place.
 -- Assumes nothing.
 use mathlib.Core.Path.{_≡_, refl, ap}
@@ -45,10 +45,10 @@ use Rattle.cursor.proofs.Held.{B, Of, laws, sliceIn, values, Own, OwnSl
 use Rattle.cursor.proofs.place_behind as moving
 use Rattle.cursor.proofs.place_behind.Symbol as callee
 use Rattle.cursor.proofs.place_behind.Met.{met}
-use Rattle.cursor.proofs.behind as behind
-use Rattle.cursor.proofs.behind.Key.{name}
-use Rattle.cursor.proofs.behind.Statement.{statement}
-use Rattle.cursor.proofs.behind.Code as code
+use Rattle.cursor.proofs.Cursor.behind as behind
+use Rattle.cursor.proofs.Cursor.behind.Key.{name}
+use Rattle.cursor.proofs.Cursor.behind.Statement.{statement}
+use Rattle.cursor.proofs.Cursor.behind.Code as code
 
 abbrev stayed : Stays (behind.ended .signature .params) (behind.ended .kept)
 stayed = (stay-none B yes, (stay-none (λ _. usize) yes, tt))

@@ -1,4 +1,4 @@
--- `cursor::decode_deliver` meets its contract: `deliver_at` through a cursor.
+-- `cursor::Cursor::decode_deliver` meets its contract: `deliver_at` through a cursor.
 -- Assumes nothing.
 use mathlib.Core.Path.{refl}
 use contract.Running.{givenOf}
@@ -9,9 +9,9 @@ use Rattle.cursor.specs.Cursor.{deliverFrom}
 use Rattle.cursor.proofs.Through.{goes-through}
 use Rattle.cursor.proofs.deliver_at.Symbol as callee
 use Rattle.cursor.proofs.deliver_at.Met.{met}
-use Rattle.cursor.proofs.decode_deliver.Key.{name}
-use Rattle.cursor.proofs.decode_deliver.Statement.{statement}
-use Rattle.cursor.proofs.decode_deliver.Code as code
+use Rattle.cursor.proofs.Cursor.decode_deliver.Key.{name}
+use Rattle.cursor.proofs.Cursor.decode_deliver.Statement.{statement}
+use Rattle.cursor.proofs.Cursor.decode_deliver.Code as code
 
 pub decode-deliver-spec : {M : Type 1} → statement M
 unfolding code.routine

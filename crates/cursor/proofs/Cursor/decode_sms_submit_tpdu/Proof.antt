@@ -1,4 +1,4 @@
--- `cursor::decode_sms_submit_tpdu` meets its contract: `submit_at` through a cursor.
+-- `cursor::Cursor::decode_sms_submit_tpdu` meets its contract: `submit_at` through a cursor.
 -- Assumes nothing.
 use mathlib.Core.Path.{refl}
 use contract.Running.{givenOf}
@@ -9,9 +9,9 @@ use Rattle.cursor.specs.Cursor.{submitFrom}
 use Rattle.cursor.proofs.Through.{goes-through}
 use Rattle.cursor.proofs.submit_at.Symbol as callee
 use Rattle.cursor.proofs.submit_at.Met.{met}
-use Rattle.cursor.proofs.decode_sms_submit_tpdu.Key.{name}
-use Rattle.cursor.proofs.decode_sms_submit_tpdu.Statement.{statement}
-use Rattle.cursor.proofs.decode_sms_submit_tpdu.Code as code
+use Rattle.cursor.proofs.Cursor.decode_sms_submit_tpdu.Key.{name}
+use Rattle.cursor.proofs.Cursor.decode_sms_submit_tpdu.Statement.{statement}
+use Rattle.cursor.proofs.Cursor.decode_sms_submit_tpdu.Code as code
 
 pub decode-sms-submit-tpdu-spec : {M : Type 1} → statement M
 unfolding code.routine

@@ -1,4 +1,4 @@
--- `cursor::decode_deliver_report_error` meets its contract: `deliver_report_error_at` through a cursor.
+-- `cursor::Cursor::decode_deliver_report_error` meets its contract: `deliver_report_error_at` through a cursor.
 -- Assumes nothing.
 use mathlib.Core.Path.{refl}
 use contract.Running.{givenOf}
@@ -9,9 +9,9 @@ use Rattle.cursor.specs.Cursor.{deliverReportErrorFrom}
 use Rattle.cursor.proofs.Through.{goes-through}
 use Rattle.cursor.proofs.deliver_report_error_at.Symbol as callee
 use Rattle.cursor.proofs.deliver_report_error_at.Met.{met}
-use Rattle.cursor.proofs.decode_deliver_report_error.Key.{name}
-use Rattle.cursor.proofs.decode_deliver_report_error.Statement.{statement}
-use Rattle.cursor.proofs.decode_deliver_report_error.Code as code
+use Rattle.cursor.proofs.Cursor.decode_deliver_report_error.Key.{name}
+use Rattle.cursor.proofs.Cursor.decode_deliver_report_error.Statement.{statement}
+use Rattle.cursor.proofs.Cursor.decode_deliver_report_error.Code as code
 
 pub decode-deliver-report-error-spec : {M : Type 1} → statement M
 unfolding code.routine

@@ -1,4 +1,4 @@
--- `cursor::decode_status_report` meets its contract: `status_report_at` through a cursor.
+-- `cursor::Cursor::decode_status_report` meets its contract: `status_report_at` through a cursor.
 -- Assumes nothing.
 use mathlib.Core.Path.{refl}
 use contract.Running.{givenOf}
@@ -9,9 +9,9 @@ use Rattle.cursor.specs.Cursor.{statusReportFrom}
 use Rattle.cursor.proofs.Through.{goes-through}
 use Rattle.cursor.proofs.status_report_at.Symbol as callee
 use Rattle.cursor.proofs.status_report_at.Met.{met}
-use Rattle.cursor.proofs.decode_status_report.Key.{name}
-use Rattle.cursor.proofs.decode_status_report.Statement.{statement}
-use Rattle.cursor.proofs.decode_status_report.Code as code
+use Rattle.cursor.proofs.Cursor.decode_status_report.Key.{name}
+use Rattle.cursor.proofs.Cursor.decode_status_report.Statement.{statement}
+use Rattle.cursor.proofs.Cursor.decode_status_report.Code as code
 
 pub decode-status-report-spec : {M : Type 1} → statement M
 unfolding code.routine

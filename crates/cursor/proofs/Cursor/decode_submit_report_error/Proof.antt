@@ -1,4 +1,4 @@
--- `cursor::decode_submit_report_error` meets its contract: `submit_report_error_at` through a cursor.
+-- `cursor::Cursor::decode_submit_report_error` meets its contract: `submit_report_error_at` through a cursor.
 -- Assumes nothing.
 use mathlib.Core.Path.{refl}
 use contract.Running.{givenOf}
@@ -9,9 +9,9 @@ use Rattle.cursor.specs.Cursor.{submitReportErrorFrom}
 use Rattle.cursor.proofs.Through.{goes-through}
 use Rattle.cursor.proofs.submit_report_error_at.Symbol as callee
 use Rattle.cursor.proofs.submit_report_error_at.Met.{met}
-use Rattle.cursor.proofs.decode_submit_report_error.Key.{name}
-use Rattle.cursor.proofs.decode_submit_report_error.Statement.{statement}
-use Rattle.cursor.proofs.decode_submit_report_error.Code as code
+use Rattle.cursor.proofs.Cursor.decode_submit_report_error.Key.{name}
+use Rattle.cursor.proofs.Cursor.decode_submit_report_error.Statement.{statement}
+use Rattle.cursor.proofs.Cursor.decode_submit_report_error.Code as code
 
 pub decode-submit-report-error-spec : {M : Type 1} → statement M
 unfolding code.routine

@@ -1,4 +1,4 @@
--- `cursor::new` meets its contract: a walk of its MIR, by hand. A `Cursor` is made of the slice passed and 0, in the result's local.
+-- `cursor::Cursor::new` meets its contract: a walk of its MIR, by hand. A `Cursor` is made of the slice passed and 0, in the result's local.
 -- A `&[u8]` is Copy, so what it owns is had twice: once for the parameter at exit, and once inside the result, beside the facts of its place.
 -- Assumes nothing.
 use mathlib.Core.Path.{refl}
@@ -35,10 +35,10 @@ use denote.Exit.{yes}
 use Rattle.cursor.specs.declared.Cursor.{Cursor}
 use Rattle.cursor.proofs.Cursor.Laws.{lowered}
 use Rattle.cursor.proofs.Held.{Of, laws, meets-by}
-use Rattle.cursor.proofs.new as new
-use Rattle.cursor.proofs.new.Key.{name}
-use Rattle.cursor.proofs.new.Statement.{statement}
-use Rattle.cursor.proofs.new.Code as code
+use Rattle.cursor.proofs.Cursor.new as new
+use Rattle.cursor.proofs.Cursor.new.Key.{name}
+use Rattle.cursor.proofs.Cursor.new.Statement.{statement}
+use Rattle.cursor.proofs.Cursor.new.Code as code
 
 abbrev stayed : Stays (new.ended .signature .params) (new.ended .kept)
 stayed = (stay-none-slice (0 ∷ []) tt (plain (λ _. u8)) yes, tt)
