@@ -4,6 +4,7 @@ use tpdu::Outcome;
 use tpdu::SMSAddress;
 use tpdu::SmsDeliver;
 use tpdu::SmsDeliverReport;
+use tpdu::SubmitRead;
 use tpdu::SubmitText;
 use tpdu::Time;
 use tpdu::UserData;
@@ -310,12 +311,8 @@ fn show_deliver_of(udl: u8, length: usize) {
     show_written(w, &out);
 }
 
-// A SUBMIT: the number of octets read, and its header and text.
-fn show_submit(data: &[u8]) {
-    say(b"submit");
-    say_first(data, data.len());
-    say(b":");
-    let read = tpdu::decode_sms_submit_tpdu(data);
+// What was read of a SUBMIT: the number of octets, and its header and text.
+fn show_submit_read(read: SubmitRead) {
     let outcome = read.outcome;
     if taken(outcome) {
         say(b" ");
@@ -324,6 +321,32 @@ fn show_submit(data: &[u8]) {
         let message = read.message;
         say_text(message.tp_user_data);
     }
+}
+
+fn show_submit(data: &[u8]) {
+    say(b"submit");
+    say_first(data, data.len());
+    say(b":");
+    show_submit_read(tpdu::decode_sms_submit_tpdu(data));
+}
+
+// The SUBMIT behind so many octets; how many it takes.
+fn show_submit_behind(data: &[u8], count: usize) -> usize {
+    say(b"submit behind ");
+    io::print_decimal(STDOUT_FILENO, count as u64);
+    say(b" octets:");
+    let read = tpdu::submit_behind(data, count);
+    show_submit_read(read);
+    read.octets_read
+}
+
+// Two SUBMITs that lie one behind the other, read in turn.
+fn show_in_turn(data: &[u8]) {
+    say(b"in turn");
+    say_first(data, data.len());
+    say(b":\n");
+    let count = show_submit_behind(data, 0);
+    show_submit_behind(data, count);
 }
 
 // A DELIVER-REPORT of an RP-ERROR that is read and written back.
@@ -341,7 +364,7 @@ fn show_error(data: &[u8]) {
     }
 }
 
-// Messages: known ones and the limits of DELIVER's data, SUBMIT's refusals 18 and 17, a stopped report, and refusals 2 and 3.
+// Messages: known ones and the limits of DELIVER's data, SUBMIT's refusals 18 and 17, two SUBMITs in one string, a stopped report, and refusals 2 and 3.
 fn show_messages() {
     show_deliver(b"\x04\x05\x91\x21\x43\xF5\x00\x00\x42\x20\x51\x21\x03\x54\x00\x02\xC1\x20\xFF");
     show_deliver(b"\x04\x05\x91\x21");
@@ -351,6 +374,9 @@ fn show_messages() {
     show_submit(b"\x01\x07\x05\x91\x21\x43\xF5\x00\x00\x02\xC1\x20");
     show_submit(b"\x41\x07\x05\x91\x21\x43\xF5\x00\x00\x01\x00");
     show_submit(b"\x41\x07\x05\x91\x21\x43\xF5\x00\x00\x00");
+    show_in_turn(
+        b"\x01\x07\x05\x91\x21\x43\xF5\x00\x00\x02\xC1\x20\x11\x08\x05\x91\x21\x43\xF5\x00\x00\xAA\x02\xE8\x34",
+    );
     show_error(b"\x04");
     show_error(b"\x00\xFF\x00");
     show_error(b"\x40\xD0\x07\x00\x04\x01\x21");
