@@ -1,0 +1,80 @@
+"""The differences between the Rust and the port that are meant to be there.
+
+Each rule says of a request, and of the Rust's answer to it, what the port has to answer instead. The
+port's arrays have fixed sizes and its counts stop at 255; the Rust's don't.
+"""
+
+TOO_LARGE = b"refused 1 LengthTooLarge"
+TOO_MANY = b"refused 22 TooManySeptets"
+TOO_SHORT = b"refused 23 OutputTooShort"
+
+ADDRESS_ARRAY = 290
+DATA_ARRAY = 255
+TIME_ARRAY = 14
+MOST_SEPTETS = 255
+LENT = 255
+
+NAMES = {
+    "a": "a text reader's count passes 255",
+    "b": "header and text take more than 255 septets in packing",
+    "c": "a value is longer than the port's array",
+    "d": "the octets don't fit the lent output",
+}
+
+
+def expected(request, answer):
+    """Name of the rule that holds and the port's answer by it, or nothing."""
+    if answer.startswith(b"bad"):
+        return None
+    fields = [field for field in request.split(b" ") if field]
+    name = fields[0]
+    if name in (b"unpack", b"unpack-header"):
+        return ("a", TOO_LARGE) if int(fields[1]) > MOST_SEPTETS and read_text(answer) else None
+    if name in (b"pack", b"pack-header"):
+        return ("b", TOO_MANY) if septets(answer) > MOST_SEPTETS else None
+    if name == b"address" or name.startswith(b"enc-"):
+        if answer.startswith(b"refused ") and past_array(name, fields):
+            return "c", TOO_LARGE
+    if answer.startswith(b"ok ") and b"=" not in answer and (len(answer) - 3) // 2 > LENT:
+        return "d", TOO_SHORT
+    return None
+
+
+def read_text(answer):
+    """A text, or a refusal that a text reader gives after 1."""
+    return answer.startswith(b"ok ") or answer.split()[1] in (b"17", b"18", b"19")
+
+
+def septets(answer):
+    """The number of septets in a packer's answer, 0 in a refusal."""
+    if not answer.startswith(b"ok septets="):
+        return 0
+    return int(answer.split()[1].partition(b"=")[2])
+
+
+def past_array(name, fields):
+    if name == b"address":
+        return octets(fields[3]) > ADDRESS_ARRAY
+    return any(value_past_array(*field.split(b"=", 1)) for field in fields[1:])
+
+
+def value_past_array(key, value):
+    if key == b"address":
+        return octets(value) > ADDRESS_ARRAY
+    if key == b"ud":
+        return octets(value) > DATA_ARRAY
+    if key in (b"scts", b"dt"):
+        return time_octets(value) > TIME_ARRAY
+    if key == b"vp" and value.startswith(b"absolute:"):
+        return time_octets(value[len(b"absolute:") :]) > TIME_ARRAY
+    return False
+
+
+def octets(value):
+    """The number of octets in hexadecimal digits; 0 for `-`."""
+    return len(value) // 2
+
+
+def time_octets(value):
+    """The number of octets of a time as it stands, or behind `x:`."""
+    return octets(value[2:]) if value.startswith(b"x:") else len(value)
