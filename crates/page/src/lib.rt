@@ -93,7 +93,7 @@ fn digit_value(c: u8) -> u8
 }
 
 // An even number of hexadecimal digits, either case.
-fn is_hex_text(text: &[u8]) -> bool
+pub fn is_hex_text(text: &[u8]) -> bool
     ensures { λ r. ⌜ r ≡ isHexText (now (text .entry)) ⌝ }
 {
     if text.len() % 2 != 0 {

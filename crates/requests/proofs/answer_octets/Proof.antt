@@ -1,0 +1,37 @@
+-- `requests::answer_octets` is safe and ends.
+-- Assumes nothing.
+use Prim.Native.Nat.{_-_}
+use mathlib.Core.Path.{_≡_}
+use native.Mathlib.Omega.{arith}
+use borrow.Author.Needs.{needs}
+use lib.ListN.{length}
+use Rattle.requests.proofs.answer_octets.Statement.{statement}
+use Rattle.requests.proofs.answer_octets.Tie as tie
+
+abbrev Inv-loop : tie.InvT-loop
+Inv-loop octets line₀ out₀ show n₀ at₀ from₀ line out n at from = (length line ≡ length line₀) × (length out ≡ length out₀)
+
+abbrev μ-loop : tie.MeasureT-loop
+μ-loop octets line₀ out₀ show n₀ at₀ from₀ line out n at from = length octets - from
+
+pub answer-octets-spec : {M : Type 1} → statement M
+answer-octets-spec =
+    tie.close
+    (tie.spec
+    Inv-loop
+    μ-loop
+    (λ c. omega arith)
+    (λ c κs. tt)
+    (λ c κs. tt)
+    (λ c κs. tt)
+    (λ c. search needs)
+    (λ c. search needs)
+    (λ c. omega arith)
+    (λ c κs. tt)
+    (λ c κs. tt)
+    (λ c. omega arith)
+    (λ c. omega arith)
+    (λ c. omega arith)
+    (λ c. search needs)
+    (λ c. search needs)
+    (λ c. omega arith))

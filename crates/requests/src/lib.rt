@@ -1,0 +1,149 @@
+// Requests on standard input, a line each, and an answer line for each on standard output.
+mod asking;
+mod encoding;
+mod fields;
+mod keys;
+mod reading;
+mod values;
+mod writing;
+
+use libc::STDIN_FILENO;
+use libc::STDOUT_FILENO;
+
+// The octets that a line may have.
+const MOST_IN_LINE: usize = 8192;
+
+// The output is written out when no more than these are left free: an answer has fewer.
+const LEAST_FREE: usize = 16384;
+
+// How many octets of a line are held, and where the next answer goes. One octet more than a line may have says that it has too many.
+struct Held {
+    length: usize,
+    at: usize,
+}
+
+// Appends the answer to a line.
+pub fn answer_line(line: &[u8], out: &mut [u8], at: usize, show: bool) -> usize {
+    let next = asking::answer(line, out, at, show);
+    page::put(out, next, b"\n")
+}
+
+// Adds octets to a line; how many it has then.
+fn add(line: &mut [u8], length: usize, octets: &[u8]) -> usize {
+    if MOST_IN_LINE < length {
+        return length;
+    }
+    if MOST_IN_LINE - length < octets.len() {
+        return MOST_IN_LINE + 1;
+    }
+    page::put(line, length, octets)
+}
+
+// The length of a line without the CR of its end.
+fn without_cr(line: &[u8], length: usize) -> usize {
+    if length == 0 {
+        return 0;
+    }
+    if line.len() < length {
+        return length;
+    }
+    if line[length - 1] == b'\r' {
+        return length - 1;
+    }
+    length
+}
+
+// Writes the answers out if the next may not fit; the place for it.
+fn make_room(out: &[u8], at: usize) -> usize {
+    if at <= out.len() {
+        if LEAST_FREE <= out.len() - at {
+            return at;
+        }
+    }
+    io::write_all(STDOUT_FILENO, fields::part(out, 0, at));
+    0
+}
+
+// Answers the line held.
+fn answer_held(line: &[u8], length: usize, out: &mut [u8], at: usize, show: bool) -> usize {
+    if MOST_IN_LINE < length {
+        let next = page::put(out, at, b"bad line too long\n");
+        return make_room(out, next);
+    }
+    let next = answer_line(fields::part(line, 0, length), out, at, show);
+    make_room(out, next)
+}
+
+// Answers the lines that end in these octets, and holds the rest.
+fn answer_octets(octets: &[u8], line: &mut [u8], out: &mut [u8], held: Held, show: bool) -> Held {
+    let mut n = held.length;
+    let mut at = held.at;
+    let mut from = 0;
+    while from < octets.len() {
+        let end = fields::find(octets, from, b'\n');
+        n = add(line, n, fields::part(octets, from, end));
+        if octets.len() <= end {
+            return Held { length: n, at };
+        }
+        at = answer_held(line, without_cr(line, n), out, at, show);
+        n = 0;
+        from = end + 1;
+    }
+    Held { length: n, at }
+}
+
+// What is held after a read, and whether the input may have more.
+struct Turn {
+    held: Held,
+    more: bool,
+}
+
+// Reads once, and answers what came.
+fn answer_some(input: &mut [u8], line: &mut [u8], out: &mut [u8], held: Held, show: bool) -> Turn {
+    let got = libc::read(STDIN_FILENO, input);
+    if got <= 0 {
+        return Turn { held, more: false };
+    }
+    let n = io::count(got, input);
+    let next = answer_octets(fields::part(input, 0, n), line, out, held, show);
+    Turn {
+        held: next,
+        more: true,
+    }
+}
+
+// Reads and answers to the end of the input. The turns are counted down from a number that no input uses up.
+fn answer_all(input: &mut [u8], line: &mut [u8], out: &mut [u8], show: bool) -> Held {
+    let mut n = 0;
+    let mut at = 0;
+    let mut turns = u64::MAX;
+    while turns > 0 {
+        let turn = answer_some(input, line, out, Held { length: n, at }, show);
+        let held = turn.held;
+        n = held.length;
+        at = held.at;
+        if !turn.more {
+            return Held { length: n, at };
+        }
+        turns -= 1;
+    }
+    Held { length: n, at }
+}
+
+// Answers a last line that has no end.
+fn answer_last(line: &[u8], out: &mut [u8], held: Held, show: bool) -> usize {
+    if held.length == 0 {
+        return held.at;
+    }
+    answer_held(line, held.length, out, held.at, show)
+}
+
+// Answers each line of standard input.
+pub fn answer_requests(show: bool) {
+    let mut input = io::large_buffer();
+    let mut line = [0u8; 8192];
+    let mut out = io::large_buffer();
+    let held = answer_all(&mut input, &mut line, &mut out, show);
+    let at = answer_last(&line, &mut out, held, show);
+    io::write_all(STDOUT_FILENO, fields::part(&out, 0, at));
+}

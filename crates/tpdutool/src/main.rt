@@ -1,0 +1,4 @@
+// Answers the requests on standard input.
+fn main() {
+    requests::answer_requests(false);
+}
