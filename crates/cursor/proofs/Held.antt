@@ -1,7 +1,7 @@
 -- A cursor in a walk of MIR by hand: its type and laws, what it owns, and how a walk of a function becomes its contract.
 -- The struct is Copy, so what it owns is had as often as it is asked for: whole, and what its slice owns alone.
 -- Assumes nothing.
-use mathlib.Core.Path.{_≡_, refl}
+use mathlib.Core.Path.{_≡_}
 use mathlib.Core.List.{[], _∷_}
 use lib.Dec.{T as Holds}
 use lib.ListN.{length}
@@ -12,7 +12,7 @@ use base.Logic.{ent, sep, snd∗, exE}
 use base.Fml.{Lft, Fml}
 use prog.Model.{Model}
 use prog.Routine.{Env}
-use prog.Wp.{Heap, Calls, Loops, WpFn, Closed}
+use prog.Wp.{Heap, WpFn, Closed}
 use ghost.Atoms.{Atoms, sem}
 use contract.Lifetimes.{Lfts}
 use contract.Monad.{fact}

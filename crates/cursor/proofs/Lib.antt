@@ -1,3 +1,4 @@
 pub mod Places
 pub mod Held
 pub mod Through
+pub mod InTurn

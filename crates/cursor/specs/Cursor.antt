@@ -7,7 +7,6 @@ use lib.ListN.{length, drop}
 use Rattle.octets.specs.Choice.{if_then_else_}
 use Rattle.octets.specs.Places.{octetAt}
 use Rattle.octets.specs.declared.Octet.{Octet}
-use Rattle.octets.specs.declared.Refusal.the-variants.{OctetsEnd}
 use Rattle.layout.specs.Layout.{Layout, Reached, read}
 use Rattle.submit.specs.Submit as Submit
 use Rattle.submit.specs.declared.SubmitRead.{SubmitRead}
