@@ -10,7 +10,7 @@ use native.Mathlib.Numerals.{add-one}
 use native.Mathlib.Omega.{arith}
 use borrow.Author.Tests.{le-leb, lt-leb, eq-eqb, ne-eqb, eqb-true, lt-ltb, ltb-false}
 use lib.Dec.{eqb, ltb}
-use lib.ListN.{length, take, drop, set, getD, length-set, drop-of-length-le}
+use lib.ListN.{length, drop, set, getD, length-set, drop-of-length-le}
 use lib.Seq.{sets-eq, drop-cons, drop-set-lt, getD-set-same}
 use Rattle.octets.specs.Each.{Octets, each}
 use Rattle.octets.specs.Lent.{Wrote}
@@ -72,11 +72,11 @@ unfolding isHexText
 hex-is-hex os h = let e : length (hexText os) % 2 ≡ 0 = omega (arith, length-hex os) in rw (e, digits-hex os h)
 
 -- reading gives back what was written as hexadecimal
-pub read-back : (os page : List ℕ) → Octets os → length os ≤ length page → readInto (hexText os) page .0 ≡ HexRead.Octets (length os)
+pub read-back : (os page : List ℕ) → Octets os → length os ≤ length page → readInto (hexText os) page ≡ (HexRead.Octets (length os), os ++ drop (length os) page)
 unfolding readInto
 read-back os page h n = rw (hex-is-hex os h, octets-back os h, le-leb (length os) (length page) n)
 
--- ---- the three ends of reading
+-- ---- two ends of reading
 
 module _ (text page : List ℕ) (e : isHexText text ≡ true) where
   pub octets-fit : {next : ℕ} {after : List ℕ} → length (octetsOf text) ≤ length page → Wrote 0 (octetsOf text) page next after

@@ -121,7 +121,7 @@ fn fields_of(request: Request) -> usize {
     }
 }
 
-// ---- answers to the requests of octets alone
+// ---- answers
 
 fn bad_octets(out: &mut [u8], at: usize) -> usize {
     writing::bad(out, at, b"octets")
@@ -131,7 +131,7 @@ fn bad_number(out: &mut [u8], at: usize) -> usize {
     writing::bad(out, at, b"number")
 }
 
-// The place where a reader's answer is made.
+// The answer to a reader's request: the fields of its record. The one place where mode show answers otherwise.
 fn answer_reader(reader: Reader, octets: &[u8], show: bool, out: &mut [u8], at: usize) -> usize {
     reading::answer(reader, octets, out, at)
 }

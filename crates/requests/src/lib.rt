@@ -13,7 +13,7 @@ use libc::STDOUT_FILENO;
 // The octets that a line may have.
 const MOST_IN_LINE: usize = 8192;
 
-// The output is written out when no more than these are left free: an answer has fewer.
+// The output is written out when fewer octets than these are left free: an answer has fewer.
 const LEAST_FREE: usize = 16384;
 
 // How many octets of a line are held, and where the next answer goes. One octet more than a line may have says that it has too many.
