@@ -131,28 +131,26 @@ fn bad_number(out: &mut [u8], at: usize) -> usize {
     writing::bad(out, at, b"number")
 }
 
-// The answer to a reader's request: the fields of its record. The one place where mode show answers otherwise.
-fn answer_reader(reader: Reader, octets: &[u8], show: bool, out: &mut [u8], at: usize) -> usize {
-    reading::answer(reader, octets, out, at)
-}
-
 fn answer_read(reader: Reader, text: &[u8], show: bool, out: &mut [u8], at: usize) -> usize {
     let mut octets = [0u8; 4096];
     let HexRead::Octets(n) = page::read_hex(values::digits_of(text), &mut octets) else {
         return bad_octets(out, at);
     };
-    answer_reader(reader, part(&octets, 0, n), show, out, at)
+    if show {
+        return reading::show(reader, part(&octets, 0, n), out, at);
+    }
+    reading::answer(reader, part(&octets, 0, n), out, at)
 }
 
-fn answer_rewrite(reader: Reader, text: &[u8], out: &mut [u8], at: usize) -> usize {
+fn answer_rewrite(reader: Reader, text: &[u8], show: bool, out: &mut [u8], at: usize) -> usize {
     let mut octets = [0u8; 4096];
     let HexRead::Octets(n) = page::read_hex(values::digits_of(text), &mut octets) else {
         return bad_octets(out, at);
     };
-    reading::answer_again(reader, part(&octets, 0, n), out, at)
+    reading::answer_again(reader, part(&octets, 0, n), show, out, at)
 }
 
-fn answer_unpack(count: &[u8], text: &[u8], out: &mut [u8], at: usize) -> usize {
+fn answer_unpack(count: &[u8], text: &[u8], show: bool, out: &mut [u8], at: usize) -> usize {
     let NumberRead::Is(septets) = values::number(count) else {
         return bad_number(out, at);
     };
@@ -165,11 +163,11 @@ fn answer_unpack(count: &[u8], text: &[u8], out: &mut [u8], at: usize) -> usize 
     let shown = u.text;
     match outcome {
         Outcome::Done => writing::octets(out, at, b"ok text=", part(&shown, 0, u.text_length)),
-        Outcome::Refused(r) => writing::refused(out, at, r),
+        Outcome::Refused(r) => writing::refused(out, at, r, show),
     }
 }
 
-fn answer_unpack_header(count: &[u8], text: &[u8], out: &mut [u8], at: usize) -> usize {
+fn answer_unpack_header(count: &[u8], text: &[u8], show: bool, out: &mut [u8], at: usize) -> usize {
     let NumberRead::Is(septets) = values::number(count) else {
         return bad_number(out, at);
     };
@@ -186,12 +184,12 @@ fn answer_unpack_header(count: &[u8], text: &[u8], out: &mut [u8], at: usize) ->
             let next = writing::octets(out, at, b"ok header=", part(&header, 0, u.header_length));
             writing::octets(out, next, b" text=", part(&shown, 0, u.text_length))
         }
-        Outcome::Refused(r) => writing::refused(out, at, r),
+        Outcome::Refused(r) => writing::refused(out, at, r, show),
     }
 }
 
 // What a packer answered, and the octets that it wrote.
-fn packed(p: Packed, lent: &[u8], out: &mut [u8], at: usize) -> usize {
+fn packed(p: Packed, lent: &[u8], show: bool, out: &mut [u8], at: usize) -> usize {
     let outcome = p.outcome;
     match outcome {
         Outcome::Done => {
@@ -199,21 +197,21 @@ fn packed(p: Packed, lent: &[u8], out: &mut [u8], at: usize) -> usize {
             let p2 = page::put_decimal(out, p1, p.septets as u64);
             writing::octets(out, p2, b" octets=", part(lent, 0, p.octets))
         }
-        Outcome::Refused(r) => writing::refused(out, at, r),
+        Outcome::Refused(r) => writing::refused(out, at, r, show),
     }
 }
 
-fn answer_pack(text: &[u8], out: &mut [u8], at: usize) -> usize {
+fn answer_pack(text: &[u8], show: bool, out: &mut [u8], at: usize) -> usize {
     let mut octets = [0u8; 4096];
     let HexRead::Octets(n) = page::read_hex(values::digits_of(text), &mut octets) else {
         return bad_octets(out, at);
     };
     let mut lent = [0u8; 255];
     let p = tpdu::pack_gsm7(part(&octets, 0, n), &mut lent);
-    packed(p, &lent, out, at)
+    packed(p, &lent, show, out, at)
 }
 
-fn answer_pack_header(header: &[u8], text: &[u8], out: &mut [u8], at: usize) -> usize {
+fn answer_pack_header(header: &[u8], text: &[u8], show: bool, out: &mut [u8], at: usize) -> usize {
     let mut first = [0u8; 4096];
     let HexRead::Octets(h) = page::read_hex(values::digits_of(header), &mut first) else {
         return bad_octets(out, at);
@@ -224,10 +222,17 @@ fn answer_pack_header(header: &[u8], text: &[u8], out: &mut [u8], at: usize) -> 
     };
     let mut lent = [0u8; 255];
     let p = tpdu::pack_gsm7_with_header(part(&first, 0, h), part(&octets, 0, n), &mut lent);
-    packed(p, &lent, out, at)
+    packed(p, &lent, show, out, at)
 }
 
-fn answer_address(ton: &[u8], npi: &[u8], text: &[u8], out: &mut [u8], at: usize) -> usize {
+fn answer_address(
+    ton: &[u8],
+    npi: &[u8],
+    text: &[u8],
+    show: bool,
+    out: &mut [u8],
+    at: usize,
+) -> usize {
     let OctetRead::Is(t) = values::small_number(ton) else {
         return bad_number(out, at);
     };
@@ -247,7 +252,7 @@ fn answer_address(ton: &[u8], npi: &[u8], text: &[u8], out: &mut [u8], at: usize
     };
     let mut lent = [0u8; 255];
     let w = a.encode(&mut lent);
-    writing::written(out, at, w, &lent)
+    writing::written(out, at, w, &lent, show)
 }
 
 fn answer_coding(text: &[u8], out: &mut [u8], at: usize) -> usize {
@@ -284,6 +289,7 @@ fn answer_digits(
     line: &[u8],
     starts: &[usize; 20],
     ends: &[usize; 20],
+    show: bool,
     out: &mut [u8],
     at: usize,
 ) -> usize {
@@ -302,7 +308,7 @@ fn answer_digits(
             let next = page::put(out, at, b"ok ");
             page::put(out, next, &digits)
         }
-        Outcome::Refused(r) => writing::refused(out, at, r),
+        Outcome::Refused(r) => writing::refused(out, at, r, show),
     }
 }
 
@@ -324,15 +330,15 @@ fn answer_request(
     let third = field(line, starts, ends, 3);
     match request {
         Request::Read(reader) => answer_read(reader, first, show, out, at),
-        Request::Rewrite(reader) => answer_rewrite(reader, first, out, at),
-        Request::Unpack => answer_unpack(first, second, out, at),
-        Request::UnpackHeader => answer_unpack_header(first, second, out, at),
-        Request::Pack => answer_pack(first, out, at),
-        Request::PackHeader => answer_pack_header(first, second, out, at),
-        Request::Address => answer_address(first, second, third, out, at),
+        Request::Rewrite(reader) => answer_rewrite(reader, first, show, out, at),
+        Request::Unpack => answer_unpack(first, second, show, out, at),
+        Request::UnpackHeader => answer_unpack_header(first, second, show, out, at),
+        Request::Pack => answer_pack(first, show, out, at),
+        Request::PackHeader => answer_pack_header(first, second, show, out, at),
+        Request::Address => answer_address(first, second, third, show, out, at),
         Request::Coding => answer_coding(first, out, at),
-        Request::Digits => answer_digits(line, starts, ends, out, at),
-        Request::Encode(kind) => encoding::answer(kind, line, starts, ends, count, out, at),
+        Request::Digits => answer_digits(line, starts, ends, show, out, at),
+        Request::Encode(kind) => encoding::answer(kind, line, starts, ends, count, show, out, at),
         Request::Unknown => writing::bad(out, at, b"unknown request"),
     }
 }

@@ -184,6 +184,7 @@ fn answer_values(
     line: &[u8],
     from: &[usize; 24],
     to: &[usize; 24],
+    show: bool,
     out: &mut [u8],
     at: usize,
 ) -> usize {
@@ -193,7 +194,7 @@ fn answer_values(
     }
     let mut lent = [0u8; 255];
     let w = write(kind, line, from, to, &mut lent);
-    writing::written(out, at, w, &lent)
+    writing::written(out, at, w, &lent, show)
 }
 
 pub fn answer(
@@ -202,6 +203,7 @@ pub fn answer(
     starts: &[usize; 20],
     ends: &[usize; 20],
     count: usize,
+    show: bool,
     out: &mut [u8],
     at: usize,
 ) -> usize {
@@ -210,6 +212,6 @@ pub fn answer(
     match keys::find_keys(kind, line, starts, ends, count, &mut from, &mut to) {
         Keys::Unknown => writing::bad(out, at, b"unknown key"),
         Keys::Twice => writing::bad(out, at, b"key given twice"),
-        Keys::Found => answer_values(kind, line, &from, &to, out, at),
+        Keys::Found => answer_values(kind, line, &from, &to, show, out, at),
     }
 }

@@ -139,11 +139,52 @@ fn answer_last(line: &[u8], out: &mut [u8], held: Held, show: bool) -> usize {
 }
 
 // Answers each line of standard input.
-pub fn answer_requests(show: bool) {
+fn answer_requests(show: bool) {
     let mut input = io::large_buffer();
     let mut line = [0u8; 8192];
     let mut out = io::large_buffer();
     let held = answer_all(&mut input, &mut line, &mut out, show);
     let at = answer_last(&line, &mut out, held, show);
     io::write_all(STDOUT_FILENO, fields::part(&out, 0, at));
+}
+
+fn say(words: &[u8]) {
+    io::write_all(STDOUT_FILENO, words);
+}
+
+// How the program is used.
+fn say_usage() {
+    say(b"tpdutool         answers requests on standard input, a line each, with a line each\n");
+    say(b"tpdutool show    answers for people, several lines a message\n");
+    say(b"tpdutool help    says this\n\n");
+    say(b"deliver HEX, submit HEX, submit-report-ack HEX, submit-report-error HEX,\n");
+    say(b"deliver-report-ack HEX, deliver-report-error HEX, status-report HEX\n");
+    say(b"                             the fields of a message\n");
+    say(b"re-KIND HEX                  a message of one of these kinds, read and written back\n");
+    say(b"enc-KIND key=value ..        the octets of a record: deliver, submit, submit-report,\n");
+    say(b"                             deliver-report, status-report\n");
+    say(b"unpack COUNT HEX             the text of so many septets\n");
+    say(b"unpack-header COUNT HEX      the same behind a header\n");
+    say(b"pack HEX                     the septets of a text, which is given as UTF-8\n");
+    say(b"pack-header HEX HEX          the same behind a header\n");
+    say(b"address TON NPI HEX          the octets of an address\n");
+    say(b"coding DCS                   the coding of user data\n");
+    say(b"digits Y M D H M S Z         the digits of a time\n\n");
+    say(b"docs/REQUESTS.md has the keys and the answers.\n");
+}
+
+// Does what the arguments ask for: without one it answers requests, with `show` for people; else it says how it is used.
+pub fn run() {
+    let count = os::arg_count();
+    if count <= 1 {
+        answer_requests(false);
+        return;
+    }
+    let mut word = [0u8; 8];
+    let n = os::arg(1, &mut word);
+    if count == 2 && fields::same(fields::part(&word, 0, n), b"show") {
+        answer_requests(true);
+        return;
+    }
+    say_usage();
 }

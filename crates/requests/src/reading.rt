@@ -241,7 +241,7 @@ fn read_deliver(octets: &[u8], out: &mut [u8], at: usize) -> usize {
     let message = read.message;
     match outcome {
         Outcome::Done => deliver(out, at, message),
-        Outcome::Refused(r) => writing::refused(out, at, r),
+        Outcome::Refused(r) => writing::refused(out, at, r, false),
     }
 }
 
@@ -255,7 +255,7 @@ fn read_submit(octets: &[u8], out: &mut [u8], at: usize) -> usize {
             let p2 = page::put_decimal(out, p1, read.octets_read as u64);
             submit(out, p2, message)
         }
-        Outcome::Refused(r) => writing::refused(out, at, r),
+        Outcome::Refused(r) => writing::refused(out, at, r, false),
     }
 }
 
@@ -264,7 +264,7 @@ fn read_submit_report(read: SubmitReportRead, out: &mut [u8], at: usize) -> usiz
     let message = read.message;
     match outcome {
         Outcome::Done => submit_report(out, at, message),
-        Outcome::Refused(r) => writing::refused(out, at, r),
+        Outcome::Refused(r) => writing::refused(out, at, r, false),
     }
 }
 
@@ -273,7 +273,7 @@ fn read_deliver_report(read: DeliverReportRead, out: &mut [u8], at: usize) -> us
     let message = read.message;
     match outcome {
         Outcome::Done => deliver_report(out, at, message),
-        Outcome::Refused(r) => writing::refused(out, at, r),
+        Outcome::Refused(r) => writing::refused(out, at, r, false),
     }
 }
 
@@ -283,7 +283,7 @@ fn read_status_report(octets: &[u8], out: &mut [u8], at: usize) -> usize {
     let message = read.message;
     match outcome {
         Outcome::Done => status_report(out, at, message),
-        Outcome::Refused(r) => writing::refused(out, at, r),
+        Outcome::Refused(r) => writing::refused(out, at, r, false),
     }
 }
 
@@ -323,8 +323,22 @@ fn canonical(reader: Reader, octets: &[u8], lent: &mut [u8]) -> Written {
 }
 
 // The octets that are read and written back.
-pub fn answer_again(reader: Reader, octets: &[u8], out: &mut [u8], at: usize) -> usize {
+pub fn answer_again(reader: Reader, octets: &[u8], show: bool, out: &mut [u8], at: usize) -> usize {
     let mut lent = [0u8; 255];
     let w = canonical(reader, octets, &mut lent);
-    writing::written(out, at, w, &lent)
+    writing::written(out, at, w, &lent, show)
+}
+
+// The message for people, several lines.
+pub fn show(reader: Reader, octets: &[u8], out: &mut [u8], at: usize) -> usize {
+    match reader {
+        Reader::Deliver => people::show_deliver(octets, out, at),
+        Reader::Submit => people::show_submit(octets, out, at),
+        Reader::SubmitReportAck => people::show_submit_report_ack(octets, out, at),
+        Reader::SubmitReportError => people::show_submit_report_error(octets, out, at),
+        Reader::DeliverReportAck => people::show_deliver_report_ack(octets, out, at),
+        Reader::DeliverReportError => people::show_deliver_report_error(octets, out, at),
+        Reader::StatusReport => people::show_status_report(octets, out, at),
+        Reader::Unknown => at,
+    }
 }

@@ -91,19 +91,22 @@ fn name_of(out: &mut [u8], at: usize, r: Refusal) -> usize {
     }
 }
 
-// A refusal's number and name.
-pub fn refused(out: &mut [u8], at: usize, r: Refusal) -> usize {
+// A refusal's number and name; for people, its number and words.
+pub fn refused(out: &mut [u8], at: usize, r: Refusal, show: bool) -> usize {
     let p1 = page::put(out, at, b"refused ");
+    if show {
+        return people::put_refusal_words(out, p1, r);
+    }
     let p2 = page::put_decimal(out, p1, r.number() as u64);
     let p3 = page::put(out, p2, b" ");
     name_of(out, p3, r)
 }
 
 // What a writer answered, and the octets that it wrote.
-pub fn written(out: &mut [u8], at: usize, w: Written, lent: &[u8]) -> usize {
+pub fn written(out: &mut [u8], at: usize, w: Written, lent: &[u8], show: bool) -> usize {
     match w {
         Written::Done(n) => octets(out, at, b"ok ", part(lent, 0, n)),
-        Written::Refused(r) => refused(out, at, r),
+        Written::Refused(r) => refused(out, at, r, show),
     }
 }
 

@@ -1,4 +1,4 @@
-// Answers the requests on standard input.
+// Answers the requests on standard input (docs/REQUESTS.md).
 fn main() {
-    requests::answer_requests(false);
+    requests::run();
 }

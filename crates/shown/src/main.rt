@@ -1,0 +1,4 @@
+// The program tpdutool, for people: its stored input and output.
+fn main() {
+    requests::run();
+}

@@ -1,0 +1,329 @@
+//! Times the Rust and the port in one process, on the same inputs, and prints a table: nanoseconds
+//! each, and the ratio Rust / port. Each number is the median of several runs. What writing takes
+//! is the time of reading and writing back, less that of reading, which is taken in the same run.
+
+use std::hint::black_box;
+use std::io::Cursor;
+use std::time::Instant;
+use tpdu::{
+    decode_sms_submit_tpdu, pack_gsm7, pack_gsm7_with_header, timestamp_digits, unpack_gsm7,
+    SMSAddress, SmsDeliver, SmsDeliverReport, SmsStatusReport, SmsSubmitReport,
+};
+
+extern "C" {
+    fn tpdu_read_deliver(data: *const u8, length: usize) -> usize;
+    fn tpdu_read_submit(data: *const u8, length: usize) -> usize;
+    fn tpdu_read_status_report(data: *const u8, length: usize) -> usize;
+    fn tpdu_read_submit_report(data: *const u8, length: usize) -> usize;
+    fn tpdu_read_deliver_report(data: *const u8, length: usize) -> usize;
+    fn tpdu_rewrite_deliver(data: *const u8, length: usize, out: *mut u8, room: usize) -> usize;
+    fn tpdu_rewrite_submit(data: *const u8, length: usize, out: *mut u8, room: usize) -> usize;
+    fn tpdu_rewrite_status_report(
+        data: *const u8,
+        length: usize,
+        out: *mut u8,
+        room: usize,
+    ) -> usize;
+    fn tpdu_rewrite_submit_report(
+        data: *const u8,
+        length: usize,
+        out: *mut u8,
+        room: usize,
+    ) -> usize;
+    fn tpdu_rewrite_deliver_report(
+        data: *const u8,
+        length: usize,
+        out: *mut u8,
+        room: usize,
+    ) -> usize;
+    fn tpdu_pack(text: *const u8, length: usize, out: *mut u8, room: usize) -> usize;
+    fn tpdu_unpack(data: *const u8, length: usize, septets: usize) -> usize;
+    fn tpdu_address(
+        ton: u8,
+        npi: u8,
+        text: *const [u8; 290],
+        length: usize,
+        out: *mut u8,
+        room: usize,
+    ) -> usize;
+    fn tpdu_digits(second: u8, zone: i8) -> usize;
+}
+
+type Read = unsafe extern "C" fn(*const u8, usize) -> usize;
+type Rewrite = unsafe extern "C" fn(*const u8, usize, *mut u8, usize) -> usize;
+
+const RUNS: usize = 15;
+const TURNS: u32 = 20_000;
+
+/// Nanoseconds of one turn, in one run.
+fn run(turn: &mut impl FnMut() -> usize) -> f64 {
+    let start = Instant::now();
+    for _ in 0..TURNS {
+        black_box(turn());
+    }
+    start.elapsed().as_nanos() as f64 / f64::from(TURNS)
+}
+
+/// The median of several runs, behind one that isn't counted.
+fn median(mut one: impl FnMut() -> f64) -> f64 {
+    one();
+    let mut runs: Vec<f64> = (0..RUNS).map(|_| one()).collect();
+    runs.sort_by(f64::total_cmp);
+    runs[RUNS / 2]
+}
+
+/// Nanoseconds of one turn.
+fn timed(mut turn: impl FnMut() -> usize) -> f64 {
+    median(|| run(&mut turn))
+}
+
+/// Nanoseconds that the second takes more than the first.
+fn timed_behind(mut first: impl FnMut() -> usize, mut second: impl FnMut() -> usize) -> f64 {
+    median(|| {
+        let before = run(&mut first);
+        run(&mut second) - before
+    })
+}
+
+fn row(work: &str, rust: f64, port: f64) {
+    println!("| {work} | {rust:.0} | {port:.0} | {:.1} |", rust / port);
+}
+
+/// Both sides of one work give the same number, or the row would compare different things.
+fn agreed(work: &str, mut rust: impl FnMut() -> usize, mut port: impl FnMut() -> usize) {
+    assert_eq!(rust(), port(), "{work}: the two sides disagree");
+}
+
+/// A kind of message: what the Rust does with it, and the port's functions.
+struct Kind {
+    name: &'static str,
+    message: Vec<u8>,
+    read: fn(&[u8]) -> usize,
+    rewrite: fn(&[u8]) -> usize,
+    port_read: Read,
+    port_rewrite: Rewrite,
+}
+
+fn time_message(kind: &Kind) {
+    let data = &kind.message;
+    let mut out = [0u8; 255];
+    let rust_read = || (kind.read)(black_box(data));
+    let port_read = || unsafe { (kind.port_read)(black_box(data.as_ptr()), data.len()) };
+    let rust_rewrite = || (kind.rewrite)(black_box(data));
+    let mut port_rewrite = || unsafe {
+        (kind.port_rewrite)(
+            black_box(data.as_ptr()),
+            data.len(),
+            black_box(out.as_mut_ptr()),
+            255,
+        )
+    };
+    agreed(kind.name, rust_read, port_read);
+    agreed(kind.name, rust_rewrite, &mut port_rewrite);
+    row(
+        &format!("read {}", kind.name),
+        timed(rust_read),
+        timed(port_read),
+    );
+    row(
+        &format!("write {}", kind.name),
+        timed_behind(rust_read, rust_rewrite),
+        timed_behind(port_read, &mut port_rewrite),
+    );
+}
+
+fn submit(data: &[u8]) -> tpdu::SmsSubmit {
+    decode_sms_submit_tpdu(&mut Cursor::new(data)).unwrap()
+}
+
+fn read_submit(data: &[u8]) -> usize {
+    let mut cursor = Cursor::new(data);
+    black_box(decode_sms_submit_tpdu(&mut cursor).unwrap());
+    cursor.position() as usize
+}
+
+fn read_deliver(data: &[u8]) -> usize {
+    SmsDeliver::decode(data).unwrap().tp_user_data.len()
+}
+
+fn read_status_report(data: &[u8]) -> usize {
+    SmsStatusReport::decode(data).unwrap().tp_user_data.len()
+}
+
+fn read_submit_report(data: &[u8]) -> usize {
+    SmsSubmitReport::decode_for_rp_ack(data)
+        .unwrap()
+        .tp_user_data
+        .len()
+}
+
+fn read_deliver_report(data: &[u8]) -> usize {
+    SmsDeliverReport::decode_for_rp_error(data)
+        .unwrap()
+        .tp_user_data
+        .len()
+}
+
+fn rewrite_submit(data: &[u8]) -> usize {
+    submit(data).encode().unwrap().len()
+}
+
+fn rewrite_deliver(data: &[u8]) -> usize {
+    SmsDeliver::decode(data).unwrap().encode().unwrap().len()
+}
+
+fn rewrite_status_report(data: &[u8]) -> usize {
+    let report = SmsStatusReport::decode(data).unwrap();
+    report.encode().unwrap().len()
+}
+
+fn rewrite_submit_report(data: &[u8]) -> usize {
+    let report = SmsSubmitReport::decode_for_rp_ack(data).unwrap();
+    report.encode().unwrap().len()
+}
+
+fn rewrite_deliver_report(data: &[u8]) -> usize {
+    let report = SmsDeliverReport::decode_for_rp_error(data).unwrap();
+    report.encode().unwrap().len()
+}
+
+const ADDRESS: [u8; 8] = [0x0b, 0x91, 0x13, 0x26, 0x54, 0x87, 0x09, 0xf1];
+const TIME: [u8; 7] = [0x42, 0x20, 0x51, 0x21, 0x03, 0x54, 0x00];
+
+/// A message of its parts, one behind the other.
+fn message(parts: &[&[u8]]) -> Vec<u8> {
+    parts.concat()
+}
+
+fn kinds() -> Vec<Kind> {
+    let text = "Damp board at reel 3, call the second lead. ".repeat(4);
+    let (packed, _) = pack_gsm7(&text[..160]).unwrap();
+    let header = [0x05, 0x00, 0x03, 0x2a, 0x02, 0x01];
+    let (with_header, septets) = pack_gsm7_with_header(&header, &text[..153]).unwrap();
+    let (short, _) = pack_gsm7(&text[..20]).unwrap();
+    vec![
+        Kind {
+            name: "DELIVER, 140 octets",
+            message: message(&[&[0x04], &ADDRESS, &[0x00, 0x04], &TIME, &[140], &packed]),
+            read: read_deliver,
+            rewrite: rewrite_deliver,
+            port_read: tpdu_read_deliver,
+            port_rewrite: tpdu_rewrite_deliver,
+        },
+        Kind {
+            name: "SUBMIT, 160 septets",
+            message: message(&[&[0x31, 7], &ADDRESS, &[0x00, 0x00, 0xaa, 160], &packed]),
+            read: read_submit,
+            rewrite: rewrite_submit,
+            port_read: tpdu_read_submit,
+            port_rewrite: tpdu_rewrite_submit,
+        },
+        Kind {
+            name: "SUBMIT, header and text",
+            message: message(&[
+                &[0x71, 7],
+                &ADDRESS,
+                &[0x00, 0x00, 0xaa, septets as u8],
+                &with_header,
+            ]),
+            read: read_submit,
+            rewrite: rewrite_submit,
+            port_read: tpdu_read_submit,
+            port_rewrite: tpdu_rewrite_submit,
+        },
+        Kind {
+            name: "STATUS-REPORT",
+            message: message(&[&[0x06, 7], &ADDRESS, &TIME, &TIME, &[0x00]]),
+            read: read_status_report,
+            rewrite: rewrite_status_report,
+            port_read: tpdu_read_status_report,
+            port_rewrite: tpdu_rewrite_status_report,
+        },
+        Kind {
+            name: "SUBMIT-REPORT, 20 septets",
+            message: message(&[&[0x01, 0x07], &TIME, &[0x00, 0x00, 20], &short]),
+            read: read_submit_report,
+            rewrite: rewrite_submit_report,
+            port_read: tpdu_read_submit_report,
+            port_rewrite: tpdu_rewrite_submit_report,
+        },
+        Kind {
+            name: "DELIVER-REPORT, 20 septets",
+            message: message(&[&[0x00, 0xd0, 0x07, 0x00, 0x00, 20], &short]),
+            read: read_deliver_report,
+            rewrite: rewrite_deliver_report,
+            port_read: tpdu_read_deliver_report,
+            port_rewrite: tpdu_rewrite_deliver_report,
+        },
+    ]
+}
+
+fn time_text(name: &str, text: &str) {
+    let mut out = [0u8; 255];
+    let (packed, septets) = pack_gsm7(text).unwrap();
+    let rust = || pack_gsm7(black_box(text)).unwrap().0.len();
+    let mut port = || unsafe {
+        tpdu_pack(
+            black_box(text.as_ptr()),
+            text.len(),
+            black_box(out.as_mut_ptr()),
+            255,
+        )
+    };
+    agreed(name, rust, &mut port);
+    row(&format!("pack {name}"), timed(rust), timed(&mut port));
+    let rust = || unpack_gsm7(black_box(&packed), septets).unwrap().len();
+    let port = || unsafe { tpdu_unpack(black_box(packed.as_ptr()), packed.len(), septets) };
+    agreed(name, rust, port);
+    row(&format!("unpack {name}"), timed(rust), timed(port));
+}
+
+fn time_address(name: &str, ton: u8, npi: u8, text: &str) {
+    let mut out = [0u8; 12];
+    let mut array = [0u8; 290];
+    array[..text.len()].copy_from_slice(text.as_bytes());
+    let address = SMSAddress {
+        ton,
+        npi,
+        address: text.to_string(),
+    };
+    let rust = || black_box(&address).encode(false).unwrap().len();
+    let mut port = || unsafe {
+        tpdu_address(
+            ton,
+            npi,
+            black_box(&array),
+            text.len(),
+            black_box(out.as_mut_ptr()),
+            12,
+        )
+    };
+    agreed(name, rust, &mut port);
+    row(name, timed(rust), timed(&mut port));
+}
+
+fn time_digits() {
+    let rust = || {
+        let digits = timestamp_digits(24, 2, 15, 12, 30, black_box(45), black_box(-5)).unwrap();
+        usize::from(digits.as_bytes()[11])
+    };
+    let port = || unsafe { tpdu_digits(black_box(45), black_box(-5)) };
+    agreed("timestamp_digits", rust, port);
+    row("timestamp_digits", timed(rust), timed(port));
+}
+
+fn main() {
+    println!("| Work | Rust, ns | port, ns | Rust / port |");
+    println!("|---|---|---|---|");
+    for kind in kinds() {
+        time_message(&kind);
+    }
+    time_text(
+        "160 septets",
+        &"Damp board at reel 3, call the second lead. ".repeat(4)[..160],
+    );
+    time_text("80 extension characters", &"^{}\\[~]|".repeat(10));
+    time_address("address of 11 digits", 1, 1, "31624578901");
+    time_address("address of type 5", 5, 0, "Wiglanth");
+    time_digits();
+}
