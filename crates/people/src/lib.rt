@@ -1,6 +1,5 @@
 // Messages shown for people: the kind, and a line for each part. A word that does not fit the page is left out.
 mod calendar;
-mod characters;
 mod words;
 
 use characters::first;

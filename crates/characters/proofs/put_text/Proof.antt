@@ -1,12 +1,12 @@
--- `people::characters::put_text` is safe and ends.
+-- `characters::put_text` is safe and ends.
 -- Assumes nothing.
 use Prim.Native.Nat.{_-_}
 use mathlib.Core.Path.{_≡_, refl}
 use native.Mathlib.Omega.{arith}
 use borrow.Author.Needs.{needs}
 use lib.ListN.{length}
-use Rattle.people.proofs.characters.put_text.Statement.{statement}
-use Rattle.people.proofs.characters.put_text.Tie as tie
+use Rattle.characters.proofs.put_text.Statement.{statement}
+use Rattle.characters.proofs.put_text.Tie as tie
 
 abbrev Inv-loop : tie.InvT-loop
 Inv-loop out₀ at text place₀ i₀ out place i = length out ≡ length out₀

@@ -6,7 +6,7 @@ use mathlib.Core.List.{List, [], _∷_}
 use native.Mathlib.Omega.{arith}
 use borrow.Author.Tests.{lt-ltb, le-ltb, lt-leb, le-leb}
 use Rattle.text.specs.Reading.{utf8 as utf8OfUnit}
-use Rattle.people.specs.Characters.{utf8, characterOf, sized, replacement}
+use Rattle.characters.specs.Characters.{utf8, characterOf, sized, replacement}
 
 pub utf8-unit : (c : ℕ) → c < 0x10000 → utf8 c ≡ utf8OfUnit c
 unfolding utf8

@@ -1,10 +1,10 @@
--- `people::characters::character_of` meets its contract, by the ranges of its units.
+-- `characters::character_of` meets its contract, by the ranges of its units.
 -- Assumes nothing.
 use mathlib.Core.Path.{sym}
 use native.Mathlib.Omega.{arith}
-use Rattle.people.proofs.Laws.{below-surrogates, above-surrogates, lone-low, low-below, low-above, a-pair}
-use Rattle.people.proofs.characters.character_of.Statement.{statement}
-use Rattle.people.proofs.characters.character_of.Tie as tie
+use Rattle.characters.proofs.Laws.{below-surrogates, above-surrogates, lone-low, low-below, low-above, a-pair}
+use Rattle.characters.proofs.character_of.Statement.{statement}
+use Rattle.characters.proofs.character_of.Tie as tie
 
 returns : tie.Need-returns
 returns c = (sym (below-surrogates _ _ (c .if1 .taken)), omega arith, omega arith, omega arith)

@@ -2,7 +2,7 @@
 ghost use mathlib.Core.Path.{_≡_};
 ghost use Prim.Native.Nat.{_+_, _*_, _<_, _≤_};
 ghost use lib.ListN.{take};
-ghost use Rattle.people.specs.Characters.{utf8 as utf8Of, characterOf, firstCharacter, replacement as theReplacement};
+ghost use Rattle.characters.specs.Characters.{utf8 as utf8Of, characterOf, firstCharacter, replacement as theReplacement};
 
 // A character, and how many octets it took.
 pub struct Character {

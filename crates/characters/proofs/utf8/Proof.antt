@@ -1,11 +1,11 @@
--- `people::characters::utf8` meets its contract, by the size of the character.
+-- `characters::utf8` meets its contract, by the size of the character.
 -- Assumes nothing.
 use mathlib.Core.Path.{sym, _∙_}
 use native.Mathlib.Omega.{arith}
 use Rattle.text.proofs.Utf8.{utf8-one, utf8-two, utf8-three}
-use Rattle.people.proofs.Laws.{utf8-unit, utf8-four}
-use Rattle.people.proofs.characters.utf8.Statement.{statement}
-use Rattle.people.proofs.characters.utf8.Tie as tie
+use Rattle.characters.proofs.Laws.{utf8-unit, utf8-four}
+use Rattle.characters.proofs.utf8.Statement.{statement}
+use Rattle.characters.proofs.utf8.Tie as tie
 
 pub utf8-spec : {M : Type 1} → statement M
 utf8-spec =

@@ -7,7 +7,7 @@ use lib.Dec.{ltb}
 use lib.ListN.{length, getD}
 use Rattle.octets.specs.Choice.{if_then_else_, within}
 use Rattle.text.specs.Reading.{utf8 as utf8OfUnit}
-use Rattle.people.specs.declared.characters.Character.{Character}
+use Rattle.characters.specs.declared.Character.{Character}
 
 -- the octets of a character (RFC 3629 §3): up to three for one of sixteen bits, else four
 unfoldable pub utf8 : ℕ → List ℕ

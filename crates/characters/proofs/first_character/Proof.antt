@@ -1,12 +1,12 @@
--- `people::characters::first_character` meets its contract.
+-- `characters::first_character` meets its contract.
 -- Assumes nothing.
 use mathlib.Core.Path.{sym, _∙_, ap}
 use native.Mathlib.Omega.{arith}
 use borrow.Author.Needs.{needs}
 use borrow.Author.Tests.{lt-ltb, le-ltb}
-use Rattle.people.specs.Characters.{characterOf, firstCharacter}
-use Rattle.people.proofs.characters.first_character.Statement.{statement}
-use Rattle.people.proofs.characters.first_character.Tie as tie
+use Rattle.characters.specs.Characters.{characterOf, firstCharacter}
+use Rattle.characters.proofs.first_character.Statement.{statement}
+use Rattle.characters.proofs.first_character.Tie as tie
 
 returns : tie.Need-returns
 unfolding firstCharacter
