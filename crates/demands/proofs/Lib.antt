@@ -1,1 +1,11 @@
 pub mod Demands
+pub mod LayoutBack
+pub mod ParametersBack
+pub mod DeliverBack
+pub mod DeliverReportBack
+pub mod SubmitReportBack
+pub mod StatusReportBack
+pub mod SubmitWritten
+pub mod SubmitBack
+pub mod SubmitLimits
+pub mod SubmitAlike

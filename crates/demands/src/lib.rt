@@ -1,1 +1,1 @@
-// Demand 3 of document 01, reader by reader: proofs/Demands.antt.
+// Laws of readers and writers, kind by kind: demand 3 in proofs/Demands.antt, demand 2 and limits of what is written in the files beside it.

@@ -5,5 +5,4 @@ pub mod Laws
 pub mod Makes
 pub mod Demand
 pub mod Steps
-pub mod Back
 pub mod Rewriting

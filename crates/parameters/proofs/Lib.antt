@@ -3,4 +3,3 @@ pub mod Reading
 pub mod Outcomes
 pub mod Made
 pub mod Checking
-pub mod Back

@@ -4,8 +4,4 @@ pub mod Parts
 pub mod Reading
 pub mod Writing
 pub mod Demand
-pub mod Alike
-pub mod Written
-pub mod ReadBack
-pub mod Limits
 pub mod Known

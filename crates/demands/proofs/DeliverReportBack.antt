@@ -24,12 +24,12 @@ use Rattle.parameters.specs.Line.{Parameters, parameters, parametersOctets}
 use Rattle.parameters.specs.Optional.{held}
 use Rattle.parameters.specs.declared.OptionalOctet.{OptionalOctet}
 use Rattle.parameters.specs.declared.OptionalOctet.the-variants.{Absent, Present}
-use Rattle.parameters.proofs.Back.{octet-here, indicator-here, not-extended, parameters-here, parameters-limit}
+use Rattle.demands.proofs.ParametersBack.{octet-here, indicator-here, not-extended, parameters-here, parameters-limit}
 use Rattle.deliver_report.specs.DeliverReport.{reported, rest, outcomeOf, octetsIn, partsChecks, parametersOf, reporting, Parts, parts, partsOctets}
 use Rattle.deliver_report.specs.declared.SmsDeliverReport.{SmsDeliverReport}
 use Rattle.parameters.proofs.Made.{one-at-most}
 use Rattle.deliver_report.proofs.Writing.{size-is}
 use Rattle.deliver_report.proofs.Reading.{outcomes}
 
 -- ---- the octets of parts that pass the checks
 

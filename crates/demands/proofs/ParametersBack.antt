@@ -19,14 +19,14 @@ use Rattle.octets.proofs.Checks.{holds}
 use Rattle.coding.specs.Coding.{codingOf, dataOctets, checkedData}
 use Rattle.coding.proofs.Laws.{data-passed}
 use Rattle.layout.specs.Layout.{octet, userData, indicator, indicatorSize, bit, isSet, Format, field, _then_, reached, reading, readFrom, leading}
-use Rattle.layout.proofs.Back.{field-read, field-here}
+use Rattle.demands.proofs.LayoutBack.{field-read, field-here}
 use Rattle.layout.proofs.Steps.{then-goes-on}
 use Rattle.parameters.specs.Checking.{indicatorChecks, dataChecks}
 use Rattle.parameters.specs.Line.{Parameters, announced, dataFor, parameters, parametersOctets}
 use Rattle.parameters.specs.Optional.{octetsHeld, held, orZero}
 use Rattle.parameters.specs.declared.OptionalOctet.{OptionalOctet}
 use Rattle.parameters.specs.declared.OptionalOctet.the-variants.{Absent, Present}
 use Rattle.parameters.proofs.Made.{one-at-most, three-bits}
 
 -- user data that pass have at most 140 octets
 data-limit : (dcs udl : OptionalOctet) (n : ℕ) → found (dataChecks dcs udl n) ≡ Checked.Fine → n ≤ 140

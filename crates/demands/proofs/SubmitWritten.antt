@@ -14,10 +14,10 @@ use Rattle.octets.specs.declared.Refusal.the-variants.{HeaderNotWhole, HeaderPa
 use Rattle.coding.specs.Coding.{codingOf, dataOctets}
 use Rattle.address.specs.Address.{addressSize, canonicalAddress}
 use Rattle.layout.specs.Layout.{octet, octets, any, require, done, address, userData, isSet, messageType, Reached, reached, halted, reading, readFrom, read}
-use Rattle.layout.proofs.Back.{field-read, field-last, message-read}
+use Rattle.demands.proofs.LayoutBack.{field-read, field-last, message-read}
 use Rattle.submit.specs.declared.SmsSubmit.{SmsSubmit}
 use Rattle.submit.specs.Submit.{formatIn, periodSize, headerSize, inCount, submitted, bits, behindCoding, behindFirst, line, submit}
 use Rattle.submit.proofs.Reading.{kept-whole}
 
 -- what must hold at the line's end
 ends-if : {R : Type 0} (why also : Refusal) (a b : Bool) (r : R) (s : List ℕ) (at : ℕ) → reading (require why a (require also b (done r))) s at ≡ (if a then if b then reached r at else halted also else halted why)

@@ -22,13 +22,13 @@ use Rattle.coding.proofs.Laws.{data-held}
 use Rattle.octets.specs.Lent.{made}
 use Rattle.octets.specs.declared.Refusal.the-variants.{LengthTooLarge, HeaderNotWhole, HeaderPassesCount}
 use Rattle.octets.specs.declared.Written.{Written}
 use Rattle.submit.specs.declared.SmsSubmit.{SmsSubmit}
 use Rattle.submit.specs.declared.ValidityPeriod.{ValidityPeriod}
 use Rattle.submit.specs.Parts.{parts}
-use Rattle.submit.proofs.Written.{written-read}
+use Rattle.demands.proofs.SubmitWritten.{written-read}
 use Rattle.submit.proofs.Writing.{all-passed}
 use Rattle.submit.specs.Submit.{formatIn, formatOf, periodIn, periodOctets, isAbsolute, lengthIf, timeHolds, periodSize, headerSize, inCount, submitted, submit, addressLength, digitsLength, lengthsFit, submitting}
 use Rattle.submit.proofs.Period.{digitsBeside, enhancedBeside, period-size}
 
 -- ---- the first octet
 

@@ -24,9 +24,9 @@ use Rattle.time.proofs.Laws.{digits-back, length-digits, time-means, time-held,
 use Rattle.address.specs.Address.{addressIn, addressWith, addressOctets, addressSize, canonicalAddress, octetsOr, textHeld, addressChecks}
 use Rattle.address.proofs.Laws.{Spelled, address-passed}
 use Rattle.layout.specs.Layout.{first, octet, octets, any, address, userData, isSet, messageType, kept, Format, field, reached, reading, readFrom, read}
-use Rattle.layout.proofs.Back.{field-read, field-last, message-read, done-read}
+use Rattle.demands.proofs.LayoutBack.{field-read, field-last, message-read, done-read}
 use Rattle.deliver.specs.declared.SmsDeliver.{SmsDeliver}
 use Rattle.deliver.specs.Deliver.{bits, delivered, behindAddress, line, deliver, octetsIn, making, flagsOf, delivering, parts, capitalised, tooLong}
 
 -- ---- the checks that a written record passed
 

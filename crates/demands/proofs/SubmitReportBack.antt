@@ -23,18 +23,18 @@ use Rattle.time.specs.Time.{isTime, timeDigits, timeOctets, timeIn, digitsOf}
 use Rattle.time.proofs.Laws.{time-means, length-digits, digits-back, time-size}
 use Rattle.layout.specs.Layout.{octets, any, time, reached, readFrom, read}
 use Rattle.layout.proofs.Steps.{done-reached}
-use Rattle.layout.proofs.Back.{field-here}
+use Rattle.demands.proofs.LayoutBack.{field-here}
 use Rattle.parameters.specs.Checking.{indicatorChecks, dataChecks}
 use Rattle.parameters.specs.Line.{Parameters, parameters, parametersOctets}
 use Rattle.parameters.specs.Optional.{held}
 use Rattle.parameters.specs.declared.OptionalOctet.{OptionalOctet}
 use Rattle.parameters.specs.declared.OptionalOctet.the-variants.{Absent, Present}
-use Rattle.parameters.proofs.Back.{octet-here, indicator-here, not-extended, parameters-here, parameters-limit}
+use Rattle.demands.proofs.ParametersBack.{octet-here, indicator-here, not-extended, parameters-here, parameters-limit}
 use Rattle.parameters.proofs.Made.{one-at-most}
 use Rattle.submit_report.specs.SubmitReport.{reported, rest, outcomeOf, octetsIn, making, parametersOf, reporting, Parts, parts, capitalised}
 use Rattle.submit_report.specs.declared.SmsSubmitReport.{SmsSubmitReport}
 use Rattle.submit_report.proofs.Writing.{size-is}
 use Rattle.submit_report.proofs.Reading.{outcomes}
 
 -- ---- the octets of parts that pass the checks
 

@@ -26,15 +26,15 @@ use Rattle.address.specs.Address.{addressIn, addressWith, addressOctets, addres
 use Rattle.address.proofs.Laws.{Spelled, address-passed}
 use Rattle.layout.specs.Layout.{octet, octets, any, address, isSet, messageType, kept, Format, field, one, reached, reading, readFrom, read}
 use Rattle.layout.proofs.Steps.{done-reached, end-not-reached}
-use Rattle.layout.proofs.Back.{field-read, message-read}
+use Rattle.demands.proofs.LayoutBack.{field-read, message-read}
 use Rattle.parameters.specs.Checking.{indicatorChecks, dataChecks}
 use Rattle.parameters.specs.Line.{Parameters, parametersOctets}
 use Rattle.parameters.specs.Optional.{octetsHeld, held}
 use Rattle.parameters.specs.declared.OptionalOctet.{OptionalOctet}
 use Rattle.parameters.specs.declared.OptionalOctet.the-variants.{Absent, Present}
-use Rattle.parameters.proofs.Back.{indicator-here, not-extended, parameters-here, parameters-limit}
+use Rattle.demands.proofs.ParametersBack.{indicator-here, not-extended, parameters-here, parameters-limit}
 use Rattle.status_report.specs.StatusReport.{bits, reported, behindStatus, behindAddress, line, statusReport, octetsIn, optionalChecks, checksBehind, making, firstOf, parametersOf, reporting, parts, capitalised, tooLong}
 use Rattle.status_report.specs.declared.SmsStatusReport.{SmsStatusReport}
 
 -- ---- the checks that a written record passed
 
