@@ -3,6 +3,7 @@ mod calendar;
 mod words;
 
 use characters::first;
+use refusals::put_refusal_words;
 use tpdu::DeliverReportRead;
 use tpdu::OptionalOctet;
 use tpdu::Outcome;
@@ -18,7 +19,6 @@ use tpdu::Time;
 use tpdu::UserData;
 use tpdu::UserDataCoding;
 use tpdu::ValidityPeriod;
-pub use words::put_refusal_words;
 
 // The column of the values, behind the indent.
 const COLUMN: usize = 10;

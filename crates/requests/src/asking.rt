@@ -1,21 +1,20 @@
 // What a line asks for, and the answer.
-use crate::encoding;
-use crate::fields;
-use crate::fields::begins;
-use crate::fields::behind;
-use crate::fields::field;
-use crate::fields::part;
-use crate::fields::same;
-use crate::keys;
-use crate::keys::Kind;
-use crate::reading;
-use crate::reading::Reader;
-use crate::values;
-use crate::values::NumberRead;
-use crate::values::OctetRead;
-use crate::values::ZoneRead;
-use crate::writing;
+use lines::fields;
+use lines::fields::begins;
+use lines::fields::behind;
+use lines::fields::field;
+use lines::fields::part;
+use lines::fields::same;
+use lines::values;
+use lines::values::NumberRead;
+use lines::values::OctetRead;
+use lines::values::ZoneRead;
+use lines::writing;
 use page::HexRead;
+use readings::Reader;
+use records::encoding;
+use records::keys;
+use records::keys::Kind;
 use tpdu::Outcome;
 use tpdu::Packed;
 use tpdu::SMSAddress;
@@ -57,7 +56,7 @@ fn encoder_named(name: &[u8]) -> Request {
 }
 
 fn rewriter_named(name: &[u8]) -> Request {
-    let reader = reading::reader_named(name);
+    let reader = readings::reader_named(name);
     if let Reader::Unknown = reader {
         return Request::Unknown;
     }
@@ -97,7 +96,7 @@ fn request_named(name: &[u8]) -> Request {
     if begins(name, b"re-") {
         return rewriter_named(behind(name, 3));
     }
-    let reader = reading::reader_named(name);
+    let reader = readings::reader_named(name);
     if let Reader::Unknown = reader {
         return part_named(name);
     }
@@ -131,15 +130,29 @@ fn bad_number(out: &mut [u8], at: usize) -> usize {
     writing::bad(out, at, b"number")
 }
 
+// The message for people, several lines.
+fn show_message(reader: Reader, octets: &[u8], out: &mut [u8], at: usize) -> usize {
+    match reader {
+        Reader::Deliver => people::show_deliver(octets, out, at),
+        Reader::Submit => people::show_submit(octets, out, at),
+        Reader::SubmitReportAck => people::show_submit_report_ack(octets, out, at),
+        Reader::SubmitReportError => people::show_submit_report_error(octets, out, at),
+        Reader::DeliverReportAck => people::show_deliver_report_ack(octets, out, at),
+        Reader::DeliverReportError => people::show_deliver_report_error(octets, out, at),
+        Reader::StatusReport => people::show_status_report(octets, out, at),
+        Reader::Unknown => at,
+    }
+}
+
 fn answer_read(reader: Reader, text: &[u8], show: bool, out: &mut [u8], at: usize) -> usize {
     let mut octets = [0u8; 4096];
     let HexRead::Octets(n) = page::read_hex(values::digits_of(text), &mut octets) else {
         return bad_octets(out, at);
     };
     if show {
-        return reading::show(reader, part(&octets, 0, n), out, at);
+        return show_message(reader, part(&octets, 0, n), out, at);
     }
-    reading::answer(reader, part(&octets, 0, n), out, at)
+    readings::answer(reader, part(&octets, 0, n), out, at)
 }
 
 fn answer_rewrite(reader: Reader, text: &[u8], show: bool, out: &mut [u8], at: usize) -> usize {
@@ -147,7 +160,7 @@ fn answer_rewrite(reader: Reader, text: &[u8], show: bool, out: &mut [u8], at: u
     let HexRead::Octets(n) = page::read_hex(values::digits_of(text), &mut octets) else {
         return bad_octets(out, at);
     };
-    reading::answer_again(reader, part(&octets, 0, n), show, out, at)
+    readings::answer_again(reader, part(&octets, 0, n), show, out, at)
 }
 
 fn answer_unpack(count: &[u8], text: &[u8], show: bool, out: &mut [u8], at: usize) -> usize {

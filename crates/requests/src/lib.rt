@@ -1,14 +1,9 @@
 // Requests on standard input, a line each, and an answer line for each on standard output.
 mod asking;
-mod encoding;
-mod fields;
-mod keys;
-mod reading;
-mod values;
-mod writing;
 
 use libc::STDIN_FILENO;
 use libc::STDOUT_FILENO;
+use lines::fields;
 
 // The octets that a line may have.
 const MOST_IN_LINE: usize = 8192;
@@ -152,17 +147,25 @@ fn say(words: &[u8]) {
     io::write_all(STDOUT_FILENO, words);
 }
 
-// How the program is used.
-fn say_usage() {
+// The arguments.
+fn say_arguments() {
     say(b"tpdutool         answers requests on standard input, a line each, with a line each\n");
     say(b"tpdutool show    answers for people, several lines a message\n");
     say(b"tpdutool help    says this\n\n");
+}
+
+// The requests that name a kind of message.
+fn say_messages() {
     say(b"deliver HEX, submit HEX, submit-report-ack HEX, submit-report-error HEX,\n");
     say(b"deliver-report-ack HEX, deliver-report-error HEX, status-report HEX\n");
     say(b"                             the fields of a message\n");
     say(b"re-KIND HEX                  a message of one of these kinds, read and written back\n");
     say(b"enc-KIND key=value ..        the octets of a record: deliver, submit, submit-report,\n");
     say(b"                             deliver-report, status-report\n");
+}
+
+// The other requests.
+fn say_parts() {
     say(b"unpack COUNT HEX             the text of so many septets\n");
     say(b"unpack-header COUNT HEX      the same behind a header\n");
     say(b"pack HEX                     the septets of a text, which is given as UTF-8\n");
@@ -171,6 +174,13 @@ fn say_usage() {
     say(b"coding DCS                   the coding of user data\n");
     say(b"digits Y M D H M S Z         the digits of a time\n\n");
     say(b"docs/REQUESTS.md has the keys and the answers.\n");
+}
+
+// How the program is used.
+fn say_usage() {
+    say_arguments();
+    say_messages();
+    say_parts();
 }
 
 // Does what the arguments ask for: without one it answers requests, with `show` for people; else it says how it is used.

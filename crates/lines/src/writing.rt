@@ -63,43 +63,15 @@ pub fn data(out: &mut [u8], at: usize, name: &[u8], d: UserData) -> usize {
 
 // ---- answers
 
-fn name_of(out: &mut [u8], at: usize, r: Refusal) -> usize {
-    match r {
-        Refusal::LengthTooLarge => page::put(out, at, b"LengthTooLarge"),
-        Refusal::OctetsEnd => page::put(out, at, b"OctetsEnd"),
-        Refusal::WrongMessageType => page::put(out, at, b"WrongMessageType"),
-        Refusal::UdhiTooLarge => page::put(out, at, b"UdhiTooLarge"),
-        Refusal::ValidityFormatDisagrees => page::put(out, at, b"ValidityFormatDisagrees"),
-        Refusal::NoDestination => page::put(out, at, b"NoDestination"),
-        Refusal::UserDataLengthDisagrees => page::put(out, at, b"UserDataLengthDisagrees"),
-        Refusal::UserDataTooLong => page::put(out, at, b"UserDataTooLong"),
-        Refusal::NumberTypeOrPlanTooLarge => page::put(out, at, b"NumberTypeOrPlanTooLarge"),
-        Refusal::NotInAlphabet => page::put(out, at, b"NotInAlphabet"),
-        Refusal::AddressTooLong => page::put(out, at, b"AddressTooLong"),
-        Refusal::NotATime => page::put(out, at, b"NotATime"),
-        Refusal::IndicatorDisagrees => page::put(out, at, b"IndicatorDisagrees"),
-        Refusal::IndicatorExtended => page::put(out, at, b"IndicatorExtended"),
-        Refusal::UserDataWithoutLength => page::put(out, at, b"UserDataWithoutLength"),
-        Refusal::ParametersWithoutIndicator => page::put(out, at, b"ParametersWithoutIndicator"),
-        Refusal::HeaderNotWhole => page::put(out, at, b"HeaderNotWhole"),
-        Refusal::HeaderPassesCount => page::put(out, at, b"HeaderPassesCount"),
-        Refusal::TooFewOctets => page::put(out, at, b"TooFewOctets"),
-        Refusal::CalendarOutOfRange => page::put(out, at, b"CalendarOutOfRange"),
-        Refusal::ZoneOutOfRange => page::put(out, at, b"ZoneOutOfRange"),
-        Refusal::TooManySeptets => page::put(out, at, b"TooManySeptets"),
-        Refusal::OutputTooShort => page::put(out, at, b"OutputTooShort"),
-    }
-}
-
 // A refusal's number and name; for people, its number and words.
 pub fn refused(out: &mut [u8], at: usize, r: Refusal, show: bool) -> usize {
     let p1 = page::put(out, at, b"refused ");
     if show {
-        return people::put_refusal_words(out, p1, r);
+        return refusals::put_refusal_words(out, p1, r);
     }
     let p2 = page::put_decimal(out, p1, r.number() as u64);
     let p3 = page::put(out, p2, b" ");
-    name_of(out, p3, r)
+    refusals::put_name(out, p3, r)
 }
 
 // What a writer answered, and the octets that it wrote.

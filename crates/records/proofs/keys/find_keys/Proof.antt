@@ -1,9 +1,9 @@
--- `requests::keys::find_keys` is safe and ends.
+-- `records::keys::find_keys` is safe and ends.
 -- Assumes nothing.
 use Prim.Native.Nat.{_-_}
 use native.Mathlib.Omega.{arith}
-use Rattle.requests.proofs.keys.find_keys.Statement.{statement}
-use Rattle.requests.proofs.keys.find_keys.Tie as tie
+use Rattle.records.proofs.keys.find_keys.Statement.{statement}
+use Rattle.records.proofs.keys.find_keys.Tie as tie
 
 abbrev Inv-loop : tie.InvT-loop
 Inv-loop kind line starts ends count from₀ to₀ i₀ from to i = Unit {0}

@@ -1,10 +1,10 @@
--- `requests::fields::find` is safe and ends.
+-- `lines::fields::find` is safe and ends.
 -- Assumes nothing.
 use Prim.Native.Nat.{_-_, _≤_}
 use native.Mathlib.Omega.{arith}
 use lib.ListN.{length}
-use Rattle.requests.proofs.fields.find.Statement.{statement}
-use Rattle.requests.proofs.fields.find.Tie as tie
+use Rattle.lines.proofs.fields.find.Statement.{statement}
+use Rattle.lines.proofs.fields.find.Tie as tie
 
 abbrev Inv-loop : tie.InvT-loop
 Inv-loop octets from octet i₀ i = from ≤ i

@@ -1,12 +1,12 @@
--- `requests::values::number` is safe and ends: the digits read so far are a number of as many digits.
+-- `lines::values::number` is safe and ends: the digits read so far are a number of as many digits.
 -- Assumes nothing.
 use Prim.Native.Nat.{_-_, _^_, _≤_, _<_}
 use native.Mathlib.Nat.{pow-le-pow-right, pow-succ'}
 use native.Mathlib.Numerals.{add-one}
 use native.Mathlib.Omega.{arith}
 use lib.ListN.{length}
-use Rattle.requests.proofs.values.number.Statement.{statement}
-use Rattle.requests.proofs.values.number.Tie as tie
+use Rattle.lines.proofs.values.number.Statement.{statement}
+use Rattle.lines.proofs.values.number.Tie as tie
 
 abbrev Inv-loop : tie.InvT-loop
 Inv-loop text n₀ i₀ n i = (length text ≤ 9) × (n < 10 ^ i)

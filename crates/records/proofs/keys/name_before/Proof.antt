@@ -1,8 +1,8 @@
--- `requests::keys::name_before` is safe and ends.
+-- `records::keys::name_before` is safe and ends.
 -- Assumes nothing.
 use native.Mathlib.Omega.{arith}
-use Rattle.requests.proofs.keys.name_before.Statement.{statement}
-use Rattle.requests.proofs.keys.name_before.Tie as tie
+use Rattle.records.proofs.keys.name_before.Statement.{statement}
+use Rattle.records.proofs.keys.name_before.Tie as tie
 
 abbrev Inv-loop : tie.InvT-loop
 Inv-loop line from end start₀ start = Unit {0}

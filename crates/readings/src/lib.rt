@@ -1,7 +1,7 @@
 // The requests that name a reader: the fields of the record that it gives, and the octets that its writer gives back.
-use crate::fields::part;
-use crate::fields::same;
-use crate::writing;
+use lines::fields::part;
+use lines::fields::same;
+use lines::writing;
 use tpdu::DeliverReportRead;
 use tpdu::OptionalOctet;
 use tpdu::Outcome;
@@ -327,18 +327,4 @@ pub fn answer_again(reader: Reader, octets: &[u8], show: bool, out: &mut [u8], a
     let mut lent = [0u8; 255];
     let w = canonical(reader, octets, &mut lent);
     writing::written(out, at, w, &lent, show)
-}
-
-// The message for people, several lines.
-pub fn show(reader: Reader, octets: &[u8], out: &mut [u8], at: usize) -> usize {
-    match reader {
-        Reader::Deliver => people::show_deliver(octets, out, at),
-        Reader::Submit => people::show_submit(octets, out, at),
-        Reader::SubmitReportAck => people::show_submit_report_ack(octets, out, at),
-        Reader::SubmitReportError => people::show_submit_report_error(octets, out, at),
-        Reader::DeliverReportAck => people::show_deliver_report_ack(octets, out, at),
-        Reader::DeliverReportError => people::show_deliver_report_error(octets, out, at),
-        Reader::StatusReport => people::show_status_report(octets, out, at),
-        Reader::Unknown => at,
-    }
 }

@@ -1,9 +1,9 @@
--- `requests::keys::wrong_value` is safe and ends.
+-- `records::keys::wrong_value` is safe and ends.
 -- Assumes nothing.
 use Prim.Native.Nat.{_-_}
 use native.Mathlib.Omega.{arith}
-use Rattle.requests.proofs.keys.wrong_value.Statement.{statement}
-use Rattle.requests.proofs.keys.wrong_value.Tie as tie
+use Rattle.records.proofs.keys.wrong_value.Statement.{statement}
+use Rattle.records.proofs.keys.wrong_value.Tie as tie
 
 abbrev Inv-loop : tie.InvT-loop
 Inv-loop kind line from to nowhere key₀ key = Unit {0}

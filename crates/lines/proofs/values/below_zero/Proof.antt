@@ -1,4 +1,4 @@
--- `requests::values::below_zero` is safe and ends: a number to 127 can be negated.
+-- `lines::values::below_zero` is safe and ends: a number to 127 can be negated.
 -- Assumes nothing.
 use Prim.Native.Nat.{ℕ, zero, suc, _<_}
 use native.Mathlib.Omega.{arith}
@@ -7,8 +7,8 @@ use lib.IntN.{pos, _-ℤ_}
 use mir.Syntax.{w8}
 use mir.Val.{SFits}
 use mir.ValLaws.{toZ-pos}
-use Rattle.requests.proofs.values.below_zero.Statement.{statement}
-use Rattle.requests.proofs.values.below_zero.Tie as tie
+use Rattle.lines.proofs.values.below_zero.Statement.{statement}
+use Rattle.lines.proofs.values.below_zero.Tie as tie
 
 negated : (n : ℕ) → n < 128 → SFits w8 (pos 0 -ℤ pos n)
 negated zero h = record { sfits = omega arith }

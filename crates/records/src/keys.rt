@@ -1,8 +1,8 @@
 // The keys of an `enc-` request: which a kind of message has, where a line gives them, and the form of each value.
 ghost use Prim.Native.Nat.{_≤_};
-use crate::fields;
-use crate::fields::same;
-use crate::values;
+use lines::fields;
+use lines::fields::same;
+use lines::values;
 
 // The kinds of message that can be written.
 pub enum Kind {
