@@ -20,7 +20,7 @@ use Rattle.octets.specs.declared.Written.{Written}
 use Rattle.octets.proofs.SemiOctets.{length-pairs}
 use Rattle.septets.specs.Septets.{packedSeptets}
 use Rattle.septets.proofs.Inverse.{length-packed}
-use Rattle.text.specs.Writing.{septetsOf}
+use Rattle.scanning.specs.Writing.{septetsOf}
 use Rattle.address.specs.declared.AddressCheck.{AddressCheck}
 use Rattle.address.specs.declared.SMSAddress.{SMSAddress}
 use Rattle.address.specs.Address.{digitValue, isDigit, fieldOf, textField, addressOctets, octetsOr, limited, addressMaking, addressChecks, encoding}

@@ -15,9 +15,10 @@ use Rattle.octets.proofs.SemiOctets.{semi-pairs, length-pairs, pairs-octets, se
 use Rattle.octets.proofs.Each.{below-cons, below-take, Below}
 use Rattle.septets.specs.Septets.{septetsIn, packedSeptets}
 use Rattle.septets.proofs.Inverse.{length-packed, length-septets, septets-septets, digits-of}
-use Rattle.text.specs.Writing.{septetsOf}
-use Rattle.text.proofs.Adequate.{text-packed-text}
-use Rattle.text.proofs.Laws.{read-writable, text-short}
+use Rattle.scanning.specs.Writing.{septetsOf}
+use Rattle.scanning.proofs.Adequate.{text-packed-text}
+use Rattle.scanning.proofs.Laws.{read-writable}
+use Rattle.text.proofs.Laws.{text-short}
 use Rattle.address.specs.Address.{digitCharacter, digitValue, isDigit, withoutF, typeOfNumber, planOf, valueText, addressWith, textIn, addressIn, addressSize, fieldOf, textField, addressOctets}
 use Rattle.address.proofs.DigitTexts.{values-digits, characters-back, without-digits, without-none}
 

@@ -19,7 +19,7 @@ use Rattle.octets.specs.declared.Written.{Written}
 use Rattle.septets.specs.Septets.{septetsIn, packedSeptets}
 use Rattle.text.specs.Alphabet.{indexOf}
 use Rattle.text.specs.Reading.{textOf}
-use Rattle.text.specs.Writing.{septetsOf}
+use Rattle.scanning.specs.Writing.{septetsOf}
 use Rattle.address.specs.declared.SMSAddress.{SMSAddress}
 
 -- ---- digits (§9.1.2.3)

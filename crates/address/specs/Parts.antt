@@ -16,7 +16,7 @@ use Rattle.address.specs.Address.{addressSize}
 
 -- the whole address field at a place, with the place behind it
 unfoldable pub fieldAt : List ℕ → Place → Span
-fieldAt s p = if leb (addressSize (drop (p .at) s)) (length (drop (p .at) s)) then Span.There (p .at) (record { at = p .at + addressSize (drop (p .at) s) }) else Span.Refused OctetsEnd
+fieldAt s p = if leb (addressSize (drop (p .at) s)) (length (drop (p .at) s)) then Span.There (p .at) (record { at = p .at + addressSize (drop (p .at) s) }) else Span.Ended
 
 -- what a check of an address tells of what is to be written: the length octet, or the refusal
 abbrev pub checkOf : Making Written → AddressCheck

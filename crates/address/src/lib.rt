@@ -8,15 +8,15 @@ ghost use Rattle.octets.specs.Each.{each};
 ghost use Rattle.octets.specs.Lent.{Wrote, lend};
 ghost use Rattle.octets.specs.SemiOctets.{semiOctets, inPairs};
 ghost use Rattle.septets.specs.Septets.{octetCount, packedSeptets};
-ghost use Rattle.text.specs.Writing.{septetsOf};
-ghost use Rattle.address.specs.Address.{digitCharacter, digitValue, isDigit, withoutF, valueText, addressIn, addressSize, addressOctets, octetsOr, textField, limited, addressMaking, encoding};
+ghost use Rattle.scanning.specs.Writing.{septetsOf};
+ghost use Rattle.address.specs.Address.{digitCharacter, digitValue, isDigit, withoutF, valueText, addressWith, addressIn, addressSize, addressOctets, octetsOr, textField, limited, addressMaking, encoding};
 ghost use Rattle.address.specs.Parts.{fieldAt, checkOf, Spells, septetsOr};
 use octets::Octet;
 use octets::Place;
 use octets::Refusal;
 use octets::Span;
 use octets::Written;
-use text::Scanned;
+use scanning::Scanned;
 
 const TYPE_OF_NUMBER_ALPHANUMERIC: u8 = 5;
 
@@ -102,12 +102,24 @@ fn value_text(ton: u8, count: usize, value: &[u8], text: &mut [u8; 290]) -> usiz
     digits_text(value, count, text)
 }
 
+// No address.
+pub fn no_address() -> SMSAddress
+    ensures { λ r. ⌜ r ≡ addressWith 0 0 [] ⌝ }
+{
+    SMSAddress {
+        ton: 0,
+        npi: 0,
+        address: [0u8; 290],
+        address_length: 0,
+    }
+}
+
 // The address field at a place, if it is there whole: where it starts, and the place behind it.
 pub fn address_at(data: &[u8], place: Place) -> Span
     ensures { λ r. ⌜ r ≡ fieldAt (now («data» .entry)) place ⌝ }
 {
     let Octet::Read(length, _) = place.octet(data) else {
-        return Span::Refused(Refusal::OctetsEnd);
+        return Span::Ended;
     };
     place.span(data, 2 + (length as usize + 1) / 2)
 }
@@ -131,7 +143,7 @@ fn check_text(npi: u8, text: &[u8]) -> AddressCheck
     ensures { λ r. ⌜ r ≡ checkOf (limited (textField 5 npi (septetsOf (now (text .entry))))) ⌝ }
 {
     let mut codes = [0u8; 255];
-    let Scanned::Counted(count) = text::scan_text(text, &mut codes) else {
+    let Scanned::Counted(count) = scanning::scan_text(text, &mut codes) else {
         return AddressCheck::Refused(Refusal::NotInAlphabet);
     };
     if 11 < count {
@@ -195,7 +207,7 @@ fn put_text(text: &[u8], out: &mut [u8], at: usize) -> usize
     ensures { λ r. ⌜ Wrote at (packedSeptets 0 (septetsOr (septetsOf (now (text .entry))))) (now (out .entry)) r (now (out .exit)) ⌝ }
 {
     let mut codes = [0u8; 255];
-    let Scanned::Counted(count) = text::scan_text(text, &mut codes) else {
+    let Scanned::Counted(count) = scanning::scan_text(text, &mut codes) else {
         return at;
     };
     septets::pack_octets(&codes[..count], 0, out, at)

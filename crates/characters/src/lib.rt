@@ -118,18 +118,31 @@ fn first_character(octets: &[u8]) -> Character
     character_of(high, unit(octets[2], octets[3]))
 }
 
+// The letter behind the backslash of an octet that is spelled out; 0 for one that stands for itself.
+fn escape_letter(octet: u8) -> u8 {
+    match octet {
+        b'\n' => b'n',
+        b'\r' => b'r',
+        0x0C => b'f',
+        b'\\' => b'\\',
+        0..=0x1F | 0x7F => b'x',
+        _ => 0,
+    }
+}
+
+// An octet that is spelled out in hexadecimal.
+fn put_hex_escape(out: &mut [u8], at: usize, octet: u8) -> usize {
+    let escape = page::put(out, at, b"\\x");
+    page::put_hex_octet(out, escape, octet)
+}
+
 // An octet of a text.
 fn put_octet(out: &mut [u8], at: usize, octet: u8) -> usize {
-    match octet {
-        b'\n' => page::put(out, at, b"\\n"),
-        b'\r' => page::put(out, at, b"\\r"),
-        0x0C => page::put(out, at, b"\\f"),
-        b'\\' => page::put(out, at, b"\\\\"),
-        0..=0x1F | 0x7F => {
-            let escape = page::put(out, at, b"\\x");
-            page::put_hex_octet(out, escape, octet)
-        }
-        _ => page::put(out, at, &[octet]),
+    let letter = escape_letter(octet);
+    match letter {
+        0 => page::put(out, at, &[octet]),
+        b'x' => put_hex_escape(out, at, octet),
+        _ => page::put(out, at, &[b'\\', letter]),
     }
 }
 

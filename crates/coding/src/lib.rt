@@ -1,6 +1,9 @@
 // TP-Data-Coding-Scheme (TS 23.038 §4), and what TP-User-Data-Length counts.
 ghost use mathlib.Core.Path.{_≡_};
-ghost use Rattle.coding.specs.Coding.{codingOf, dataOctets, checkedData};
+ghost use mathlib.Core.List.{[]};
+ghost use Prim.Native.Nat.{_≤_};
+ghost use lib.ListN.{length};
+ghost use Rattle.coding.specs.Coding.{codingOf, dataOctets, dataWith, checkedData};
 use octets::Checked;
 use octets::Refusal;
 
@@ -55,6 +58,27 @@ pub fn user_data_octets(coding: UserDataCoding, length: u8) -> usize
 pub struct UserData {
     pub octets: [u8; 255],
     pub length: usize,
+}
+
+// Octets as a record holds them.
+pub fn data_with(octets: &[u8]) -> UserData
+    requires { ⌜ length (now octets) ≤ 255 ⌝ }
+    ensures { λ r. ⌜ r ≡ dataWith (now (octets .entry)) ⌝ }
+{
+    UserData {
+        octets: octets::stored_octets(octets),
+        length: octets.len(),
+    }
+}
+
+// No user data.
+pub fn no_data() -> UserData
+    ensures { λ r. ⌜ r ≡ dataWith [] ⌝ }
+{
+    UserData {
+        octets: [0u8; 255],
+        length: 0,
+    }
 }
 
 // The octets that a writer's user data may have.

@@ -2,12 +2,12 @@
 use Prim.Native.Nat.{ℕ, _+_}
 use mathlib.Core.Path.{_≡_, refl}
 use mathlib.Core.List.{List, [], _∷_}
-use lib.Dec.{leb}
-use lib.ListN.{length, drop}
+use lib.Dec.{leb, ltb}
+use lib.ListN.{length, getD, drop}
 use Rattle.octets.specs.Choice.{if_then_else_}
-use Rattle.octets.specs.Places.{octetAt}
-use Rattle.octets.specs.declared.Octet.{Octet}
+use Rattle.octets.specs.declared.Refusal.the-variants.{OctetsEnd}
 use Rattle.layout.specs.Layout.{Layout, Reached, read}
+use Rattle.cursor.specs.declared.OctetRead.{OctetRead}
 use Rattle.submit.specs.Submit as Submit
 use Rattle.submit.specs.declared.SubmitRead.{SubmitRead}
 use Rattle.deliver.specs.Deliver as Deliver
@@ -28,8 +28,8 @@ unfoldable pub behindPlace : List ℕ → ℕ → ℕ → ℕ
 behindPlace s place count = if leb (place + count) (length s) then place + count else length s
 
 -- the answers from a place on: one octet, and the seven readers'
-abbrev pub octetFrom : List ℕ → ℕ → Octet
-octetFrom s place = octetAt s (record { at = place })
+unfoldable pub octetFrom : List ℕ → ℕ → OctetRead
+octetFrom s place = if ltb place (length s) then OctetRead.Read (getD s place 0) (record { at = place + 1 }) else OctetRead.Refused OctetsEnd
 
 abbrev pub submitFrom : List ℕ → ℕ → SubmitRead
 submitFrom s place = Submit.answer (from Submit.submit s place)
@@ -52,7 +52,8 @@ deliverReportErrorFrom s place = DeliverReport.answer (from DeliverReport.error 
 abbrev pub statusReportFrom : List ℕ → ℕ → StatusReportRead
 statusReportFrom s place = StatusReport.answer (from StatusReport.statusReport s place)
 
--- three octets: one further, to the end, and past it
+-- three octets: one further, to the end, and past it; the last octet, and none behind it
 known-places : (behindPlace (0x11 ∷ 0x22 ∷ 0x33 ∷ []) 1 1 ≡ 2) × (behindPlace (0x11 ∷ 0x22 ∷ 0x33 ∷ []) 1 2 ≡ 3) × (behindPlace (0x11 ∷ 0x22 ∷ 0x33 ∷ []) 1 3 ≡ 3)
-unfolding behindPlace
-known-places = (refl, refl, refl)
+    × (octetFrom (0x11 ∷ 0x22 ∷ 0x33 ∷ []) 2 ≡ OctetRead.Read 0x33 (record { at = 3 })) × (octetFrom (0x11 ∷ 0x22 ∷ 0x33 ∷ []) 3 ≡ OctetRead.Refused OctetsEnd)
+unfolding behindPlace octetFrom
+known-places = (refl, refl, refl, refl, refl)

@@ -6,7 +6,8 @@ use deliver::DeliverRead;
 use deliver::SmsDeliver;
 use deliver_report::DeliverReportRead;
 use deliver_report::SmsDeliverReport;
-use octets::Octet;
+use octets::Place;
+use octets::Refusal;
 use status_report::SmsStatusReport;
 use status_report::StatusReportRead;
 use submit::SubmitRead;
@@ -16,6 +17,12 @@ use submit_report::SubmitReportRead;
 pub struct Cursor<'a> {
     pub octets: &'a [u8],
     pub place: usize,
+}
+
+// The octet at a place and the place behind it; a refusal where the octets end.
+pub enum OctetRead {
+    Read(u8, Place),
+    Refused(Refusal),
 }
 
 // The place so many octets further on, but not past the end.
@@ -42,11 +49,13 @@ fn rest<'a>(octets: &'a [u8], place: usize) -> &'a [u8]
 }
 
 // What is read from a place on: one octet, and each message.
-fn octet_at(octets: &[u8], place: usize) -> Octet
+fn octet_at(octets: &[u8], place: usize) -> OctetRead
     ensures { λ r. ⌜ r ≡ octetFrom (now (octets .entry)) place ⌝ }
 {
-    let p = octets::Place { at: place };
-    p.octet(octets)
+    if octets.len() <= place {
+        return OctetRead::Refused(Refusal::OctetsEnd);
+    }
+    OctetRead::Read(octets[place], Place { at: place + 1 })
 }
 
 fn submit_at(octets: &[u8], place: usize) -> SubmitRead
@@ -117,7 +126,7 @@ impl<'a> Cursor<'a> {
     }
 
     // The octet at the place, with the next place.
-    pub fn read_octet(self) -> Octet
+    pub fn read_octet(self) -> OctetRead
         ensures { λ r. ⌜ r ≡ octetFrom (now (self .entry .octets)) (self .entry .place) ⌝ }
     {
         octet_at(self.octets, self.place)

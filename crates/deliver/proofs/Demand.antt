@@ -27,9 +27,10 @@ use Rattle.layout.specs.Layout.{messageType, kept, isSet, reached, read, canoni
 use Rattle.layout.proofs.Makes.{Makes}
 use Rattle.layout.proofs.Demand.{Answers, Writes, demand3, answers-plain, answers-two}
 use Rattle.layout.proofs.Rewriting.{Told}
-use Rattle.deliver.proofs.Writing.{by-parts}
+use Rattle.deliver.proofs.Writing.{fits, by-parts}
 use Rattle.deliver.specs.declared.SmsDeliver.{SmsDeliver}
-use Rattle.deliver.specs.Deliver.{bits, delivered, behindAddress, line, deliver, answer, unread, octetsIn, making, delivering, Parts, parts}
+use Rattle.deliver.specs.Deliver.{bits, delivered, behindAddress, line, deliver, answer, unread, delivering, Parts, parts}
+use Rattle.deliver_writing.specs.Writing.{octetsIn, making}
 
 -- ---- the parts alone
 
@@ -88,7 +89,7 @@ module _ (x : ℕ) (hx : x < 256) (mti : eqb (messageType (kept bits x)) 0 ≡ t
   its-making =
       let short : length (timeDigits t) ≤ 14 = omega (arith, length-digits t) in
       let few : length d ≤ 255 = omega (arith, data-at-most (codingOf dcs) udl) in
-      by-parts r (rw (canonical-reads f wf) (length-short f wf)) short few
+      by-parts r (fits r (rw (canonical-reads f wf) (length-short f wf)) short few)
       ∙ check-holds mti WrongMessageType (dataChecks dcs udl (length (parts r .userData)) ++ later) (octetsOf (parts r))
       ∙ its-checks (octetsOf (parts r)) ∙ ap answered its-octets
 

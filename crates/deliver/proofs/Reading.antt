@@ -6,7 +6,6 @@ use mathlib.Core.List.{List}
 use native.Mathlib.Omega.{arith}
 use lib.Dec.{eqb}
 use lib.ListN.{length, take, drop}
-use Rattle.octets.specs.Arrays.{pad}
 use Rattle.octets.specs.Each.{Octets}
 use Rattle.octets.specs.Places.{octetAt, spanAt}
 use Rattle.octets.specs.declared.Octet.{Octet}
@@ -15,12 +14,12 @@ use Rattle.octets.specs.declared.Place.{Place}
 use Rattle.octets.specs.declared.Refusal.{Refusal}
 use Rattle.octets.specs.declared.Refusal.the-variants.{OctetsEnd, WrongMessageType}
 use Rattle.octets.specs.declared.Span.{Span}
-use Rattle.octets.proofs.Laws.{part-is, part-size}
+use Rattle.octets.proofs.Laws.{part-is}
 use Rattle.octets.proofs.Places.{octet-read, start}
-use Rattle.coding.specs.Coding.{codingOf, dataOctets}
-use Rattle.coding.proofs.Laws.{data-stored}
-use Rattle.time.specs.Time.{timeDigits}
-use Rattle.time.proofs.Laws.{time-stored}
+use Rattle.coding.specs.Coding.{codingOf, dataOctets, dataWith}
+use Rattle.coding.specs.declared.UserData.{UserData}
+use Rattle.time.specs.Time.{timeIn}
+use Rattle.time.specs.declared.Time.{Time}
 use Rattle.address.specs.Address.{addressIn, addressSize, canonicalAddress}
 use Rattle.address.specs.Parts.{fieldAt}
 use Rattle.address.specs.declared.SMSAddress.{SMSAddress}
@@ -48,22 +47,22 @@ module _ (s : List ℕ) (f : ℕ) (oa : List ℕ) (p : Place) where
   abbrev rest : Reached SmsDeliver
   rest = readFrom (behindAddress f oa) s (p .at)
 
-  pub no-pid : {why : Refusal} → octetAt s p ≡ Octet.Refused why → rest ≡ halted OctetsEnd
+  pub no-pid : octetAt s p ≡ Octet.Ended → rest ≡ halted OctetsEnd
   unfolding behindAddress
   no-pid e = octet-ends s p e _
 
   module _ {pid : ℕ} {p₂ : Place} (e₁ : octetAt s p ≡ Octet.Read pid p₂) where
-    pub no-dcs : {why : Refusal} → octetAt s p₂ ≡ Octet.Refused why → rest ≡ halted OctetsEnd
+    pub no-dcs : octetAt s p₂ ≡ Octet.Ended → rest ≡ halted OctetsEnd
     unfolding behindAddress
     no-dcs e = octet-goes-on s p e₁ _ ∙ octet-ends s p₂ e _
 
     module _ {dcs : ℕ} {p₃ : Place} (e₂ : octetAt s p₂ ≡ Octet.Read dcs p₃) where
-      pub no-time : {why : Refusal} → spanAt s p₃ 7 ≡ Span.Refused why → rest ≡ halted OctetsEnd
+      pub no-time : spanAt s p₃ 7 ≡ Span.Ended → rest ≡ halted OctetsEnd
       unfolding behindAddress
       no-time e = octet-goes-on s p e₁ _ ∙ octet-goes-on s p₂ e₂ _ ∙ span-ends s p₃ 7 e any _
 
       module _ {scts : ℕ} {p₄ : Place} (e₃ : spanAt s p₃ 7 ≡ Span.There scts p₄) where
-        pub no-udl : {why : Refusal} → octetAt s p₄ ≡ Octet.Refused why → rest ≡ halted OctetsEnd
+        pub no-udl : octetAt s p₄ ≡ Octet.Ended → rest ≡ halted OctetsEnd
         unfolding behindAddress
         no-udl e = octet-goes-on s p e₁ _ ∙ octet-goes-on s p₂ e₂ _ ∙ span-goes-on s p₃ 7 e₃ any _ ∙ octet-ends s p₄ e _
 
@@ -72,7 +71,7 @@ module _ (s : List ℕ) (f : ℕ) (oa : List ℕ) (p : Place) where
           unfolding behindAddress
           four = octet-goes-on s p e₁ _ ∙ octet-goes-on s p₂ e₂ _ ∙ span-goes-on s p₃ 7 e₃ any _ ∙ octet-goes-on s p₄ e₄ _ ∙ rw size
 
-          pub no-data : {why : Refusal} → spanAt s p₅ n ≡ Span.Refused why → rest ≡ halted OctetsEnd
+          pub no-data : spanAt s p₅ n ≡ Span.Ended → rest ≡ halted OctetsEnd
           no-data e = four ∙ span-ends s p₅ n e (upTo 140) _
 
           pub all-there : {ud : ℕ} {p₆ : Place} → spanAt s p₅ n ≡ Span.There ud p₆ → rest ≡ reached (delivered f oa pid dcs (take 7 (drop (p₃ .at) s)) udl (take n (drop (p₅ .at) s))) (p₆ .at)
@@ -84,7 +83,7 @@ module _ (s : List ℕ) where
   abbrev behindFirst : ℕ → Format SmsDeliver
   behindFirst f = field address λ oa. behindAddress f oa
 
-  pub no-first : {why : Refusal} → octetAt s start ≡ Octet.Refused why → read deliver s ≡ halted OctetsEnd
+  pub no-first : octetAt s start ≡ Octet.Ended → read deliver s ≡ halted OctetsEnd
   unfolding read line
   no-first e = message-ends s start e 0 bits behindFirst
 
@@ -94,7 +93,7 @@ module _ (s : List ℕ) where
     other-type d = message-differs s start e 0 bits refl behindFirst d
 
     module _ (m : messageType b ≡ 0) where
-      pub no-address : {why : Refusal} → fieldAt s p ≡ Span.Refused why → read deliver s ≡ halted OctetsEnd
+      pub no-address : fieldAt s p ≡ Span.Ended → read deliver s ≡ halted OctetsEnd
       unfolding read line
       no-address d = message-goes-on s start e 0 bits refl behindFirst m ∙ address-ends s p d (behindAddress (kept bits b))
 
@@ -108,9 +107,9 @@ module _ (s : List ℕ) where
 
 -- ---- the record
 
-pub message-is : (s : List ℕ) → Octets s → (first oa pid dcs scts udl ud n : ℕ) → oa + addressSize (drop oa s) ≤ length s → scts + 7 ≤ length s → ud + n ≤ length s
-    → (a : SMSAddress) → a ≡ addressIn (take (addressSize (drop oa s)) (drop oa s)) → (ds : List ℕ) → ds ≡ timeDigits (take 7 (drop scts s))
-    → (xs : List ℕ) → xs ≡ pad 255 (take (ud + n - ud) (drop ud s))
+pub message-is : (s : List ℕ) → Octets s → (first oa pid dcs scts udl ud n : ℕ) → oa + addressSize (drop oa s) ≤ length s
+    → (a : SMSAddress) → a ≡ addressIn (take (addressSize (drop oa s)) (drop oa s)) → (t : Time) → t ≡ timeIn (take 7 (drop scts s))
+    → (d : UserData) → d ≡ dataWith (take (ud + n - ud) (drop ud s))
     → _≡_ {A = SmsDeliver} (record {
       «tp_rp» = eqb (first / 128 % 2) 1;
       «tp_udhi» = eqb (first / 64 % 2) 1;
@@ -121,13 +120,13 @@ pub message-is : (s : List ℕ) → Octets s → (first oa pid dcs scts udl ud n
       «tp_originating_address» = a;
       «tp_pid» = pid;
       «tp_dcs» = dcs;
-      «tp_service_centre_timestamp» = record { digits = ds; length = 14 };
+      «tp_service_centre_timestamp» = t;
       «tp_user_data_length» = udl;
-      «tp_user_data» = record { octets = xs; length = n };
+      «tp_user_data» = d;
     })
     (delivered (kept bits first) (canonicalAddress (cut address (drop oa s))) pid dcs (take 7 (drop scts s)) udl (take n (drop ud s)))
 unfolding delivered
-message-is s o first oa pid dcs scts udl ud n wa wt wd a ea ds ed xs ex =
+message-is s o first oa pid dcs scts udl ud n wa a ea t et d ed =
     rw (
       kept-bit bits refl 7 refl first,
       kept-bit bits refl 6 refl first,
@@ -137,6 +136,7 @@ message-is s o first oa pid dcs scts udl ud n wa wt wd a ea ds ed xs ex =
       kept-type bits refl first,
       address-there s o oa wa,
       ea,
-      time-stored (take 7 (drop scts s)) (part-size scts 7 s wt) ed,
-      data-stored (take n (drop ud s)) (part-size ud n s wd) (ex ∙ rw (part-is ud n s)),
+      et,
+      ed,
+      part-is ud n s,
     )

@@ -1,88 +1,38 @@
--- What the writer makes, check by check.
+-- What the writer makes of a record: its lengths, then its parts.
 -- Assumes nothing.
-use Prim.Native.Nat.{ℕ, _+_, _/_, _≤_, _<_}
-use mathlib.Core.Path.{_≡_, refl, sym, ap, _∙_}
-use mathlib.Core.Bool.{Bool, true, false, _&&_}
-use mathlib.Core.List.{List, [], _∷_, _++_}
-use native.Mathlib.Omega.{arith}
-use borrow.Author.Tests.{eq-eqb, ne-eqb, lt-ltb, le-ltb}
-use lib.ListN.{length, length-append}
-use Rattle.octets.specs.Checks.{_unless_, checked, afterChecked}
-use Rattle.octets.specs.Lent.{Making, refused, made}
-use Rattle.octets.specs.declared.Checked.{Checked}
-use Rattle.octets.specs.declared.Refusal.{Refusal}
-use Rattle.octets.specs.declared.Refusal.the-variants.{LengthTooLarge, WrongMessageType, NotATime}
-use Rattle.octets.specs.declared.Written.{Written}
-use Rattle.coding.specs.Coding.{checkedData, dataOf}
-use Rattle.coding.proofs.Laws.{data-checked}
-use Rattle.time.specs.Time.{isTime, timeOctets, digitsOf}
-use Rattle.time.proofs.Laws.{length-octets, time-means}
-use Rattle.address.specs.declared.AddressCheck.{AddressCheck}
-use Rattle.address.specs.Address.{addressOctets, octetsOr, addressChecks, addressMaking, textHeld}
-use Rattle.address.specs.Parts.{checkOf}
-use Rattle.address.proofs.Checks.{afterCheck, address-checked, fine-size}
-use Rattle.deliver.specs.Deliver.{octetsIn, making, flagsOf, delivering}
+use Prim.Native.Nat.{_≤_}
+use mathlib.Core.Path.{_≡_}
+use mathlib.Core.Bool.{true, false}
+use borrow.Author.Tests.{le-ltb, ltb-false}
+use lib.Dec.{ltb}
+use lib.ListN.{length}
+use Rattle.octets.specs.Lent.{refused}
+use Rattle.octets.specs.declared.Refusal.the-variants.{LengthTooLarge}
+use Rattle.octets.proofs.Choice.{or-false}
+use Rattle.coding.specs.Coding.{dataOf}
+use Rattle.time.specs.Time.{digitsOf}
+use Rattle.address.specs.Address.{textHeld}
+use Rattle.deliver.specs.Deliver.{flagsOf, tooLong, delivering}
+use Rattle.deliver_writing.specs.Writing.{making}
 use Rattle.deliver.specs.declared.SmsDeliver.{SmsDeliver}
-
-module _ (flags mti ton npi : ℕ) (text : List ℕ) (pid dcs : ℕ) (digits : List ℕ) (udl : ℕ) (ud : List ℕ) where
-  abbrev all : Making Written
-  all = making flags mti ton npi text pid dcs digits udl ud
-
-  abbrev octets : List ℕ
-  octets = octetsIn flags ton npi text pid dcs digits udl ud
-
-  pub another-type : (mti ≡ 0 → ⊥) → all ≡ refused WrongMessageType
-  unfolding making checked
-  another-type h = rw (ne-eqb mti 0 h)
-
-  module _ (m : mti ≡ 0) where
-    by-data : all ≡ afterChecked (checkedData dcs udl (length ud)) (checked (addressChecks ton npi text ++ (NotATime unless isTime digits) ∷ []) octets)
-    unfolding making checked
-    by-data = rw (eq-eqb mti 0 m) (data-checked dcs udl (length ud) (addressChecks ton npi text ++ (NotATime unless isTime digits) ∷ []) octets)
-
-    pub data-against : {r : Refusal} → checkedData dcs udl (length ud) ≡ Checked.Against r → all ≡ refused r
-    data-against e = by-data ∙ rw e
-
-    module _ (d : checkedData dcs udl (length ud) ≡ Checked.Fine) where
-      by-address : all ≡ afterCheck (checkOf (addressMaking ton npi text)) (checked ((NotATime unless isTime digits) ∷ []) octets)
-      by-address = by-data ∙ rw d (address-checked ton npi text ((NotATime unless isTime digits) ∷ []) octets)
-
-      pub address-against : {r : Refusal} → checkOf (addressMaking ton npi text) ≡ AddressCheck.Refused r → all ≡ refused r
-      address-against e = by-address ∙ rw e
-
-      module _ {l : ℕ} (fine : checkOf (addressMaking ton npi text) ≡ AddressCheck.Fine l) where
-        pub no-time : isTime digits ≡ false → all ≡ refused NotATime
-        unfolding checked
-        no-time t = by-address ∙ rw (fine, t)
-
-        module _ (t : isTime digits ≡ true) where
-          pub all-made : all ≡ made octets (Written.Done (length octets))
-          unfolding checked
-          all-made = by-address ∙ rw (fine, t)
-
-          pub all-size : length octets ≡ 13 + (l + 1) / 2 + length ud
-          all-size =
-              let a = fine-size ton npi text l fine in
-              let n : length (timeOctets digits) ≡ 7 = length-octets digits ∙ rw (time-means digits .0 t .0) in
-              simp (length-append) (omega arith)
 
 -- ---- a record: its lengths, then its parts
 
 module _ (r : SmsDeliver) where
-  pub address-long : 290 < r .«tp_originating_address» .«address_length» → delivering r ≡ refused LengthTooLarge
+  pub too-long : tooLong r ≡ true → delivering r ≡ refused LengthTooLarge
   unfolding delivering
-  address-long h = rw (lt-ltb 290 _ h)
+  too-long e = rw e
 
-  module _ (a : r .«tp_originating_address» .«address_length» ≤ 290) where
-    pub time-long : 14 < r .«tp_service_centre_timestamp» .length → delivering r ≡ refused LengthTooLarge
+  pub fits : r .«tp_originating_address» .«address_length» ≤ 290 → r .«tp_service_centre_timestamp» .length ≤ 14 → r .«tp_user_data» .length ≤ 255 → tooLong r ≡ false
+  fits a t u = rw (le-ltb 290 _ a, le-ltb 14 _ t, le-ltb 255 _ u)
+
+  module _ (e : tooLong r ≡ false) where
+    pub by-parts : delivering r ≡ making (flagsOf r) (r .«tp_mti») (r .«tp_originating_address» .ton) (r .«tp_originating_address» .npi) (textHeld (r .«tp_originating_address»)) (r .«tp_pid») (r .«tp_dcs») (digitsOf (r .«tp_service_centre_timestamp»)) (r .«tp_user_data_length») (dataOf (r .«tp_user_data»))
     unfolding delivering
-    time-long h = rw (le-ltb 290 _ a, lt-ltb 14 _ h)
+    by-parts = rw e
 
-    module _ (t : r .«tp_service_centre_timestamp» .length ≤ 14) where
-      pub data-long : 255 < r .«tp_user_data» .length → delivering r ≡ refused LengthTooLarge
-      unfolding delivering
-      data-long h = rw (le-ltb 290 _ a, le-ltb 14 _ t, lt-ltb 255 _ h)
-
-      pub by-parts : r .«tp_user_data» .length ≤ 255 → delivering r ≡ making (flagsOf r) (r .«tp_mti») (r .«tp_originating_address» .ton) (r .«tp_originating_address» .npi) (textHeld (r .«tp_originating_address»)) (r .«tp_pid») (r .«tp_dcs») (digitsOf (r .«tp_service_centre_timestamp»)) (r .«tp_user_data_length») (dataOf (r .«tp_user_data»))
-      unfolding delivering
-      by-parts h = rw (le-ltb 290 _ a, le-ltb 14 _ t, le-ltb 255 _ h)
+    pub all-fit : (r .«tp_originating_address» .«address_length» ≤ 290) × (r .«tp_service_centre_timestamp» .length ≤ 14) × (r .«tp_user_data» .length ≤ 255)
+    all-fit =
+        let (a, f) = or-false (ltb 290 (r .«tp_originating_address» .«address_length»)) _ e in
+        let (t, u) = or-false (ltb 14 (r .«tp_service_centre_timestamp» .length)) _ f in
+        (ltb-false _ _ a, ltb-false _ _ t, ltb-false _ _ u)

@@ -1,20 +1,20 @@
 -- SMS-DELIVER (TS 23.040 §9.2.2.1): its line, its reader's answer, and what its writer makes.
 use Prim.Native.Nat.{ℕ, _+_}
 use mathlib.Core.Bool.{Bool, false, _||_}
-use mathlib.Core.List.{List, [], _∷_, _++_}
-use lib.Dec.{eqb, ltb}
+use mathlib.Core.List.{List, [], _∷_}
+use lib.Dec.{ltb}
 use lib.ListN.{length}
 use Rattle.octets.specs.Choice.{if_then_else_, flag}
-use Rattle.octets.specs.Checks.{_unless_, checked}
 use Rattle.octets.specs.Lent.{Making, refused}
 use Rattle.octets.specs.declared.Outcome.{Outcome}
 use Rattle.octets.specs.declared.Refusal.{Refusal}
-use Rattle.octets.specs.declared.Refusal.the-variants.{LengthTooLarge, WrongMessageType, NotATime}
+use Rattle.octets.specs.declared.Refusal.the-variants.{LengthTooLarge}
 use Rattle.octets.specs.declared.Written.{Written}
-use Rattle.coding.specs.Coding.{codingOf, dataOctets, dataChecks, dataWith, dataOf}
-use Rattle.time.specs.Time.{isTime, timeOctets, timeIn, digitsOf, capitals}
-use Rattle.address.specs.Address.{addressIn, addressWith, addressOctets, octetsOr, addressChecks, textHeld}
+use Rattle.coding.specs.Coding.{codingOf, dataOctets, dataWith, dataOf}
+use Rattle.time.specs.Time.{timeIn, digitsOf, capitals}
+use Rattle.address.specs.Address.{addressIn, addressWith, textHeld}
 use Rattle.layout.specs.Layout.{Format, Layout, plain, Reached, reached, halted, message, field, one, time, done, address, userData, isSet, messageType}
+use Rattle.deliver_writing.specs.Writing.{making}
 use Rattle.deliver.specs.declared.SmsDeliver.{SmsDeliver}
 use Rattle.deliver.specs.declared.DeliverRead.{DeliverRead}
 
@@ -77,17 +77,6 @@ answer (reached r n) = record { outcome = Outcome.Done; message = r }
 answer (halted why) = unread why
 
 -- ---- writing
-
--- the octets of the parts, in the line's order
-abbrev pub octetsIn : ℕ → ℕ → ℕ → List ℕ → ℕ → ℕ → List ℕ → ℕ → List ℕ → List ℕ
-octetsIn flags ton npi text pid dcs digits udl ud = flags ∷ octetsOr [] (addressOctets ton npi text) ++ pid ∷ dcs ∷ timeOctets digits ++ udl ∷ ud
-
--- what a writer makes of the parts: flags of the first octet, MTI, address, PID, DCS, time, UDL, data
-unfoldable pub making : ℕ → ℕ → ℕ → ℕ → List ℕ → ℕ → ℕ → List ℕ → ℕ → List ℕ → Making Written
-making flags mti ton npi text pid dcs digits udl ud =
-    checked
-    ((WrongMessageType unless eqb mti 0) ∷ dataChecks dcs udl (length ud) ++ addressChecks ton npi text ++ (NotATime unless isTime digits) ∷ [])
-    (octetsIn flags ton npi text pid dcs digits udl ud)
 
 -- RP bit 7, UDHI 6, SRI 5, LP 3, MMS 2
 abbrev pub flagsOf : SmsDeliver → ℕ

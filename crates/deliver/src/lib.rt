@@ -1,19 +1,16 @@
 // SMS-DELIVER (TS 23.040 §9.2.2.1).
 ghost use mathlib.Core.Path.{_≡_};
-ghost use mathlib.Core.Bool.{true, false};
+ghost use mathlib.Core.Bool.{false};
 ghost use Prim.Native.Nat.{_+_, _/_, _%_, _≤_, _<_};
 ghost use lib.ListN.{length, take, drop};
-ghost use Rattle.octets.specs.Lent.{Wrote, lend};
+ghost use Rattle.octets.specs.Choice.{flag};
+ghost use Rattle.octets.specs.Lent.{lend};
 ghost use Rattle.layout.specs.Layout.{read, readFrom, kept, cut, address as addressKind};
-ghost use Rattle.layout.specs.Demand.{Rewrites};
-ghost use Rattle.time.specs.Time.{isTime};
-ghost use Rattle.address.specs.Address.{addressMaking, addressSize, canonicalAddress};
-ghost use Rattle.address.specs.Parts.{checkOf};
-ghost use Rattle.deliver.specs.Deliver.{bits, delivered, behindAddress, deliver, answer, unread, octetsIn, making, delivering};
-use address::AddressCheck;
+ghost use Rattle.address.specs.Address.{addressSize, canonicalAddress};
+ghost use Rattle.deliver.specs.Deliver.{bits, delivered, behindAddress, deliver, blank as blankMessage, answer, unread, delivering};
 use address::SMSAddress;
 use coding::UserData;
-use octets::Checked;
+use deliver_writing::MTI_DELIVER;
 use octets::Octet;
 use octets::Outcome;
 use octets::Place;
@@ -21,8 +18,6 @@ use octets::Refusal;
 use octets::Span;
 use octets::Written;
 use time::Time;
-
-const MTI_DELIVER: u8 = 0;
 
 pub struct SmsDeliver {
     pub tp_rp: bool,
@@ -45,41 +40,40 @@ pub struct DeliverRead {
     pub message: SmsDeliver,
 }
 
-fn refused(r: Refusal) -> DeliverRead
-    ensures { λ u. ⌜ u ≡ unread r ⌝ }
+// The blank message.
+fn blank() -> SmsDeliver
+    ensures { λ r. ⌜ r ≡ blankMessage ⌝ }
 {
-    let address = SMSAddress {
-        ton: 0,
-        npi: 0,
-        address: [0u8; 290],
-        address_length: 0,
-    };
-    let timestamp = Time {
-        digits: [0u8; 14],
-        length: 0,
-    };
-    let data = UserData {
-        octets: [0u8; 255],
-        length: 0,
-    };
-    let message = SmsDeliver {
+    SmsDeliver {
         tp_rp: false,
         tp_udhi: false,
         tp_sri: false,
         tp_lp: false,
         tp_mms: false,
         tp_mti: 0,
-        tp_originating_address: address,
+        tp_originating_address: address::no_address(),
         tp_pid: 0,
         tp_dcs: 0,
-        tp_service_centre_timestamp: timestamp,
+        tp_service_centre_timestamp: time::no_time(),
         tp_user_data_length: 0,
-        tp_user_data: data,
-    };
+        tp_user_data: coding::no_data(),
+    }
+}
+
+fn refused(r: Refusal) -> DeliverRead
+    ensures { λ u. ⌜ u ≡ unread r ⌝ }
+{
     DeliverRead {
         outcome: Outcome::Refused(r),
-        message,
+        message: blank(),
     }
+}
+
+// The octets end inside a field.
+fn ended() -> DeliverRead
+    ensures { λ u. ⌜ u ≡ unread Refusal.OctetsEnd ⌝ }
+{
+    refused(Refusal::OctetsEnd)
 }
 
 // The message of fields that are there: the first octet's flags, the address, PID, DCS, the time, UDL, and n octets of user data.
@@ -98,11 +92,9 @@ fn message(
     ensures { λ r. ⌜ r ≡ delivered (kept bits first) (canonicalAddress (cut addressKind (drop oa (now («data» .entry))))) pid dcs (take 7 (drop scts (now («data» .entry)))) udl (take n (drop ud (now («data» .entry)))) ⌝ }
 {
     let originator = SMSAddress::decode(data, oa);
-    let digits = time::decode_time(data, scts);
-    let timestamp = Time { digits, length: 14 };
+    let timestamp = time::time_at(data, scts);
     let end = ud + n;
-    let octets = octets::stored_octets(&data[ud..end]);
-    let user_data = UserData { octets, length: n };
+    let user_data = coding::data_with(&data[ud..end]);
     SmsDeliver {
         tp_rp: first / 128 % 2 == 1,
         tp_udhi: first / 64 % 2 == 1,
@@ -125,20 +117,20 @@ fn behind_address(data: &[u8], first: u8, oa: usize, place: Place) -> DeliverRea
     ensures { λ r. ⌜ r ≡ answer (readFrom (behindAddress (kept bits first) (canonicalAddress (cut addressKind (drop oa (now («data» .entry)))))) (now («data» .entry)) (place .at)) ⌝ }
 {
     let Octet::Read(pid, place2) = place.octet(data) else {
-        return refused(Refusal::OctetsEnd);
+        return ended();
     };
     let Octet::Read(dcs, place3) = place2.octet(data) else {
-        return refused(Refusal::OctetsEnd);
+        return ended();
     };
     let Span::There(scts, place4) = place3.span(data, 7) else {
-        return refused(Refusal::OctetsEnd);
+        return ended();
     };
     let Octet::Read(udl, place5) = place4.octet(data) else {
-        return refused(Refusal::OctetsEnd);
+        return ended();
     };
     let n = coding::user_data_octets(coding::user_data_coding(dcs), udl);
     let Span::There(ud, _) = place5.span(data, n) else {
-        return refused(Refusal::OctetsEnd);
+        return ended();
     };
     DeliverRead {
         outcome: Outcome::Done,
@@ -146,78 +138,15 @@ fn behind_address(data: &[u8], first: u8, oa: usize, place: Place) -> DeliverRea
     }
 }
 
-// Writes parts that were checked; how many octets they take.
-fn put_parts(
-    flags: u8,
-    ton: u8,
-    npi: u8,
-    text: &[u8],
-    count: usize,
-    pid: u8,
-    dcs: u8,
-    digits: &[u8],
-    udl: u8,
-    data: &[u8],
-    out: &mut [u8],
-) -> usize
-    requires { ⌜ (checkOf (addressMaking ton npi (now text)) ≡ AddressCheck.Fine count) × (isTime (now digits) ≡ true) × (13 + (count + 1) / 2 + length (now «data») ≤ length (now out)) ⌝ }
-    ensures { λ r. ⌜ Wrote 0 (octetsIn flags ton npi (now (text .entry)) pid dcs (now (digits .entry)) udl (now («data» .entry))) (now (out .entry)) r (now (out .exit)) ⌝ }
+// The flags of the first octet.
+fn flags(rp: bool, udhi: bool, sri: bool, lp: bool, mms: bool) -> u8
+    ensures { λ r. ⌜ r ≡ flag rp 128 + flag udhi 64 + flag sri 32 + flag lp 8 + flag mms 4 ⌝ }
 {
-    let p1 = octets::put_octet(out, 0, flags);
-    let p2 = address::put_address(ton, npi, text, count, out, p1);
-    let p3 = octets::put_octet(out, p2, pid);
-    let p4 = octets::put_octet(out, p3, dcs);
-    let p5 = time::encode_time(digits, out, p4);
-    let p6 = octets::put_octet(out, p5, udl);
-    octets::put_octets(out, p6, data)
-}
-
-// Writes the parts to the start of a lent output: checks in order, then the size, then the octets.
-fn encode_parts(
-    flags: u8,
-    mti: u8,
-    ton: u8,
-    npi: u8,
-    text: &[u8],
-    pid: u8,
-    dcs: u8,
-    digits: &[u8],
-    udl: u8,
-    data: &[u8],
-    out: &mut [u8],
-) -> Written
-    ensures { λ r. ⌜ (r, now (out .exit)) ≡ lend Written.Refused (making flags mti ton npi (now (text .entry)) pid dcs (now (digits .entry)) udl (now («data» .entry))) (now (out .entry)) ⌝ }
-{
-    if mti != MTI_DELIVER {
-        return Written::Refused(Refusal::WrongMessageType);
-    }
-    if let Checked::Against(r) = coding::check_user_data(dcs, udl, data.len()) {
-        return Written::Refused(r);
-    }
-    match address::check_address(ton, npi, text) {
-        AddressCheck::Refused(r) => Written::Refused(r),
-        AddressCheck::Fine(count) => {
-            if !time::is_time(digits) {
-                return Written::Refused(Refusal::NotATime);
-            }
-            if out.len() < 13 + (count + 1) / 2 + data.len() {
-                return Written::Refused(Refusal::OutputTooShort);
-            }
-            Written::Done(put_parts(
-                flags,
-                ton,
-                npi,
-                text,
-                count,
-                pid,
-                dcs,
-                digits,
-                udl,
-                data,
-                out,
-            ))
-        }
-    }
+    octets::flag(rp, 128)
+        + octets::flag(udhi, 64)
+        + octets::flag(sri, 32)
+        + octets::flag(lp, 8)
+        + octets::flag(mms, 4)
 }
 
 impl SmsDeliver {
@@ -225,34 +154,27 @@ impl SmsDeliver {
     pub fn encode(self, out: &mut [u8]) -> Written
         ensures { λ r. ⌜ (r, now (out .exit)) ≡ lend Written.Refused (delivering self) (now (out .entry)) ⌝ }
     {
-        let originator = self.tp_originating_address;
-        let timestamp = self.tp_service_centre_timestamp;
-        let user_data = self.tp_user_data;
-        let n = originator.address_length;
-        let m = timestamp.length;
-        let k = user_data.length;
-        if 290 < n {
+        let n = self.tp_originating_address.address_length;
+        let m = self.tp_service_centre_timestamp.length;
+        let k = self.tp_user_data.length;
+        if (290 < n) | ((14 < m) | (255 < k)) {
             return Written::Refused(Refusal::LengthTooLarge);
         }
-        if 14 < m {
-            return Written::Refused(Refusal::LengthTooLarge);
-        }
-        if 255 < k {
-            return Written::Refused(Refusal::LengthTooLarge);
-        }
-        let flags = octets::flag(self.tp_rp, 128)
-            + octets::flag(self.tp_udhi, 64)
-            + octets::flag(self.tp_sri, 32)
-            + octets::flag(self.tp_lp, 8)
-            + octets::flag(self.tp_mms, 4);
-        let text = originator.address;
-        let digits = timestamp.digits;
-        let octets = user_data.octets;
-        encode_parts(
+        let flags = flags(
+            self.tp_rp,
+            self.tp_udhi,
+            self.tp_sri,
+            self.tp_lp,
+            self.tp_mms,
+        );
+        let text = self.tp_originating_address.address;
+        let digits = self.tp_service_centre_timestamp.digits;
+        let octets = self.tp_user_data.octets;
+        deliver_writing::encode_parts(
             flags,
             self.tp_mti,
-            originator.ton,
-            originator.npi,
+            self.tp_originating_address.ton,
+            self.tp_originating_address.npi,
             &text[..n],
             self.tp_pid,
             self.tp_dcs,
@@ -269,27 +191,14 @@ impl SmsDeliver {
     {
         let start = Place { at: 0 };
         let Octet::Read(first, place) = start.octet(data) else {
-            return refused(Refusal::OctetsEnd);
+            return ended();
         };
         if first % 4 != MTI_DELIVER {
             return refused(Refusal::WrongMessageType);
         }
         let Span::There(oa, place2) = address::address_at(data, place) else {
-            return refused(Refusal::OctetsEnd);
+            return ended();
         };
         behind_address(data, first, oa, place2)
     }
-}
-
-// Reads a message, and writes it back.
-pub fn canonical_deliver(data: &[u8], out: &mut [u8]) -> Written
-    ensures { λ r. ⌜ Rewrites deliver false (now («data» .entry)) (now (out .entry)) r (now (out .exit)) ⌝ }
-{
-    let read = SmsDeliver::decode(data);
-    let outcome = read.outcome;
-    let message = read.message;
-    if let Outcome::Refused(r) = outcome {
-        return Written::Refused(r);
-    }
-    message.encode(out)
 }

@@ -24,7 +24,8 @@ use Rattle.parameters.specs.declared.OptionalOctet.{OptionalOctet}
 use Rattle.parameters.specs.declared.OptionalOctet.the-variants.{Absent, Present}
 use Rattle.parameters.proofs.Checking.{answers}
 use Rattle.parameters.proofs.Made.{Held, parameters-make, joined-append, past-append}
-use Rattle.deliver_report.specs.DeliverReport.{reported, rest, ackLine, errorLine, stopped, ack, error, answer, firstOctet, octetsIn, making, reporting, parts, partsOctets}
+use Rattle.deliver_report.specs.DeliverReport.{reported, rest, ackLine, errorLine, stopped, ack, error, answer, reporting, parts, partsOctets}
+use Rattle.deliver_report_writing.specs.Writing.{firstOctet, octetsIn, making}
 use Rattle.deliver_report.specs.declared.SmsDeliverReport.{SmsDeliverReport}
 
 abbrev Canonical : SmsDeliverReport → List Field → Type 0

@@ -2,21 +2,20 @@
 use Prim.Native.Nat.{ℕ}
 use mathlib.Core.Path.{_≡_, refl}
 use mathlib.Core.Bool.{Bool, true, false}
-use mathlib.Core.List.{List, [], _∷_, _++_}
+use mathlib.Core.List.{List, [], _∷_}
 use lib.Dec.{leb}
 use lib.ListN.{length}
-use Rattle.octets.specs.Checks.{Check, _unless_, checked}
+use Rattle.octets.specs.Checks.{_unless_, checked}
 use Rattle.octets.specs.Lent.{Making}
 use Rattle.octets.specs.declared.Outcome.{Outcome}
 use Rattle.octets.specs.declared.Refusal.the-variants.{LengthTooLarge, OctetsEnd, WrongMessageType}
 use Rattle.octets.specs.declared.Written.{Written}
 use Rattle.coding.specs.Coding.{codingOf, characterSet, dataOctets, dataWith, dataOf}
 use Rattle.layout.specs.Layout.{indicator, indicatorSize, kept, isSet, leading, Format, field, done, _then_, message, one, Reached, reached, halted, Layout, plain, stopping, stops, after, reading, readFrom, read, fieldsOf, canonicalOf}
-use Rattle.parameters.specs.Checking.{indicatorChecks, dataChecks}
-use Rattle.parameters.specs.Line.{Parameters, parameters, parametersOctets, noParameters}
-use Rattle.parameters.specs.Optional.{octetsHeld}
+use Rattle.parameters.specs.Line.{Parameters, parameters, noParameters}
 use Rattle.parameters.specs.declared.OptionalOctet.{OptionalOctet}
 use Rattle.parameters.specs.declared.OptionalOctet.the-variants.{Absent, Present}
+use Rattle.deliver_report_writing.specs.Writing.{octetsIn, partsChecks}
 use Rattle.deliver_report.specs.declared.DeliverReportRead.{DeliverReportRead}
 use Rattle.deliver_report.specs.declared.SmsDeliverReport.{SmsDeliverReport}
 
@@ -73,22 +72,6 @@ unfolding ackLine errorLine read readFrom reading after stops canonicalOf fields
 known-reports = (refl, refl, refl, refl, refl, refl)
 
 -- ---- writing
-
--- UDHI in bit 6, MTI 0
-abbrev pub firstOctet : Bool → ℕ
-firstOctet true = 64
-firstOctet false = 0
-
-abbrev pub octetsIn : Bool → OptionalOctet → ℕ → Parameters → List ℕ
-octetsIn udhi cause pi p = firstOctet udhi ∷ (octetsHeld cause ++ (pi ∷ parametersOctets p))
-
--- 13, 14, 7, 8, 15
-abbrev pub partsChecks : ℕ → Parameters → List Check
-partsChecks pi p = indicatorChecks pi (p .pid) (p .dcs) (p .udl) ++ dataChecks (p .dcs) (p .udl) (length (p .ud))
-
--- what a writer makes of the parts
-unfoldable pub making : Bool → OptionalOctet → ℕ → Parameters → Making Written
-making udhi cause pi p = checked (partsChecks pi p) (octetsIn udhi cause pi p)
 
 -- the parameters of a record
 abbrev pub parametersOf : SmsDeliverReport → Parameters

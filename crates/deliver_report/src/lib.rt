@@ -1,17 +1,13 @@
 // SMS-DELIVER-REPORT (TS 23.040 §9.2.2.1a), the acknowledgement of an SMS-DELIVER or SMS-STATUS-REPORT.
 ghost use mathlib.Core.Path.{_≡_};
 ghost use mathlib.Core.Bool.{false};
-ghost use Prim.Native.Nat.{_+_, _≤_};
-ghost use lib.ListN.{length};
-ghost use Rattle.octets.specs.Lent.{Wrote, lend};
+ghost use Prim.Native.Nat.{_-_, _≤_};
+ghost use lib.ListN.{length, take, drop};
+ghost use Rattle.octets.specs.Lent.{lend};
 ghost use Rattle.layout.specs.Layout.{read, readFrom};
-ghost use Rattle.layout.specs.Demand.{Rewrites};
-ghost use mathlib.Core.List.{_∷_, _++_};
-ghost use Rattle.parameters.specs.Optional.{held, octetsHeld};
-ghost use Rattle.parameters.specs.Line.{parametersOctets, noParameters};
-ghost use Rattle.deliver_report.specs.DeliverReport.{reported, rest, ack, error, answer, firstOctet, making, reporting};
+ghost use Rattle.parameters.specs.Line.{noParameters};
+ghost use Rattle.deliver_report.specs.DeliverReport.{reported, stopped as stoppedReport, rest, ack, error, answer, reporting};
 use coding::UserData;
-use octets::Checked;
 use octets::Octet;
 use octets::Outcome;
 use octets::Place;
@@ -46,20 +42,18 @@ pub struct DeliverReportRead {
 fn cause_alone(outcome: Outcome, cause: OptionalOctet) -> DeliverReportRead
     ensures { λ r. ⌜ r ≡ record { outcome = outcome; message = reported false cause 0 noParameters } ⌝ }
 {
-    let data = UserData {
-        octets: [0u8; 255],
-        length: 0,
-    };
-    let message = SmsDeliverReport {
-        tp_udhi: false,
-        tp_failure_cause: cause,
-        tp_parameter_indicator: 0,
-        tp_pid: OptionalOctet::Absent,
-        tp_dcs: OptionalOctet::Absent,
-        tp_user_data_length: OptionalOctet::Absent,
-        tp_user_data: data,
-    };
-    DeliverReportRead { outcome, message }
+    DeliverReportRead {
+        outcome,
+        message: SmsDeliverReport {
+            tp_udhi: false,
+            tp_failure_cause: cause,
+            tp_parameter_indicator: 0,
+            tp_pid: OptionalOctet::Absent,
+            tp_dcs: OptionalOctet::Absent,
+            tp_user_data_length: OptionalOctet::Absent,
+            tp_user_data: coding::no_data(),
+        },
+    }
 }
 
 fn refused(r: Refusal) -> DeliverReportRead
@@ -68,100 +62,66 @@ fn refused(r: Refusal) -> DeliverReportRead
     cause_alone(Outcome::Refused(r), OptionalOctet::Absent)
 }
 
+// A report that is read no further: its cause is unspecified.
+fn stopped() -> DeliverReportRead
+    ensures { λ r. ⌜ r ≡ record { outcome = Outcome.Done; message = stoppedReport } ⌝ }
+{
+    cause_alone(
+        Outcome::Done,
+        OptionalOctet::Present(FAILURE_CAUSE_UNSPECIFIED),
+    )
+}
+
+// The octets end inside a field.
+fn ended() -> DeliverReportRead
+    ensures { λ u. ⌜ u ≡ record { outcome = Outcome.Refused Refusal.OctetsEnd; message = reported false OptionalOctet.Absent 0 noParameters } ⌝ }
+{
+    refused(Refusal::OctetsEnd)
+}
+
+// The report of fields that are there: UDHI, cause, indicator, PID, DCS, UDL, and the n octets of user data before `end`.
+fn report(
+    udhi: bool,
+    cause: OptionalOctet,
+    indicator: u8,
+    data: &[u8],
+    pid: OptionalOctet,
+    dcs: OptionalOctet,
+    udl: OptionalOctet,
+    n: usize,
+    end: usize,
+) -> DeliverReportRead
+    requires { ⌜ (n ≤ end) × (end ≤ length (now «data»)) × (n ≤ 255) ⌝ }
+    ensures { λ r. ⌜ r ≡ record { outcome = Outcome.Done; message = reported udhi cause indicator (record { pid = pid; dcs = dcs; udl = udl; ud = take n (drop (end - n) (now («data» .entry))) }) } ⌝ }
+{
+    let start = end - n;
+    DeliverReportRead {
+        outcome: Outcome::Done,
+        message: SmsDeliverReport {
+            tp_udhi: udhi,
+            tp_failure_cause: cause,
+            tp_parameter_indicator: indicator,
+            tp_pid: pid,
+            tp_dcs: dcs,
+            tp_user_data_length: udl,
+            tp_user_data: coding::data_with(&data[start..end]),
+        },
+    }
+}
+
 // What follows first octet and cause.
 fn decode_rest(data: &[u8], place: Place, udhi: bool, cause: OptionalOctet) -> DeliverReportRead
     ensures { λ r. ⌜ r ≡ answer (readFrom (rest udhi cause) (now («data» .entry)) (place .at)) ⌝ }
 {
     let Octet::Read(indicator, next) = parameters::read_indicator(data, place) else {
-        return refused(Refusal::OctetsEnd);
+        return ended();
     };
     match parameters::read_parameters(data, next, indicator) {
         ParametersRead::Refused(r) => refused(r),
         ParametersRead::Read(pid, dcs, udl, size, behind) => {
-            let end = behind.at;
-            let start = end - size;
-            let octets = octets::stored_octets(&data[start..end]);
-            let user_data = UserData {
-                octets,
-                length: size,
-            };
-            let message = SmsDeliverReport {
-                tp_udhi: udhi,
-                tp_failure_cause: cause,
-                tp_parameter_indicator: indicator,
-                tp_pid: pid,
-                tp_dcs: dcs,
-                tp_user_data_length: udl,
-                tp_user_data: user_data,
-            };
-            DeliverReportRead {
-                outcome: Outcome::Done,
-                message,
-            }
+            report(udhi, cause, indicator, data, pid, dcs, udl, size, behind.at)
         }
     }
-}
-
-fn first_octet(udhi: bool) -> u8
-    ensures { λ r. ⌜ r ≡ firstOctet udhi ⌝ }
-{
-    if udhi { 64 } else { 0 }
-}
-
-// Writes parts that were checked; how many octets they take.
-fn put_parts(
-    first: u8,
-    cause: OptionalOctet,
-    indicator: u8,
-    pid: OptionalOctet,
-    dcs: OptionalOctet,
-    udl: OptionalOctet,
-    data: &[u8],
-    out: &mut [u8],
-) -> usize
-    requires { ⌜ 2 + held cause + (held pid + held dcs + held udl + length (now «data»)) ≤ length (now out) ⌝ }
-    ensures { λ r. ⌜ Wrote 0 (first ∷ (octetsHeld cause ++ (indicator ∷ parametersOctets (record { pid = pid; dcs = dcs; udl = udl; ud = now («data» .entry) })))) (now (out .entry)) r (now (out .exit)) ⌝ }
-{
-    let p1 = octets::put_octet(out, 0, first);
-    let p2 = parameters::put_optional(out, p1, cause);
-    let p3 = octets::put_octet(out, p2, indicator);
-    parameters::put_parameters(out, p3, pid, dcs, udl, data)
-}
-
-// Writes the parts to the start of a lent output: checks in order, then the size, then the octets.
-fn encode_parts(
-    udhi: bool,
-    cause: OptionalOctet,
-    indicator: u8,
-    pid: OptionalOctet,
-    dcs: OptionalOctet,
-    udl: OptionalOctet,
-    data: &[u8],
-    out: &mut [u8],
-) -> Written
-    requires { ⌜ length (now «data») ≤ 255 ⌝ }
-    ensures { λ r. ⌜ (r, now (out .exit)) ≡ lend Written.Refused (making udhi cause indicator (record { pid = pid; dcs = dcs; udl = udl; ud = now («data» .entry) })) (now (out .entry)) ⌝ }
-{
-    if let Checked::Against(r) = parameters::check_parameter_indicator(indicator, pid, dcs, udl) {
-        return Written::Refused(r);
-    }
-    if let Checked::Against(r) = parameters::check_data(dcs, udl, data.len()) {
-        return Written::Refused(r);
-    }
-    let size = parameters::parameters_size(pid, dcs, udl, data.len());
-    if out.len() < 2 + parameters::octets_held(cause) + size {
-        return Written::Refused(Refusal::OutputTooShort);
-    }
-    Written::Done(put_parts(
-        first_octet(udhi),
-        cause,
-        indicator,
-        pid,
-        dcs,
-        udl,
-        data,
-        out,
-    ))
 }
 
 impl SmsDeliverReport {
@@ -171,7 +131,7 @@ impl SmsDeliverReport {
     {
         let start = Place { at: 0 };
         let Octet::Read(first, place) = start.octet(data) else {
-            return refused(Refusal::OctetsEnd);
+            return ended();
         };
         if first % 4 != MTI_DELIVER {
             return refused(Refusal::WrongMessageType);
@@ -186,19 +146,16 @@ impl SmsDeliverReport {
     {
         let start = Place { at: 0 };
         let Octet::Read(first_byte, place) = start.octet(data) else {
-            return refused(Refusal::OctetsEnd);
+            return ended();
         };
         if first_byte % 4 != MTI_DELIVER {
             return refused(Refusal::WrongMessageType);
         }
         if first_byte & REPORT_UNUSED_BITS != 0 {
-            return cause_alone(
-                Outcome::Done,
-                OptionalOctet::Present(FAILURE_CAUSE_UNSPECIFIED),
-            );
+            return stopped();
         }
         let Octet::Read(cause, next) = place.octet(data) else {
-            return refused(Refusal::OctetsEnd);
+            return ended();
         };
         decode_rest(
             data,
@@ -221,7 +178,7 @@ impl SmsDeliverReport {
         let pid = self.tp_pid;
         let dcs = self.tp_dcs;
         let udl = self.tp_user_data_length;
-        encode_parts(
+        deliver_report_writing::encode_parts(
             self.tp_udhi,
             cause,
             self.tp_parameter_indicator,
@@ -232,30 +189,4 @@ impl SmsDeliverReport {
             out,
         )
     }
-}
-
-// Reads a report carried in an RP-ACK, and writes it back.
-pub fn canonical_deliver_report_ack(data: &[u8], out: &mut [u8]) -> Written
-    ensures { λ r. ⌜ Rewrites ack false (now («data» .entry)) (now (out .entry)) r (now (out .exit)) ⌝ }
-{
-    let read = SmsDeliverReport::decode_for_rp_ack(data);
-    let outcome = read.outcome;
-    let message = read.message;
-    if let Outcome::Refused(r) = outcome {
-        return Written::Refused(r);
-    }
-    message.encode(out)
-}
-
-// Reads a report carried in an RP-ERROR, and writes it back.
-pub fn canonical_deliver_report_error(data: &[u8], out: &mut [u8]) -> Written
-    ensures { λ r. ⌜ Rewrites error false (now («data» .entry)) (now (out .entry)) r (now (out .exit)) ⌝ }
-{
-    let read = SmsDeliverReport::decode_for_rp_error(data);
-    let outcome = read.outcome;
-    let message = read.message;
-    if let Outcome::Refused(r) = outcome {
-        return Written::Refused(r);
-    }
-    message.encode(out)
 }

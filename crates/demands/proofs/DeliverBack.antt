@@ -26,7 +26,8 @@ use Rattle.address.proofs.Laws.{Spelled, address-passed}
 use Rattle.layout.specs.Layout.{first, octet, octets, any, address, userData, isSet, messageType, kept, Format, field, reached, reading, readFrom, read}
 use Rattle.demands.proofs.LayoutBack.{field-read, field-last, message-read, done-read}
 use Rattle.deliver.specs.declared.SmsDeliver.{SmsDeliver}
-use Rattle.deliver.specs.Deliver.{bits, delivered, behindAddress, line, deliver, octetsIn, making, flagsOf, delivering, parts, capitalised, tooLong}
+use Rattle.deliver.specs.Deliver.{bits, delivered, behindAddress, line, deliver, flagsOf, delivering, parts, capitalised, tooLong}
+use Rattle.deliver_writing.specs.Writing.{octetsIn, making}
 
 -- ---- the checks that a written record passed
 

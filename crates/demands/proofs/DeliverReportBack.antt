@@ -25,10 +25,11 @@ use Rattle.parameters.specs.Optional.{held}
 use Rattle.parameters.specs.declared.OptionalOctet.{OptionalOctet}
 use Rattle.parameters.specs.declared.OptionalOctet.the-variants.{Absent, Present}
 use Rattle.demands.proofs.ParametersBack.{octet-here, indicator-here, not-extended, parameters-here, parameters-limit}
-use Rattle.deliver_report.specs.DeliverReport.{reported, rest, outcomeOf, octetsIn, partsChecks, parametersOf, reporting, Parts, parts, partsOctets}
+use Rattle.deliver_report.specs.DeliverReport.{reported, rest, outcomeOf, parametersOf, reporting, Parts, parts, partsOctets}
+use Rattle.deliver_report_writing.specs.Writing.{octetsIn, partsChecks}
 use Rattle.deliver_report.specs.declared.SmsDeliverReport.{SmsDeliverReport}
 use Rattle.parameters.proofs.Made.{one-at-most}
-use Rattle.deliver_report.proofs.Writing.{size-is}
+use Rattle.deliver_report_writing.proofs.Writing.{size-is}
 use Rattle.deliver_report.proofs.Reading.{outcomes}
 
 -- ---- the octets of parts that pass the checks

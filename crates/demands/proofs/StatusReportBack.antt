@@ -33,7 +33,8 @@ use Rattle.parameters.specs.Optional.{octetsHeld, held}
 use Rattle.parameters.specs.declared.OptionalOctet.{OptionalOctet}
 use Rattle.parameters.specs.declared.OptionalOctet.the-variants.{Absent, Present}
 use Rattle.demands.proofs.ParametersBack.{indicator-here, not-extended, parameters-here, parameters-limit}
-use Rattle.status_report.specs.StatusReport.{bits, reported, behindStatus, behindAddress, line, statusReport, octetsIn, optionalChecks, checksBehind, making, firstOf, parametersOf, reporting, parts, capitalised, tooLong}
+use Rattle.status_report.specs.StatusReport.{bits, reported, behindStatus, behindAddress, line, statusReport, firstOf, parametersOf, reporting, parts, capitalised, tooLong}
+use Rattle.status_report_writing.specs.Writing.{octetsIn, optionalChecks, checksBehind, making}
 use Rattle.status_report.specs.declared.SmsStatusReport.{SmsStatusReport}
 
 -- ---- the checks that a written record passed

@@ -19,9 +19,10 @@ use Rattle.layout.specs.Layout.{isSet, kept, Field, reached, read, readFrom}
 use Rattle.layout.proofs.Laws.{within-read}
 use Rattle.layout.proofs.Makes.{Makes, makes}
 use Rattle.submit.specs.declared.SmsSubmit.{SmsSubmit}
-use Rattle.submit.specs.Submit.{formatOf, periodSize, digitsLength, lengthsFit, submitting, headerSize, textWith, submitted, bits, behindCoding, behindFirst, line, submit}
-use Rattle.submit.proofs.Period.{period-size}
-use Rattle.submit.proofs.Writing.{all-passed}
+use Rattle.submit.specs.Submit.{digitsLength, lengthsFit, submitting, headerSize, textWith, submitted, bits, behindCoding, behindFirst, line, submit}
+use Rattle.validity.specs.Validity.{formatOf, periodSize}
+use Rattle.validity.proofs.Period.{period-size}
+use Rattle.submit_writing.proofs.Writing.{all-passed}
 use Rattle.submit.proofs.Text.{readable-short}
 
 short : Makes (λ (r : SmsSubmit) (cs : List Field). r .«tp_user_data» .length ≤ 510) line

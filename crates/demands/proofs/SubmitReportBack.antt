@@ -31,9 +31,10 @@ use Rattle.parameters.specs.declared.OptionalOctet.{OptionalOctet}
 use Rattle.parameters.specs.declared.OptionalOctet.the-variants.{Absent, Present}
 use Rattle.demands.proofs.ParametersBack.{octet-here, indicator-here, not-extended, parameters-here, parameters-limit}
 use Rattle.parameters.proofs.Made.{one-at-most}
-use Rattle.submit_report.specs.SubmitReport.{reported, rest, outcomeOf, octetsIn, making, parametersOf, reporting, Parts, parts, capitalised}
+use Rattle.submit_report.specs.SubmitReport.{reported, rest, outcomeOf, parametersOf, reporting, Parts, parts, capitalised}
+use Rattle.submit_report_writing.specs.Writing.{octetsIn, making}
 use Rattle.submit_report.specs.declared.SmsSubmitReport.{SmsSubmitReport}
-use Rattle.submit_report.proofs.Writing.{size-is}
+use Rattle.submit_report_writing.proofs.Writing.{size-is}
 use Rattle.submit_report.proofs.Reading.{outcomes}
 
 -- ---- the octets of parts that pass the checks

@@ -16,7 +16,8 @@ use Rattle.address.specs.Address.{addressSize, canonicalAddress}
 use Rattle.layout.specs.Layout.{octet, octets, any, require, done, address, userData, isSet, messageType, Reached, reached, halted, reading, readFrom, read}
 use Rattle.demands.proofs.LayoutBack.{field-read, field-last, message-read}
 use Rattle.submit.specs.declared.SmsSubmit.{SmsSubmit}
-use Rattle.submit.specs.Submit.{formatIn, periodSize, headerSize, inCount, submitted, bits, behindCoding, behindFirst, line, submit}
+use Rattle.submit.specs.Submit.{formatIn, headerSize, inCount, submitted, bits, behindCoding, behindFirst, line, submit}
+use Rattle.validity.specs.Validity.{periodSize}
 use Rattle.submit.proofs.Reading.{kept-whole}
 
 -- what must hold at the line's end

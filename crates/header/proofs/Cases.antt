@@ -1,24 +1,23 @@
 -- What reading and packing with a header give, case by case.
 -- Assumes nothing.
-use Prim.Native.Nat.{ℕ, _+_, _-_, _*_, _<_, _≤_}
-use mathlib.Core.Path.{_≡_, refl, sym, _∙_, ap}
-use mathlib.Core.List.{List, []}
+use Prim.Native.Nat.{ℕ, _-_, _*_, _<_, _≤_}
+use mathlib.Core.Path.{_≡_, refl, sym}
+use mathlib.Core.List.{List}
 use native.Mathlib.Omega.{arith}
 use native.Mathlib.Nat.{le-refl}
 use borrow.Author.Tests.{lt-ltb, le-ltb, eq-eqb, ne-eqb}
 use lib.ListN.{length, take, drop, length-drop}
-use lib.Seq.{take-all, length-take-le}
-use Rattle.octets.specs.Arrays.{pad}
+use lib.Seq.{take-all}
 use Rattle.octets.specs.Lent.{refused}
-use Rattle.octets.specs.declared.Refusal.{Refusal}
 use Rattle.octets.specs.declared.Refusal.the-variants.{LengthTooLarge, HeaderNotWhole, HeaderPassesCount, TooFewOctets}
+use Rattle.octets.specs.declared.Outcome.{Outcome}
 use Rattle.octets.specs.declared.Outcome.the-variants.{Done, Refused}
 use Rattle.septets.specs.Septets.{septetsIn, octetCount, headerSeptets, fillBits}
 use Rattle.text.specs.declared.Unpacked.{Unpacked}
 use Rattle.text.specs.Reading.{textOf, unpacked, shown as shownText}
-use Rattle.text.specs.Writing.{packing}
+use Rattle.packing.specs.Packing.{packing}
 use Rattle.text.proofs.Reading.{unpacked-reads, unpacked-ends}
-use Rattle.header.specs.declared.UnpackedWithHeader.{UnpackedWithHeader}
+use Rattle.header.specs.Parts.{joined}
 use Rattle.header.specs.Header.{headerOctets, shown, unread, unpackedWithHeader, packingWithHeader}
 
 module _ (os : List ℕ) (n : ℕ) where
@@ -48,21 +47,18 @@ module _ (os : List ℕ) (n : ℕ) where
         unfolding unpackedWithHeader
         read-done h = rw (le-ltb 255 n few, le-ltb _ _ whole, le-ltb _ _ fits, le-ltb _ _ h)
 
-        -- by the outcome of reading the text, with h the header's septets; the part that runs to the end is the rest
-        module _ (h : ℕ) (u : Unpacked)
-            (e : u ≡ unpacked (take (length os - headerOctets os) (drop (headerOctets os) os)) (h * 7 - headerOctets os * 8) (n - h)) (h-is : h ≡ headerSeptets (headerOctets os)) where
+        -- by the outcome of reading the text, with k the header's octets and h its septets; the part that runs to the end is the rest
+        module _ (k h : ℕ) (u : Unpacked) (e : u ≡ unpacked (take (length os - k) (drop k os)) (h * 7 - k * 8) (n - h)) (k-is : k ≡ headerOctets os) (h-is : h ≡ headerSeptets k) where
           rest-is : u ≡ unpacked (drop (headerOctets os) os) (fillBits (headerOctets os)) (n - headerSeptets (headerOctets os))
-          rest-is = rw (h-is, take-all (length os - headerOctets os) (drop (headerOctets os) os) (rw length-drop (le-refl _))) at e
+          rest-is = rw (h-is, k-is, take-all (length os - headerOctets os) (drop (headerOctets os) os) (rw length-drop (le-refl _))) at e
 
-          pub read-ends : (r : Refusal) → u .outcome ≡ Refused r → unpackedWithHeader os n ≡ unread TooFewOctets
-          read-ends r p = read-few (unpacked-ends _ _ _ (omega arith) rest-is r p)
-
-          pub read-whole : u .outcome ≡ Done → (header : List ℕ) → header ≡ pad 255 (take (headerOctets os) os)
-              → _≡_ {A = UnpackedWithHeader} (record { outcome = Done; header = header; «header_length» = headerOctets os; text = u .text; «text_length» = u .«text_length» }) (unpackedWithHeader os n)
+          pub read-joined : joined (take k os) u (u .outcome) ≡ unpackedWithHeader os n
           unfolding shown shownText
-          read-whole p header q =
-              let r = unpacked-reads _ _ _ (omega arith) rest-is p in
-              rw (read-done (r .0), r .1, q, length-take-le (headerOctets os) os whole)
+          read-joined = rw k-is (by-outcome (u .outcome) refl)
+            where
+              by-outcome : (o : Outcome) → u .outcome ≡ o → joined (take (headerOctets os) os) u o ≡ unpackedWithHeader os n
+              by-outcome Done p = let r = unpacked-reads _ _ _ (omega arith) rest-is p in rw (read-done (r .0), r .1)
+              by-outcome (Refused r) p = sym (read-few (unpacked-ends _ _ _ (omega arith) rest-is r p))
 
 module _ (header text : List ℕ) where
   pub packing-bad : (length header ≡ headerOctets header → ⊥) → packingWithHeader header text ≡ refused HeaderNotWhole

@@ -15,12 +15,14 @@ use Rattle.octets.specs.declared.Refusal.{Refusal}
 use Rattle.octets.specs.declared.Outcome.the-variants.{Done}
 use Rattle.septets.specs.Septets.{packedSeptets, septetsIn, headerSeptets, fillBits, octetCount}
 use Rattle.septets.proofs.Inverse.{length-packed, septets-septets, length-septets}
-use Rattle.text.specs.declared.Packed.{Packed}
+use Rattle.packing.specs.declared.Packed.{Packed}
 use Rattle.text.specs.Reading.{textOf}
-use Rattle.text.specs.Writing.{septetsOf, packedAs}
-use Rattle.text.proofs.Adequate.{text-packed-text}
-use Rattle.text.proofs.Packing.{octetsBehind, packing-made, packing-done}
-use Rattle.text.proofs.Laws.{read-writable}
+use Rattle.scanning.specs.Writing.{septetsOf}
+use Rattle.packing.specs.Packing.{packedAs}
+use Rattle.scanning.proofs.Adequate.{text-packed-text}
+use Rattle.packing.specs.Packing.{octetsBehind}
+use Rattle.packing.proofs.Packing.{packing-made, packing-done}
+use Rattle.scanning.proofs.Laws.{read-writable}
 use Rattle.header.specs.declared.UnpackedWithHeader.{UnpackedWithHeader}
 use Rattle.header.specs.Header.{headerOctets, shown, unread, unpackedWithHeader, packingWithHeader}
 use Rattle.header.proofs.Cases.{read-long, read-short, read-over, read-few, read-done, packing-bad, packing-good}

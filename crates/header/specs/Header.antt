@@ -11,9 +11,9 @@ use Rattle.octets.specs.declared.Refusal.{Refusal}
 use Rattle.octets.specs.declared.Refusal.the-variants.{LengthTooLarge, HeaderNotWhole, HeaderPassesCount, TooFewOctets}
 use Rattle.octets.specs.declared.Outcome.the-variants.{Done, Refused}
 use Rattle.septets.specs.Septets.{septetsIn, octetCount, headerSeptets, fillBits}
-use Rattle.text.specs.declared.Packed.{Packed}
+use Rattle.packing.specs.declared.Packed.{Packed}
 use Rattle.text.specs.Reading.{textOf}
-use Rattle.text.specs.Writing.{packing}
+use Rattle.packing.specs.Packing.{packing}
 use Rattle.header.specs.declared.UnpackedWithHeader.{UnpackedWithHeader}
 
 -- the octets of a header: its first octet counts those that follow

@@ -1,11 +1,16 @@
 // Text behind a user data header, in 7-bit coding (TS 23.040 §9.2.3.24).
 ghost use mathlib.Core.Path.{_≡_};
+ghost use Prim.Native.Nat.{_≤_};
+ghost use lib.ListN.{length, take};
 ghost use Rattle.octets.specs.Lent.{lend};
-ghost use Rattle.text.specs.Writing.{notPacked};
-ghost use Rattle.header.specs.Header.{unread, unpackedWithHeader, packingWithHeader};
+ghost use Rattle.octets.specs.declared.Refusal.the-variants.{LengthTooLarge, HeaderNotWhole, HeaderPassesCount, TooFewOctets};
+ghost use Rattle.packing.specs.Packing.{notPacked};
+ghost use Rattle.header.specs.Header.{headerOctets, unread, unpackedWithHeader, packingWithHeader};
+ghost use Rattle.header.specs.Parts.{joined};
 use octets::Outcome;
 use octets::Refusal;
-use text::Packed;
+use packing::Packed;
+use text::Unpacked;
 
 // A header, its length octet included, and the text behind it.
 pub struct UnpackedWithHeader {
@@ -28,49 +33,81 @@ fn refused(r: Refusal) -> UnpackedWithHeader
     }
 }
 
-// The header of user data and the text behind it; `septets` is their TP-User-Data-Length.
-pub fn unpack_gsm7_with_header(data: &[u8], septets: usize) -> UnpackedWithHeader
-    ensures { λ r. ⌜ r ≡ unpackedWithHeader (now («data» .entry)) septets ⌝ }
+fn too_long() -> UnpackedWithHeader
+    ensures { λ u. ⌜ u ≡ unread LengthTooLarge ⌝ }
 {
-    if 255 < septets {
-        return refused(Refusal::LengthTooLarge);
-    }
-    if data.len() == 0 {
-        return refused(Refusal::HeaderNotWhole);
-    }
-    let h = data[0] as usize + 1;
-    if data.len() < h {
-        return refused(Refusal::HeaderNotWhole);
-    }
-    let in_header = septets::header_septets(h);
-    if septets < in_header {
-        return refused(Refusal::HeaderPassesCount);
-    }
-    let unpacked = text::unpack_septets(&data[h..], in_header * 7 - h * 8, septets - in_header);
+    refused(Refusal::LengthTooLarge)
+}
+
+fn header_not_whole() -> UnpackedWithHeader
+    ensures { λ u. ⌜ u ≡ unread HeaderNotWhole ⌝ }
+{
+    refused(Refusal::HeaderNotWhole)
+}
+
+fn header_passes_count() -> UnpackedWithHeader
+    ensures { λ u. ⌜ u ≡ unread HeaderPassesCount ⌝ }
+{
+    refused(Refusal::HeaderPassesCount)
+}
+
+fn too_few_octets() -> UnpackedWithHeader
+    ensures { λ u. ⌜ u ≡ unread TooFewOctets ⌝ }
+{
+    refused(Refusal::TooFewOctets)
+}
+
+// The octets of a header: its first octet counts those that follow. With no octet that is more than there are.
+fn header_octets(data: &[u8]) -> usize
+    ensures { λ r. ⌜ (r ≡ headerOctets (now («data» .entry))) × (r ≤ 256) ⌝ }
+{
+    septets::octet_or_zero(data, 0) as usize + 1
+}
+
+// A header of `h` octets, and the text behind it as it was read.
+fn with_header(data: &[u8], h: usize, unpacked: Unpacked) -> UnpackedWithHeader
+    requires { ⌜ (h ≤ length (now «data»)) × (h ≤ 255) ⌝ }
+    ensures { λ r. ⌜ r ≡ joined (take h (now («data» .entry))) unpacked (unpacked .outcome) ⌝ }
+{
     let outcome = unpacked.outcome;
     let Outcome::Done = outcome else {
-        return refused(Refusal::TooFewOctets);
+        return too_few_octets();
     };
-    let header = octets::stored_octets(&data[..h]);
     let text = unpacked.text;
     UnpackedWithHeader {
         outcome: Outcome::Done,
-        header,
+        header: octets::stored_octets(&data[..h]),
         header_length: h,
         text,
         text_length: unpacked.text_length,
     }
 }
 
+// The header of user data and the text behind it; `septets` is their TP-User-Data-Length.
+pub fn unpack_gsm7_with_header(data: &[u8], septets: usize) -> UnpackedWithHeader
+    ensures { λ r. ⌜ r ≡ unpackedWithHeader (now («data» .entry)) septets ⌝ }
+{
+    if 255 < septets {
+        return too_long();
+    }
+    let h = header_octets(data);
+    if data.len() < h {
+        return header_not_whole();
+    }
+    let in_header = septets::header_septets(h);
+    if septets < in_header {
+        return header_passes_count();
+    }
+    let unpacked = text::unpack_septets(&data[h..], in_header * 7 - h * 8, septets - in_header);
+    with_header(data, h, unpacked)
+}
+
 // User data: the header, fill bits to the septet boundary, and the text. The header is whole, as long as its first octet says.
 pub fn pack_gsm7_with_header(header: &[u8], text: &[u8], out: &mut [u8]) -> Packed
     ensures { λ r. ⌜ (r, now (out .exit)) ≡ lend notPacked (packingWithHeader (now (header .entry)) (now (text .entry))) (now (out .entry)) ⌝ }
 {
-    if header.len() == 0 {
-        return text::not_packed(Refusal::HeaderNotWhole);
+    if header.len() != header_octets(header) {
+        return packing::not_packed(Refusal::HeaderNotWhole);
     }
-    if header.len() != header[0] as usize + 1 {
-        return text::not_packed(Refusal::HeaderNotWhole);
-    }
-    text::pack_septets(header, text, out)
+    packing::pack_septets(header, text, out)
 }

@@ -6,11 +6,13 @@ use Rattle.coding.specs.Coding.{codingOf, characterSet}
 use Rattle.septets.specs.Septets.{numberOf, digitsOf, septetsIn, packedSeptets}
 use Rattle.text.specs.Alphabet.{rowWith, indexOf, character, escaped}
 use Rattle.text.specs.Reading.{utf8, textOf, afterEscape, unpacked, shown as shownText}
-use Rattle.text.specs.Writing.{extendedCode, codeOf, same, twoOctets, threeOctets, firstCharacter, before, behind, scan, packedBehind, packing}
+use Rattle.scanning.specs.Writing.{extendedCode, codeOf, same, twoOctets, threeOctets, firstCharacter, before, behind, scan}
+use Rattle.packing.specs.Packing.{packedBehind, packing}
 use Rattle.octets.specs.Each.{each}
 use Rattle.octets.specs.SemiOctets.{semiOctets, inPairs}
 use Rattle.octets.specs.Texts.{codes}
-use Rattle.time.specs.Time.{timeOctets, timeDigits, timestamp, inCalendar, hexDigit, hexValue}
+use Rattle.time.specs.Time.{timeOctets, timeDigits, hexDigit, hexValue}
+use Rattle.timestamp.specs.Timestamp.{timestamp, inCalendar}
 use Rattle.address.specs.Address.{digitCharacters, digitCharacter, digitValue, isDigit, withoutF, valueText, textIn, addressIn, addressWith, addressOctets, canonicalAddress, addressMaking, encoding}
 use Rattle.header.specs.Header.{unpackedWithHeader, packingWithHeader, shown}
 use Rattle.coding.specs.Coding.{dataWith}

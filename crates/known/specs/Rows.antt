@@ -11,8 +11,9 @@ use Rattle.coding.specs.declared.UserDataCoding.{UserDataCoding}
 use Rattle.coding.specs.declared.UserDataCoding.the-variants.{Gsm7Bit, EightBit, Ucs2}
 use Rattle.coding.specs.Coding.{codingOf}
 use Rattle.text.specs.Reading.{unpacked, shown as shownText}
-use Rattle.text.specs.Writing.{packing, packedAs}
-use Rattle.time.specs.Time.{timeOctets, timeDigits, timestamp}
+use Rattle.packing.specs.Packing.{packing, packedAs}
+use Rattle.time.specs.Time.{timeOctets, timeDigits}
+use Rattle.timestamp.specs.Timestamp.{timestamp}
 use Rattle.address.specs.Address.{addressWith, addressIn, encoding, canonicalAddress}
 use Rattle.layout.specs.Layout.{read}
 use Rattle.deliver_report.specs.DeliverReport.{error, answer}

@@ -18,7 +18,7 @@ use Rattle.octets.specs.declared.Place.{Place}
 use Rattle.octets.specs.declared.Refusal.{Refusal}
 use Rattle.octets.specs.declared.Refusal.the-variants.{OctetsEnd, WrongMessageType}
 use Rattle.octets.specs.declared.Span.{Span}
-use Rattle.octets.proofs.Places.{start, octet-read, octet-refused, span-there, span-inside, span-refused}
+use Rattle.octets.proofs.Places.{start, octet-read, octet-ended, span-there, span-inside, span-ended}
 use Rattle.address.specs.Address.{addressSize, canonicalAddress}
 use Rattle.address.specs.Parts.{fieldAt}
 use Rattle.layout.specs.Layout.{Limit, Kind, first, octet, octets, address, indicator, messageType, kept, indicatorSize, size, canon, cut, behind, Format, field, require, endOr, done, _then_, message, Reached, reached, halted, after, reading, readFrom, leadingAt, indicatorAt, stopping, stops, read}
@@ -82,9 +82,9 @@ module _ (s : List ℕ) (p : Place) where
       pub message-differs : (messageType b ≡ mti → ⊥) → readFrom (message mti bits next) s (p .at) ≡ halted WrongMessageType
       message-differs m = one-there (first bits) _ (λ f. refl) ∙ require-fails s (q .at) (ne-eqb _ mti (λ h. m (sym (kept-type bits d b) ∙ h))) WrongMessageType _
 
-  module _ {why : Refusal} (e : octetAt s p ≡ Octet.Refused why) where
+  module _ (e : octetAt s p ≡ Octet.Ended) where
     one-short : {R : Type 0} (k : Kind) (next : List ℕ → Format R) → ((f : List ℕ) → size k f ≡ 1) → readFrom (field k next) s (p .at) ≡ halted OctetsEnd
-    one-short k next n = short k next (rw (n (drop (p .at) s), length-drop) (omega (arith, octet-refused s p e .0)))
+    one-short k next n = short k next (rw (n (drop (p .at) s), length-drop) (omega (arith, octet-ended s p e)))
 
     pub octet-ends : {R : Type 0} (next : List ℕ → Format R) → readFrom (field octet next) s (p .at) ≡ halted OctetsEnd
     octet-ends next = one-short octet next (λ f. refl)
@@ -97,14 +97,14 @@ module _ (s : List ℕ) (p : Place) where
   whole-there : {R : Type 0} {a : ℕ} {q : Place} (k : Kind) → spanAt s p (size k (drop (p .at) s)) ≡ Span.There a q → (next : List ℕ → Format R) → readFrom (field k next) s (p .at) ≡ readFrom (next (canon k (cut k (drop (p .at) s)))) s (q .at)
   whole-there {q = q} k e next = let (h, a, to) = span-there s p _ e in there k next q h to
 
-  whole-short : {R : Type 0} {why : Refusal} (k : Kind) → spanAt s p (size k (drop (p .at) s)) ≡ Span.Refused why → (next : List ℕ → Format R) → readFrom (field k next) s (p .at) ≡ halted OctetsEnd
-  whole-short k e next = short k next (span-refused s p _ e .0)
+  whole-short : {R : Type 0} (k : Kind) → spanAt s p (size k (drop (p .at) s)) ≡ Span.Ended → (next : List ℕ → Format R) → readFrom (field k next) s (p .at) ≡ halted OctetsEnd
+  whole-short k e next = short k next (span-ended s p _ e)
 
   module _ (n : ℕ) where
     pub span-goes-on : {R : Type 0} {a : ℕ} {q : Place} → spanAt s p n ≡ Span.There a q → (limit : Limit) (next : List ℕ → Format R) → readFrom (field (octets limit n) next) s (p .at) ≡ readFrom (next (take n (drop (p .at) s))) s (q .at)
     span-goes-on e limit next = whole-there (octets limit n) e next
 
-    pub span-ends : {R : Type 0} {why : Refusal} → spanAt s p n ≡ Span.Refused why → (limit : Limit) (next : List ℕ → Format R) → readFrom (field (octets limit n) next) s (p .at) ≡ halted OctetsEnd
+    pub span-ends : {R : Type 0} → spanAt s p n ≡ Span.Ended → (limit : Limit) (next : List ℕ → Format R) → readFrom (field (octets limit n) next) s (p .at) ≡ halted OctetsEnd
     span-ends e limit next = whole-short (octets limit n) e next
 
   -- ---- by the answer of `address_at`
@@ -113,7 +113,7 @@ module _ (s : List ℕ) (p : Place) where
   unfolding fieldAt spanAt
   address-goes-on e next = whole-there address e next ∙ rw (span-there s p _ e .1)
 
-  pub address-ends : {R : Type 0} {why : Refusal} → fieldAt s p ≡ Span.Refused why → (next : List ℕ → Format R) → readFrom (field address next) s (p .at) ≡ halted OctetsEnd
+  pub address-ends : {R : Type 0} → fieldAt s p ≡ Span.Ended → (next : List ℕ → Format R) → readFrom (field address next) s (p .at) ≡ halted OctetsEnd
   unfolding fieldAt spanAt
   address-ends e next = whole-short address e next
 
@@ -136,15 +136,15 @@ module _ (s : List ℕ) (p : Place) where
           let (h, is, w) = span-there s p _ d in
           let at : p .at + 0 ≡ p .at = add-zero (p .at) in
           whole-there indicator d next ∙ cc (getD-take (indicatorSize (drop (p .at) s)) (drop (p .at) s) 0 0 (indicator-positive (drop (p .at) s)), getD-drop (p .at) s 0 0)
-      by (Span.Refused why) d e = let z : _≡_ {A = ℕ} 0 1 = cc in absurd (omega arith)
+      by Span.Ended d e = let z : _≡_ {A = ℕ} 0 1 = cc in absurd (omega arith)
 
-  pub indicator-ends : {R : Type 0} {why : Refusal} → indicatorAt s p ≡ Octet.Refused why → (next : List ℕ → Format R) → readFrom (field indicator next) s (p .at) ≡ halted OctetsEnd
+  pub indicator-ends : {R : Type 0} → indicatorAt s p ≡ Octet.Ended → (next : List ℕ → Format R) → readFrom (field indicator next) s (p .at) ≡ halted OctetsEnd
   unfolding indicatorAt
-  indicator-ends {why = why} e next = by (spanAt s p (indicatorSize (drop (p .at) s))) refl e
+  indicator-ends e next = by (spanAt s p (indicatorSize (drop (p .at) s))) refl e
     where
-      by : (r : Span) → spanAt s p (indicatorSize (drop (p .at) s)) ≡ r → leadingAt s r ≡ Octet.Refused why → readFrom (field indicator next) s (p .at) ≡ halted OctetsEnd
+      by : (r : Span) → spanAt s p (indicatorSize (drop (p .at) s)) ≡ r → leadingAt s r ≡ Octet.Ended → readFrom (field indicator next) s (p .at) ≡ halted OctetsEnd
       by (Span.There a to) d e = let z : _≡_ {A = ℕ} 0 1 = cc in absurd (omega arith)
-      by (Span.Refused w) d e = whole-short indicator d next
+      by Span.Ended d e = whole-short indicator d next
 
 -- ---- a layout that the first octet may stop
 
@@ -153,16 +153,16 @@ unfolding stops
 stops-by mti [] e = absurd (omega (arith, octet-read [] start e .0))
 stops-by mti (x ∷ s) e = rw (octet-read (x ∷ s) start e .1)
 
-pub stops-none : {why : Refusal} (mti : ℕ) (s : List ℕ) → octetAt s start ≡ Octet.Refused why → stops mti s ≡ false
+pub stops-none : (mti : ℕ) (s : List ℕ) → octetAt s start ≡ Octet.Ended → stops mti s ≡ false
 unfolding stops
 stops-none mti [] e = refl
-stops-none mti (x ∷ s) e = absurd (omega (arith, octet-refused (x ∷ s) start e .0))
+stops-none mti (x ∷ s) e = absurd (omega (arith, octet-ended (x ∷ s) start e))
 
 module _ {R : Type 0} (mti : ℕ) (stands : List ℕ) (z : R) (bits : List ℕ) (d : descends bits ≡ true) (next : ℕ → Format R) (s : List ℕ) where
   abbrev stopping-read : Reached R
   stopping-read = read (stopping mti stands z (message mti bits next)) s
 
-  pub stopping-ends : {why : Refusal} → octetAt s start ≡ Octet.Refused why → stopping-read ≡ halted OctetsEnd
+  pub stopping-ends : octetAt s start ≡ Octet.Ended → stopping-read ≡ halted OctetsEnd
   unfolding read
   stopping-ends e = rw (stops-none mti s e) (message-ends s start e mti bits next)
 

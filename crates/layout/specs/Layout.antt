@@ -177,7 +177,7 @@ readFrom line s at = reading line (drop at s) at
 -- what reading at a place finds of an indicator: its first octet, and the place behind its last extension octet
 abbrev pub leadingAt : List ℕ → Span → Octet
 leadingAt s (Span.There at next) = Octet.Read (getD s at 0) next
-leadingAt s (Span.Refused why) = Octet.Refused why
+leadingAt s Span.Ended = Octet.Ended
 
 unfoldable pub indicatorAt : List ℕ → Place → Octet
 indicatorAt s p = leadingAt s (spanAt s p (indicatorSize (drop (p .at) s)))

@@ -54,6 +54,24 @@ pub fn find(octets: &[u8], from: usize, octet: u8) -> usize
     i
 }
 
+// The number of a word in a list of words that each end with a line feed, counted from 0; how many there are if it is none of them.
+pub fn word_number(words: &[u8], word: &[u8]) -> usize {
+    let mut n = 0;
+    let mut start = 0;
+    while start < words.len() {
+        let end = find(words, start, b'\n');
+        if words.len() <= end {
+            return n;
+        }
+        if same(part(words, start, end), word) {
+            return n;
+        }
+        n += 1;
+        start = end + 1;
+    }
+    n
+}
+
 // The first place from `from` on that holds no space, or the end.
 fn skip_spaces(line: &[u8], from: usize) -> usize {
     let mut i = from;

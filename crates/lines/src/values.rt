@@ -4,11 +4,11 @@ use crate::fields::begins;
 use crate::fields::behind;
 use crate::fields::part;
 use crate::fields::same;
+use coding::UserData;
 use page::HexRead;
-use tpdu::OptionalOctet;
-use tpdu::Time;
-use tpdu::UserData;
-use tpdu::ValidityPeriod;
+use parameters::OptionalOctet;
+use time::Time;
+use validity::ValidityPeriod;
 
 // The digits that a number may have.
 const MOST_DIGITS: usize = 9;

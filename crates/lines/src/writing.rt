@@ -1,19 +1,16 @@
 // Answers, and the fields of a record in them: each function writes behind `at` and answers the place behind.
 use crate::fields::part;
-use tpdu::OptionalOctet;
-use tpdu::Refusal;
-use tpdu::Time;
-use tpdu::UserData;
-use tpdu::Written;
+use coding::UserData;
+use octets::Refusal;
+use octets::Written;
+use parameters::OptionalOctet;
+use time::Time;
 
 // ---- fields
 
+// A flag: 1 or 0.
 pub fn flag(out: &mut [u8], at: usize, name: &[u8], on: bool) -> usize {
-    let next = page::put(out, at, name);
-    if on {
-        return page::put(out, next, b"1");
-    }
-    page::put(out, next, b"0")
+    number(out, at, name, on as u8)
 }
 
 pub fn number(out: &mut [u8], at: usize, name: &[u8], n: u8) -> usize {
@@ -24,6 +21,17 @@ pub fn number(out: &mut [u8], at: usize, name: &[u8], n: u8) -> usize {
 pub fn octet(out: &mut [u8], at: usize, name: &[u8], x: u8) -> usize {
     let next = page::put(out, at, name);
     page::put_hex_octet(out, next, x)
+}
+
+// Numbers, each behind its name: name i of a list for number i.
+pub fn numbers(out: &mut [u8], at: usize, names: &[u8], values: &[u8]) -> usize {
+    let mut place = at;
+    let mut i = 0;
+    while i < values.len() {
+        place = number(out, place, page::word(names, i), values[i]);
+        i += 1;
+    }
+    place
 }
 
 pub fn optional_number(out: &mut [u8], at: usize, name: &[u8], n: OptionalOctet) -> usize {
@@ -63,15 +71,24 @@ pub fn data(out: &mut [u8], at: usize, name: &[u8], d: UserData) -> usize {
 
 // ---- answers
 
-// A refusal's number and name; for people, its number and words.
-pub fn refused(out: &mut [u8], at: usize, r: Refusal, show: bool) -> usize {
-    let p1 = page::put(out, at, b"refused ");
+// A refusal's number and name.
+fn number_and_name(out: &mut [u8], at: usize, refusal: u8) -> usize {
+    let p1 = page::put_decimal(out, at, refusal as u64);
+    let p2 = page::put(out, p1, b" ");
+    refusals::put_name_of(out, p2, refusal)
+}
+
+// The refusal of a number: its number and name; for people, its number and words.
+pub fn refused_by_number(out: &mut [u8], at: usize, refusal: u8, show: bool) -> usize {
+    let next = page::put(out, at, b"refused ");
     if show {
-        return refusals::put_refusal_words(out, p1, r);
+        return refusals::put_words_of(out, next, refusal);
     }
-    let p2 = page::put_decimal(out, p1, r.number() as u64);
-    let p3 = page::put(out, p2, b" ");
-    refusals::put_name(out, p3, r)
+    number_and_name(out, next, refusal)
+}
+
+pub fn refused(out: &mut [u8], at: usize, r: Refusal, show: bool) -> usize {
+    refused_by_number(out, at, r.number(), show)
 }
 
 // What a writer answered, and the octets that it wrote.

@@ -1,15 +1,13 @@
 -- What an answer of a place's methods tells of the octets.
 -- Assumes nothing.
-use Prim.Native.Nat.{ℕ, _+_, _<_, _≤_}
+use Prim.Native.Nat.{ℕ, _+_, _-_, _<_, _≤_}
 use mathlib.Core.Path.{_≡_}
 use mathlib.Core.List.{List}
 use mathlib.Core.Logic.{⊎-elim}
 use native.Mathlib.Omega.{arith}
 use borrow.Author.Tests.{ltb-true, ltb-false, leb-true, leb-false}
 use lib.Dec.{ltb, leb}
-use lib.ListN.{length, getD, drop, length-drop}
-use Rattle.octets.specs.declared.Refusal.{Refusal}
-use Rattle.octets.specs.declared.Refusal.the-variants.{OctetsEnd}
+use lib.ListN.{length, getD, take, drop, length-drop}
 use Rattle.octets.specs.declared.Place.{Place}
 use Rattle.octets.specs.declared.Octet.{Octet}
 use Rattle.octets.specs.declared.Span.{Span}
@@ -27,11 +25,11 @@ module _ (s : List ℕ) (p : Place) where
   octet-read e =
       ⊎-elim (λ w. (ltb-true _ _ (w .0), cc, cc)) (λ w. let z : _≡_ {A = ℕ} 0 1 = cc in absurd (omega arith)) (chosen (ltb (p .at) (length s)) e)
 
-  -- a refusal says that the octets end
-  pub octet-refused : {r : Refusal} → octetAt s p ≡ Octet.Refused r → (length s ≤ p .at) × (r ≡ OctetsEnd)
+  -- where none is there, the octets end
+  pub octet-ended : octetAt s p ≡ Octet.Ended → length s ≤ p .at
   unfolding octetAt
-  octet-refused e =
-      ⊎-elim (λ w. let z : _≡_ {A = ℕ} 0 1 = cc in absurd (omega arith)) (λ w. (ltb-false _ _ (w .0), cc)) (chosen (ltb (p .at) (length s)) e)
+  octet-ended e =
+      ⊎-elim (λ w. let z : _≡_ {A = ℕ} 0 1 = cc in absurd (omega arith)) (λ w. ltb-false _ _ (w .0)) (chosen (ltb (p .at) (length s)) e)
 
   module _ (n : ℕ) where
     -- octets that are there start at the place, and the next place is behind them
@@ -44,7 +42,11 @@ module _ (s : List ℕ) (p : Place) where
     pub span-inside : {a : ℕ} {q : Place} → spanAt s p n ≡ Span.There a q → p .at ≤ length s → (a + n ≤ length s) × (q .at ≤ length s)
     span-inside e h = let (fits, from, next) = span-there e in (omega (arith, length-drop (p .at) s), omega (arith, length-drop (p .at) s))
 
-    pub span-refused : {r : Refusal} → spanAt s p n ≡ Span.Refused r → (length (drop (p .at) s) < n) × (r ≡ OctetsEnd)
+    -- they are the octets from where they start up to the next place
+    pub span-part : {a : ℕ} {q : Place} → spanAt s p n ≡ Span.There a q → take (q .at - a) (drop a s) ≡ take n (drop (p .at) s)
+    span-part {a} {q} e = let (fits, from, next) = span-there e in let size : q .at - a ≡ n = omega arith in rw (size, from)
+
+    pub span-ended : spanAt s p n ≡ Span.Ended → length (drop (p .at) s) < n
     unfolding spanAt
-    span-refused e =
-        ⊎-elim (λ w. let z : _≡_ {A = ℕ} 0 1 = cc in absurd (omega arith)) (λ w. (leb-false _ _ (w .0), cc)) (chosen (leb n (length (drop (p .at) s))) e)
+    span-ended e =
+        ⊎-elim (λ w. let z : _≡_ {A = ℕ} 0 1 = cc in absurd (omega arith)) (λ w. leb-false _ _ (w .0)) (chosen (leb n (length (drop (p .at) s))) e)

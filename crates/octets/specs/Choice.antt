@@ -17,3 +17,8 @@ within lo hi n = leb lo n && leb n hi
 abbrev pub flag : Bool → ℕ → ℕ
 flag true weight = weight
 flag false weight = 0
+
+-- a length that counts: that of an absent part doesn't
+abbrev pub lengthIf : Bool → ℕ → ℕ
+lengthIf true n = n
+lengthIf false n = 0

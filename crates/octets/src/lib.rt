@@ -134,13 +134,13 @@ pub struct Place {
 // The octet at a place, and the place behind it.
 pub enum Octet {
     Read(u8, Place),
-    Refused(Refusal),
+    Ended,
 }
 
 // Octets that are all there: where they start, and the place behind them.
 pub enum Span {
     There(usize, Place),
-    Refused(Refusal),
+    Ended,
 }
 
 impl Place {
@@ -152,7 +152,7 @@ impl Place {
         if at < data.len() {
             Octet::Read(data[at], Place { at: at + 1 })
         } else {
-            Octet::Refused(Refusal::OctetsEnd)
+            Octet::Ended
         }
     }
 
@@ -165,7 +165,7 @@ impl Place {
         if n <= left {
             Span::There(at, Place { at: at + n })
         } else {
-            Span::Refused(Refusal::OctetsEnd)
+            Span::Ended
         }
     }
 }

@@ -35,7 +35,7 @@ module _ (s : List ℕ) (at : ℕ) where
     size-last h = rw (ne-eqb (bit 7 x) 1 h)
 
 module _ (s : List ℕ) (p : Place) where
-  pub indicator-not : length s < p .at + indicatorSize (drop (p .at) s) → Octet.Refused OctetsEnd ≡ indicatorAt s p
+  pub indicator-not : length s < p .at + indicatorSize (drop (p .at) s) → Octet.Ended ≡ indicatorAt s p
   unfolding indicatorAt spanAt
   indicator-not h = rw (lt-leb (indicatorSize (drop (p .at) s)) (length (drop (p .at) s)) (omega (arith, length-drop (p .at) s, indicator-positive (drop (p .at) s))))
 

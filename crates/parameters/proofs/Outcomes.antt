@@ -18,13 +18,13 @@ use Rattle.parameters.specs.declared.OptionalOctet.the-variants.{Absent,
 
 -- what both readers come to, by the octets that are there; `udhi` is the report's field for bit 6, `rest` what follows first octet and cause
 pub record Outcomes {R H : Type 0} (ack error : Layout R) (mti : ℕ) (udhi : ℕ → H) (rest : H → OptionalOctet → Format R) (stopped : R) (s : List ℕ) : Type 0 where
-  pub ack-ends : {why : Refusal} → octetAt s start ≡ Octet.Refused why → read ack s ≡ halted OctetsEnd
-  pub error-ends : {why : Refusal} → octetAt s start ≡ Octet.Refused why → read error s ≡ halted OctetsEnd
+  pub ack-ends : octetAt s start ≡ Octet.Ended → read ack s ≡ halted OctetsEnd
+  pub error-ends : octetAt s start ≡ Octet.Ended → read error s ≡ halted OctetsEnd
   pub ack-differs : {x : ℕ} {q : Place} → octetAt s start ≡ Octet.Read x q → (messageType x ≡ mti → ⊥) → read ack s ≡ halted WrongMessageType
   pub error-differs : {x : ℕ} {q : Place} → octetAt s start ≡ Octet.Read x q → (messageType x ≡ mti → ⊥) → read error s ≡ halted WrongMessageType
   pub ack-goes-on : {x : ℕ} {q : Place} → octetAt s start ≡ Octet.Read x q → messageType x ≡ mti → read ack s ≡ readFrom (rest (udhi (bit 6 x)) Absent) s (q .at)
   pub error-stops : {x : ℕ} {q : Place} → octetAt s start ≡ Octet.Read x q → messageType x ≡ mti → (bitAnd x 0xbc ≡ 0 → ⊥) → read error s ≡ reached stopped 1
-  pub no-cause : {x : ℕ} {q : Place} {why : Refusal} → octetAt s start ≡ Octet.Read x q → messageType x ≡ mti → bitAnd x 0xbc ≡ 0 → octetAt s q ≡ Octet.Refused why → read error s ≡ halted OctetsEnd
+  pub no-cause : {x : ℕ} {q : Place} → octetAt s start ≡ Octet.Read x q → messageType x ≡ mti → bitAnd x 0xbc ≡ 0 → octetAt s q ≡ Octet.Ended → read error s ≡ halted OctetsEnd
   pub error-goes-on : {x cause : ℕ} {q t : Place} → octetAt s start ≡ Octet.Read x q → messageType x ≡ mti → bitAnd x 0xbc ≡ 0 → octetAt s q ≡ Octet.Read cause t
       → read error s ≡ readFrom (rest (udhi (bit 6 x)) (Present cause)) s (t .at)
 

@@ -39,7 +39,7 @@ module _ (s : List ℕ) (p : Place) where
   pub announced-read : {x : ℕ} {q : Place} → octetAt s p ≡ Octet.Read x q → readFrom (announced true) s (p .at) ≡ reached (Present x) (q .at)
   announced-read e = octet-goes-on s p e _ ∙ done-reached s _ _
 
-  pub announced-ends : {why : Refusal} → octetAt s p ≡ Octet.Refused why → readFrom (announced true) s (p .at) ≡ halted OctetsEnd
+  pub announced-ends : octetAt s p ≡ Octet.Ended → readFrom (announced true) s (p .at) ≡ halted OctetsEnd
   announced-ends e = octet-ends s p e _
 
 -- its refusal is that the octets end
@@ -48,7 +48,7 @@ only-ends {why} s at true e = by (octetAt s (record { at = at })) refl
   where
     by : (o : Octet) → octetAt s (record { at = at }) ≡ o → why ≡ OctetsEnd
     by (Octet.Read x q) d = let z : _≡_ {A = ℕ} 0 1 = cc (announced-read s (record { at = at }) d) in absurd (omega arith)
-    by (Octet.Refused r) d = let h = announced-ends s (record { at = at }) d in cc
+    by Octet.Ended d = let h = announced-ends s (record { at = at }) d in cc
 only-ends s at false e = let h = done-reached s at Absent in let z : _≡_ {A = ℕ} 0 1 = cc in absurd (omega arith)
 
 module _ {R : Type 0} (s : List ℕ) (at : ℕ) (b : Bool) (next : OptionalOctet → Format R) where
@@ -59,27 +59,27 @@ module _ {R : Type 0} (s : List ℕ) (at : ℕ) (b : Bool) (next : OptionalOctet
       go (reached a to) h = let d : a ≡ o = cc in let w : to ≡ q .at = cc in rw (d, w)
       go (halted why) h = let z : _≡_ {A = ℕ} 0 1 = cc in absurd (omega arith)
 
-  pub optional-ends : {why : Refusal} → optionalAnswer (readFrom (announced b) s at) ≡ OptionalRead.Refused why → readFrom (announced b then next) s at ≡ halted OctetsEnd
-  optional-ends {why} e = part-by-part s (announced b) at next ∙ go (readFrom (announced b) s at) refl e
+  pub optional-ends : optionalAnswer (readFrom (announced b) s at) ≡ OptionalRead.Ended → readFrom (announced b then next) s at ≡ halted OctetsEnd
+  optional-ends e = part-by-part s (announced b) at next ∙ go (readFrom (announced b) s at) refl e
     where
-      go : (r : Reached OptionalOctet) → readFrom (announced b) s at ≡ r → optionalAnswer r ≡ OptionalRead.Refused why → goOn r (λ a to. readFrom (next a) s to) ≡ halted OctetsEnd
+      go : (r : Reached OptionalOctet) → readFrom (announced b) s at ≡ r → optionalAnswer r ≡ OptionalRead.Ended → goOn r (λ a to. readFrom (next a) s to) ≡ halted OctetsEnd
       go (reached a to) d h = let z : _≡_ {A = ℕ} 0 1 = cc in absurd (omega arith)
       go (halted w) d h = ap halted (only-ends s at b d)
 
 -- ---- the parameters
 
 module _ (s : List ℕ) (at pi : ℕ) where
-  pub no-pid : {why : Refusal} → optionalAnswer (readFrom (announced (eqb (pi % 2) 1)) s at) ≡ OptionalRead.Refused why → ParametersRead.Refused OctetsEnd ≡ parametersAnswer (readFrom (parameters pi) s at)
+  pub no-pid : optionalAnswer (readFrom (announced (eqb (pi % 2) 1)) s at) ≡ OptionalRead.Ended → ParametersRead.Refused OctetsEnd ≡ parametersAnswer (readFrom (parameters pi) s at)
   unfolding parameters
   no-pid e = rw (div-one pi, optional-ends s at _ _ e)
 
   module _ {pid : OptionalOctet} {p1 : Place} (r1 : optionalAnswer (readFrom (announced (eqb (pi % 2) 1)) s at) ≡ OptionalRead.Read pid p1) where
-    pub no-dcs : {why : Refusal} → optionalAnswer (readFrom (announced (isSet 1 pi)) s (p1 .at)) ≡ OptionalRead.Refused why → ParametersRead.Refused OctetsEnd ≡ parametersAnswer (readFrom (parameters pi) s at)
+    pub no-dcs : optionalAnswer (readFrom (announced (isSet 1 pi)) s (p1 .at)) ≡ OptionalRead.Ended → ParametersRead.Refused OctetsEnd ≡ parametersAnswer (readFrom (parameters pi) s at)
     unfolding parameters
     no-dcs e = rw (div-one pi, optional-goes-on s at _ _ r1, optional-ends s (p1 .at) _ _ e)
 
     module _ {dcs : OptionalOctet} {p2 : Place} (r2 : optionalAnswer (readFrom (announced (isSet 1 pi)) s (p1 .at)) ≡ OptionalRead.Read dcs p2) where
-      pub no-udl : {why : Refusal} → optionalAnswer (readFrom (announced (isSet 2 pi)) s (p2 .at)) ≡ OptionalRead.Refused why → ParametersRead.Refused OctetsEnd ≡ parametersAnswer (readFrom (parameters pi) s at)
+      pub no-udl : optionalAnswer (readFrom (announced (isSet 2 pi)) s (p2 .at)) ≡ OptionalRead.Ended → ParametersRead.Refused OctetsEnd ≡ parametersAnswer (readFrom (parameters pi) s at)
       unfolding parameters
       no-udl e = rw (div-one pi, optional-goes-on s at _ _ r1, optional-goes-on s (p1 .at) _ _ r2, optional-ends s (p2 .at) _ _ e)
 
@@ -89,7 +89,7 @@ module _ (s : List ℕ) (at pi : ℕ) where
         no-data a = rw (div-one pi, optional-goes-on s at _ _ r1, optional-goes-on s (p1 .at) _ _ r2, optional-goes-on s (p2 .at) _ _ r3, a, done-reached)
 
         module _ {n : ℕ} (h : udl ≡ Present n) {size : ℕ} (z : size ≡ dataOctets (codingOf (orZero dcs)) n) where
-          pub data-short : {why : Refusal} → spanAt s p3 size ≡ Span.Refused why → ParametersRead.Refused OctetsEnd ≡ parametersAnswer (readFrom (parameters pi) s at)
+          pub data-short : spanAt s p3 size ≡ Span.Ended → ParametersRead.Refused OctetsEnd ≡ parametersAnswer (readFrom (parameters pi) s at)
           unfolding parameters
           data-short e = rw (div-one pi, optional-goes-on s at _ _ r1, optional-goes-on s (p1 .at) _ _ r2, optional-goes-on s (p2 .at) _ _ r3, h, ← z, span-ends s p3 size e)
 
@@ -147,7 +147,7 @@ data-last {ud} {n} s at dcs (Present udl) e = by (spanAt s p size) refl
         let l : length ud ≡ size = ap length (sym same) ∙ length-take-le size (drop at s) fits in
         let k : n - length ud ≡ at = omega arith in
         record { start = omega arith; is = rw (k, l) same }
-    by (Span.Refused why) d = let h = span-ends s p size d (upTo 140) done in let z : _≡_ {A = ℕ} 0 1 = cc in absurd (omega arith)
+    by Span.Ended d = let h = span-ends s p size d (upTo 140) done in let z : _≡_ {A = ℕ} 0 1 = cc in absurd (omega arith)
 
 last-of : {p q : Parameters} {n to : ℕ} (s : List ℕ) → (q ≡ p) × (to ≡ n) → Last s (q .ud) to → Last s (p .ud) n
 last-of s (same, at) l = rw (← same, ← at) l
@@ -205,7 +205,7 @@ indicator-within {x} {q} s p e = go (spanAt s p (indicatorSize (drop (p .at) s))
         let (fits, from, next) = span-there s p _ d in
         let w : t .at ≡ q .at = cc in
         omega (arith, indicator-positive (drop (p .at) s), length-drop (p .at) s)
-    go (Span.Refused why) d h = let z : _≡_ {A = ℕ} 0 1 = cc in absurd (omega arith)
+    go Span.Ended d h = let z : _≡_ {A = ℕ} 0 1 = cc in absurd (omega arith)
 
 -- the parameters behind it
 pub parameters-behind : {pi size : ℕ} {pid dcs udl : OptionalOctet} {q t : Place} (s : List ℕ) (p : Place) → indicatorAt s p ≡ Octet.Read pi q → Octets s

@@ -43,7 +43,7 @@ parametersOctets p = octetsHeld (p .pid) ++ octetsHeld (p .dcs) ++ octetsHeld (p
 -- what the readers answer: the octet, or the three octets and how many octets the data have, with the place behind
 abbrev pub optionalAnswer : Reached OptionalOctet → OptionalRead
 optionalAnswer (reached o at) = OptionalRead.Read o (record { at = at })
-optionalAnswer (halted why) = OptionalRead.Refused why
+optionalAnswer (halted why) = OptionalRead.Ended
 
 abbrev pub parametersAnswer : Reached Parameters → ParametersRead
 parametersAnswer (reached p at) = ParametersRead.Read (p .pid) (p .dcs) (p .udl) (length (p .ud)) (record { at = at })

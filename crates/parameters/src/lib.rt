@@ -22,7 +22,7 @@ pub enum OptionalOctet {
 // A parameter that was announced or not, and the place behind it.
 pub enum OptionalRead {
     Read(OptionalOctet, Place),
-    Refused(Refusal),
+    Ended,
 }
 
 // PID, DCS, UDL, how many octets the user data have, and the place behind these.
@@ -57,14 +57,14 @@ pub fn read_indicator(data: &[u8], place: Place) -> Octet
 {
     let from = place.at;
     if from >= data.len() {
-        return Octet::Refused(Refusal::OctetsEnd);
+        return Octet::Ended;
     }
     let indicator = data[from];
     let mut last = indicator;
     let mut at = from + 1;
     while last / 128 % 2 == 1 {
         if at >= data.len() {
-            return Octet::Refused(Refusal::OctetsEnd);
+            return Octet::Ended;
         }
         last = data[at];
         at += 1;
@@ -78,11 +78,18 @@ pub fn read_optional(data: &[u8], place: Place, is_announced: bool) -> OptionalR
 {
     if is_announced {
         let Octet::Read(x, next) = place.octet(data) else {
-            return OptionalRead::Refused(Refusal::OctetsEnd);
+            return OptionalRead::Ended;
         };
         return OptionalRead::Read(OptionalOctet::Present(x), next);
     }
     OptionalRead::Read(OptionalOctet::Absent, place)
+}
+
+// The octets end inside a parameter.
+fn ended() -> ParametersRead
+    ensures { λ r. ⌜ r ≡ ParametersRead.Refused Refusal.OctetsEnd ⌝ }
+{
+    ParametersRead::Refused(Refusal::OctetsEnd)
 }
 
 // The parameters that an indicator announces.
@@ -90,20 +97,20 @@ pub fn read_parameters(data: &[u8], place: Place, indicator: u8) -> ParametersRe
     ensures { λ r. ⌜ r ≡ parametersAnswer (readFrom (parameters indicator) (now («data» .entry)) (place .at)) ⌝ }
 {
     let OptionalRead::Read(pid, p1) = read_optional(data, place, indicator % 2 == 1) else {
-        return ParametersRead::Refused(Refusal::OctetsEnd);
+        return ended();
     };
     let OptionalRead::Read(dcs, p2) = read_optional(data, p1, indicator / 2 % 2 == 1) else {
-        return ParametersRead::Refused(Refusal::OctetsEnd);
+        return ended();
     };
     let OptionalRead::Read(udl, p3) = read_optional(data, p2, indicator / 4 % 2 == 1) else {
-        return ParametersRead::Refused(Refusal::OctetsEnd);
+        return ended();
     };
     let OptionalOctet::Present(length) = udl else {
         return ParametersRead::Read(pid, dcs, udl, 0, p3);
     };
     let size = coding::user_data_octets(coding::user_data_coding(or_zero(dcs)), length);
     let Span::There(_, p4) = p3.span(data, size) else {
-        return ParametersRead::Refused(Refusal::OctetsEnd);
+        return ended();
     };
     ParametersRead::Read(pid, dcs, udl, size, p4)
 }

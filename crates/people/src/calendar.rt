@@ -1,5 +1,6 @@
 // Times and validity periods.
-use tpdu::Outcome;
+ghost use Prim.Native.Nat.{_<_};
+use refusals::number_of;
 
 // What is no digit, and no number of two digits.
 const NO_DIGIT: u8 = 255;
@@ -47,94 +48,125 @@ fn zone_quarters(tens: u8, ones: u8) -> u8 {
     t % 8 * 10 + o
 }
 
-// Decimal digits in the calendar's ranges.
-fn is_calendar_time(digits: [u8; 14]) -> bool {
-    let t = tpdu::timestamp_digits(
-        number(digits[0], digits[1]),
-        number(digits[2], digits[3]),
-        number(digits[4], digits[5]),
-        number(digits[6], digits[7]),
-        number(digits[8], digits[9]),
-        number(digits[10], digits[11]),
-        0,
-    );
-    let outcome = t.outcome;
-    match outcome {
-        Outcome::Done => zone_quarters(digits[12], digits[13]) != NO_DIGIT,
-        Outcome::Refused(_) => false,
-    }
+// Number i of those that two digits each give.
+fn pair(digits: &[u8; 14], i: usize) -> u8
+    requires { ⌜ i < 7 ⌝ }
+{
+    number(digits[2 * i], digits[2 * i + 1])
 }
 
-// The digits YYMMDDhhmmssZZ as `2024-02-15 12:30:45 +00:00`, or as they are.
-pub fn put_time(out: &mut [u8], at: usize, digits: [u8; 14]) -> usize {
-    if !is_calendar_time(digits) {
-        let behind = page::put(out, at, &digits);
-        return page::put(out, behind, b" (no calendar time)");
+// Values in the calendar's ranges.
+fn is_date_and_time(year: u8, month: u8, day: u8, hour: u8, minute: u8, second: u8) -> bool {
+    let read = timestamp::timestamp_digits(year, month, day, hour, minute, second, 0);
+    let outcome = read.outcome;
+    number_of(outcome) == 0
+}
+
+// Decimal digits in the calendar's ranges, and a zone.
+fn is_calendar_time(digits: &[u8; 14]) -> bool {
+    if zone_quarters(digits[12], digits[13]) == NO_DIGIT {
+        return false;
     }
-    let quarters = zone_quarters(digits[12], digits[13]);
+    is_date_and_time(
+        pair(digits, 0),
+        pair(digits, 1),
+        pair(digits, 2),
+        pair(digits, 3),
+        pair(digits, 4),
+        pair(digits, 5),
+    )
+}
+
+// Digits 2i and 2i + 1; none where there are no such digits.
+fn two_digits(digits: &[u8], i: usize) -> &[u8]
+    requires { ⌜ i < 7 ⌝ }
+{
+    if digits.len() < 14 {
+        return digits;
+    }
+    let start = 2 * i;
+    let end = start + 2;
+    &digits[start..end]
+}
+
+// Date and time: each two digits behind what separates them.
+fn put_date_and_time(out: &mut [u8], at: usize, digits: &[u8]) -> usize {
+    let separators = b"20\n-\n-\n \n:\n:\n";
+    let mut place = at;
+    let mut i = 0;
+    while i < 6 {
+        let next = page::put(out, place, page::word(separators, i));
+        place = page::put(out, next, two_digits(digits, i));
+        i += 1;
+    }
+    place
+}
+
+// A zone: ` +01:00`.
+fn put_zone(out: &mut [u8], at: usize, tens: u8, ones: u8) -> usize {
+    let quarters = zone_quarters(tens, ones);
     let hours = quarters / 4;
     let minutes = quarters % 4 * 15;
-    let time = [
-        b'2',
-        b'0',
-        digits[0],
-        digits[1],
-        b'-',
-        digits[2],
-        digits[3],
-        b'-',
-        digits[4],
-        digits[5],
+    let zone = [
         b' ',
-        digits[6],
-        digits[7],
-        b':',
-        digits[8],
-        digits[9],
-        b':',
-        digits[10],
-        digits[11],
-        b' ',
-        zone_sign(digits[12]),
+        zone_sign(tens),
         b'0' + hours / 10,
         b'0' + hours % 10,
         b':',
         b'0' + minutes / 10,
         b'0' + minutes % 10,
     ];
-    page::put(out, at, &time)
+    page::put(out, at, &zone)
 }
 
-// A number of units: `1 hour`, `2 days`.
-fn put_count(out: &mut [u8], at: usize, n: u64, unit: &[u8]) -> usize {
-    let number = page::put_decimal(out, at, n);
-    let space = page::put(out, number, b" ");
-    let behind = page::put(out, space, unit);
-    if n == 1 {
-        return behind;
+// The digits YYMMDDhhmmssZZ as `2024-02-15 12:30:45 +00:00`, or as they are.
+pub fn put_time(out: &mut [u8], at: usize, digits: [u8; 14]) -> usize {
+    if !is_calendar_time(&digits) {
+        let behind = page::put(out, at, &digits);
+        return page::put(out, behind, b" (no calendar time)");
     }
-    page::put(out, behind, b"s")
+    let next = put_date_and_time(out, at, &digits);
+    put_zone(out, next, digits[12], digits[13])
+}
+
+// The units of a period, in the list of their names.
+const MINUTE: usize = 0;
+
+const HOUR: usize = 2;
+
+const DAY: usize = 4;
+
+const WEEK: usize = 6;
+
+// A number of units: `1 hour`, `2 days`.
+fn put_count(out: &mut [u8], at: usize, n: u64, unit: usize) -> usize
+    requires { ⌜ unit < 8 ⌝ }
+{
+    let units = b" minute\n minutes\n hour\n hours\n day\n days\n week\n weeks\n";
+    let number = page::put_decimal(out, at, n);
+    let name = if n == 1 { unit } else { unit + 1 };
+    page::put(out, number, page::word(units, name))
 }
 
 // Minutes as hours and minutes.
 fn put_minutes(out: &mut [u8], at: usize, minutes: u64) -> usize {
     if minutes < 60 {
-        return put_count(out, at, minutes, b"minute");
+        return put_count(out, at, minutes, MINUTE);
     }
-    let hours = put_count(out, at, minutes / 60, b"hour");
+    let hours = put_count(out, at, minutes / 60, HOUR);
     if minutes % 60 == 0 {
         return hours;
     }
     let space = page::put(out, hours, b" ");
-    put_count(out, space, minutes % 60, b"minute")
+    put_count(out, space, minutes % 60, MINUTE)
 }
 
 fn put_period(out: &mut [u8], at: usize, v: u8) -> usize {
     match v {
         0..=143 => put_minutes(out, at, (v as u64 + 1) * 5),
         144..=167 => put_minutes(out, at, 12 * 60 + (v as u64 - 143) * 30),
-        168..=196 => put_count(out, at, v as u64 - 166, b"day"),
-        _ => put_count(out, at, v as u64 - 192, b"week"),
+        168..=196 => put_count(out, at, v as u64 - 166, DAY),
+        _ => put_count(out, at, v as u64 - 192, WEEK),
     }
 }
 

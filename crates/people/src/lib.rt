@@ -1,41 +1,30 @@
 // Messages shown for people: the kind, and a line for each part. A word that does not fit the page is left out.
+ghost use Prim.Native.Nat.{_≤_};
+ghost use lib.ListN.{length};
+
 mod calendar;
+mod labels;
 mod words;
 
+use crate::labels::put_label;
+use address::SMSAddress;
 use characters::first;
-use refusals::put_refusal_words;
-use tpdu::DeliverReportRead;
-use tpdu::OptionalOctet;
-use tpdu::Outcome;
-use tpdu::Refusal;
-use tpdu::SMSAddress;
-use tpdu::SmsDeliver;
-use tpdu::SmsDeliverReport;
-use tpdu::SmsStatusReport;
-use tpdu::SmsSubmit;
-use tpdu::SmsSubmitReport;
-use tpdu::SubmitReportRead;
-use tpdu::Time;
-use tpdu::UserData;
-use tpdu::UserDataCoding;
-use tpdu::ValidityPeriod;
-
-// The column of the values, behind the indent.
-const COLUMN: usize = 10;
+use coding::UserData;
+use coding::UserDataCoding;
+use deliver::SmsDeliver;
+use deliver_report::SmsDeliverReport;
+use header::unpack_gsm7_with_header;
+use parameters::OptionalOctet;
+use refusals::number_of;
+use refusals::put_words_of;
+use status_report::SmsStatusReport;
+use submit::SmsSubmit;
+use submit_report::SmsSubmitReport;
+use text::unpack_gsm7;
+use time::Time;
+use validity::ValidityPeriod;
 
 const INTERNATIONAL: u8 = 1;
-
-// The start of a line: the indented label, and spaces up to its value.
-fn put_label(out: &mut [u8], at: usize, label: &[u8]) -> usize {
-    let indent = page::put(out, at, b"  ");
-    let behind = page::put(out, indent, label);
-    let spaces = [b' '; COLUMN];
-    let n = label.len();
-    if COLUMN < n {
-        return behind;
-    }
-    page::put(out, behind, &spaces[n..])
-}
 
 fn end_line(out: &mut [u8], at: usize) -> usize {
     page::put(out, at, b"\n")
@@ -54,7 +43,7 @@ fn put_octets(out: &mut [u8], at: usize, octets: &[u8]) -> usize {
 }
 
 // A line of octets.
-fn put_octets_line(out: &mut [u8], at: usize, label: &[u8], octets: &[u8]) -> usize {
+fn put_octets_line(out: &mut [u8], at: usize, label: usize, octets: &[u8]) -> usize {
     let start = put_label(out, at, label);
     let end = put_octets(out, start, octets);
     end_line(out, end)
@@ -77,13 +66,13 @@ fn put_utf16(out: &mut [u8], at: usize, octets: &[u8]) -> usize {
 }
 
 fn put_text_line(out: &mut [u8], at: usize, text: &[u8]) -> usize {
-    let start = put_label(out, at, b"text");
+    let start = put_label(out, at, labels::TEXT);
     let end = put_text(out, start, text);
     end_line(out, end)
 }
 
 fn put_utf16_line(out: &mut [u8], at: usize, octets: &[u8]) -> usize {
-    let start = put_label(out, at, b"text");
+    let start = put_label(out, at, labels::TEXT);
     let end = put_utf16(out, start, octets);
     end_line(out, end)
 }
@@ -106,14 +95,14 @@ fn put_address(out: &mut [u8], at: usize, address: SMSAddress) -> usize {
     characters::put_text(out, plus, first(&text, n))
 }
 
-fn put_address_line(out: &mut [u8], at: usize, label: &[u8], address: SMSAddress) -> usize {
+fn put_address_line(out: &mut [u8], at: usize, label: usize, address: SMSAddress) -> usize {
     let start = put_label(out, at, label);
     let end = put_address(out, start, address);
     end_line(out, end)
 }
 
 // No line if the time is absent.
-fn put_time_line(out: &mut [u8], at: usize, label: &[u8], time: Time) -> usize {
+fn put_time_line(out: &mut [u8], at: usize, label: usize, time: Time) -> usize {
     if time.length == 0 {
         return at;
     }
@@ -124,84 +113,137 @@ fn put_time_line(out: &mut [u8], at: usize, label: &[u8], time: Time) -> usize {
 }
 
 fn put_reference_line(out: &mut [u8], at: usize, reference: u8) -> usize {
-    let start = put_label(out, at, b"reference");
+    let start = put_label(out, at, labels::REFERENCE);
     let end = page::put_decimal(out, start, reference as u64);
     end_line(out, end)
 }
 
 fn put_coding_line(out: &mut [u8], at: usize, dcs: u8) -> usize {
-    let start = put_label(out, at, b"coding");
+    let start = put_label(out, at, labels::CODING);
     let end = words::put_coding(out, start, dcs);
     end_line(out, end)
 }
 
-// A message that is refused.
-fn put_refused(out: &mut [u8], at: usize, why: Refusal) -> usize {
-    let start = put_label(out, at, b"refused");
-    let end = put_refusal_words(out, start, why);
+// A message that is refused, by the refusal's number.
+fn put_refused(out: &mut [u8], at: usize, refusal: u8) -> usize {
+    let start = put_label(out, at, labels::REFUSED);
+    let end = put_words_of(out, start, refusal);
     end_line(out, end)
 }
 
+// The refusal of a number, in parentheses.
+fn put_reason(out: &mut [u8], at: usize, refusal: u8) -> usize {
+    let opened = page::put(out, at, b" (");
+    let behind = put_words_of(out, opened, refusal);
+    page::put(out, behind, b")")
+}
+
 // Data that can't be read as text, and why.
-fn put_unread_line(out: &mut [u8], at: usize, data: &[u8], why: Refusal) -> usize {
-    let start = put_label(out, at, b"data");
+fn put_unread_line(out: &mut [u8], at: usize, data: &[u8], refusal: u8) -> usize {
+    let start = put_label(out, at, labels::DATA);
     let octets = put_octets(out, start, data);
-    let opened = page::put(out, octets, b" (");
-    let behind = put_refusal_words(out, opened, why);
-    let end = page::put(out, behind, b")");
+    let end = put_reason(out, octets, refusal);
     end_line(out, end)
+}
+
+// A text, or the data that it couldn't be read from; no refusal is number 0.
+fn put_text_or_data(out: &mut [u8], at: usize, refusal: u8, text: &[u8], data: &[u8]) -> usize {
+    if refusal == 0 {
+        return put_text_line(out, at, text);
+    }
+    put_unread_line(out, at, data, refusal)
 }
 
 // 7-bit text.
 fn put_septets(out: &mut [u8], at: usize, udl: u8, data: &[u8]) -> usize {
-    let u = tpdu::unpack_gsm7(data, udl as usize);
-    let outcome = u.outcome;
-    let text = u.text;
-    match outcome {
-        Outcome::Done => put_text_line(out, at, first(&text, u.text_length)),
-        Outcome::Refused(why) => put_unread_line(out, at, data, why),
+    let read = unpack_gsm7(data, udl as usize);
+    let text = read.text;
+    let outcome = read.outcome;
+    let refusal = number_of(outcome);
+    put_text_or_data(out, at, refusal, first(&text, read.text_length), data)
+}
+
+// The header of a text that was read.
+fn put_header_line(out: &mut [u8], at: usize, refusal: u8, header: &[u8]) -> usize {
+    if refusal == 0 {
+        return put_octets_line(out, at, labels::HEADER, header);
     }
+    at
 }
 
 // A header and 7-bit text.
 fn put_septets_with_header(out: &mut [u8], at: usize, udl: u8, data: &[u8]) -> usize {
-    let u = tpdu::unpack_gsm7_with_header(data, udl as usize);
-    let outcome = u.outcome;
-    let header = u.header;
-    let text = u.text;
-    match outcome {
-        Outcome::Done => {
-            let next = put_octets_line(out, at, b"header", first(&header, u.header_length));
-            put_text_line(out, next, first(&text, u.text_length))
-        }
-        Outcome::Refused(why) => put_unread_line(out, at, data, why),
-    }
+    let read = unpack_gsm7_with_header(data, udl as usize);
+    let header = read.header;
+    let text = read.text;
+    let outcome = read.outcome;
+    let refusal = number_of(outcome);
+    let next = put_header_line(out, at, refusal, first(&header, read.header_length));
+    put_text_or_data(out, next, refusal, first(&text, read.text_length), data)
 }
 
 // Text if the coding is UCS2, else data.
 fn put_units(out: &mut [u8], at: usize, coding: UserDataCoding, data: &[u8]) -> usize {
     match coding {
         UserDataCoding::Ucs2 => put_utf16_line(out, at, data),
-        _ => put_octets_line(out, at, b"data", data),
+        _ => put_octets_line(out, at, labels::DATA, data),
     }
 }
 
-// How many octets a header takes.
+// How many octets a header takes, by its first.
 fn header_octets(first: u8) -> usize {
     first as usize + 1
 }
 
+// How many octets the header takes that data begin with; none if it doesn't fit.
+fn octets_of_header(octets: &[u8]) -> usize
+    ensures { λ r. ⌜ r ≤ length (now (octets .entry)) ⌝ }
+{
+    if octets.len() == 0 {
+        return 0;
+    }
+    let h = header_octets(octets[0]);
+    if octets.len() < h {
+        return 0;
+    }
+    h
+}
+
 // A header of whole octets and what is behind it; data if the header doesn't fit.
 fn put_units_with_header(out: &mut [u8], at: usize, coding: UserDataCoding, data: &[u8]) -> usize {
-    if data.len() == 0 {
-        return put_octets_line(out, at, b"data", data);
+    let h = octets_of_header(data);
+    if h == 0 {
+        return put_octets_line(out, at, labels::DATA, data);
     }
-    let h = header_octets(data[0]);
-    if data.len() < h {
-        return put_octets_line(out, at, b"data", data);
-    }
-    let next = put_octets_line(out, at, b"header", first(data, h));
+    let next = put_octets_line(out, at, labels::HEADER, first(data, h));
     put_units(out, next, coding, &data[h..])
+}
+
+// The header, if there is one, and the text or data.
+fn put_held(
+    out: &mut [u8],
+    at: usize,
+    udhi: bool,
+    coding: UserDataCoding,
+    udl: u8,
+    data: &[u8],
+) -> usize {
+    match coding {
+        UserDataCoding::Gsm7Bit => {
+            if udhi {
+                put_septets_with_header(out, at, udl, data)
+            } else {
+                put_septets(out, at, udl, data)
+            }
+        }
+        _ => {
+            if udhi {
+                put_units_with_header(out, at, coding, data)
+            } else {
+                put_units(out, at, coding, data)
+            }
+        }
+    }
 }
 
 // The coding, the header and the text or data.
@@ -209,23 +251,7 @@ fn put_user_data(out: &mut [u8], at: usize, udhi: bool, dcs: u8, udl: u8, data: 
     let octets = data.octets;
     let held = first(&octets, data.length);
     let next = put_coding_line(out, at, dcs);
-    let coding = tpdu::user_data_coding(dcs);
-    match coding {
-        UserDataCoding::Gsm7Bit => {
-            if udhi {
-                put_septets_with_header(out, next, udl, held)
-            } else {
-                put_septets(out, next, udl, held)
-            }
-        }
-        _ => {
-            if udhi {
-                put_units_with_header(out, next, coding, held)
-            } else {
-                put_units(out, next, coding, held)
-            }
-        }
-    }
+    put_held(out, next, udhi, coding::user_data_coding(dcs), udl, held)
 }
 
 // The user data of a report; the coding alone if only that is held. No DCS means 0.
@@ -248,44 +274,52 @@ fn put_parameters(
     }
 }
 
+fn put_held_cause_line(out: &mut [u8], at: usize, cause: u8) -> usize {
+    let start = put_label(out, at, labels::CAUSE);
+    let end = words::put_cause(out, start, cause);
+    end_line(out, end)
+}
+
 // No line without a cause.
 fn put_cause_line(out: &mut [u8], at: usize, cause: OptionalOctet) -> usize {
     match cause {
         OptionalOctet::Absent => at,
-        OptionalOctet::Present(x) => {
-            let start = put_label(out, at, b"cause");
-            let end = words::put_cause(out, start, x);
-            end_line(out, end)
-        }
+        OptionalOctet::Present(x) => put_held_cause_line(out, at, x),
     }
 }
 
-fn put_deliver(out: &mut [u8], at: usize, message: SmsDeliver) -> usize {
-    let originator = message.tp_originating_address;
-    let time = message.tp_service_centre_timestamp;
-    let data = message.tp_user_data;
-    let p1 = put_address_line(out, at, b"from", originator);
-    let p2 = put_time_line(out, p1, b"time", time);
+fn put_deliver(out: &mut [u8], at: usize, refusal: u8, message: SmsDeliver) -> usize {
+    if refusal != 0 {
+        return put_refused(out, at, refusal);
+    }
+    let p1 = put_address_line(out, at, labels::FROM, message.tp_originating_address);
+    let p2 = put_time_line(out, p1, labels::TIME, message.tp_service_centre_timestamp);
     put_user_data(
         out,
         p2,
         message.tp_udhi,
         message.tp_dcs,
         message.tp_user_data_length,
-        data,
+        message.tp_user_data,
     )
+}
+
+fn read_deliver(data: &[u8], out: &mut [u8], at: usize) -> usize {
+    let read = SmsDeliver::decode(data);
+    let outcome = read.outcome;
+    put_deliver(out, at, number_of(outcome), read.message)
 }
 
 // Shows an SMS-DELIVER; the place behind it.
 pub fn show_deliver(data: &[u8], out: &mut [u8], at: usize) -> usize {
     let start = page::put(out, at, b"SMS-DELIVER\n");
-    let read = SmsDeliver::decode(data);
-    let outcome = read.outcome;
-    let message = read.message;
-    match outcome {
-        Outcome::Done => put_deliver(out, start, message),
-        Outcome::Refused(why) => put_refused(out, start, why),
-    }
+    read_deliver(data, out, start)
+}
+
+fn put_relative_line(out: &mut [u8], at: usize, period: u8) -> usize {
+    let start = put_label(out, at, labels::VALID);
+    let end = calendar::put_relative(out, start, period);
+    end_line(out, end)
 }
 
 // No line without a validity period.
@@ -298,147 +332,187 @@ fn put_validity_line(
 ) -> usize {
     match period {
         ValidityPeriod::None => at,
-        ValidityPeriod::Relative(v) => {
-            let start = put_label(out, at, b"valid");
-            let end = calendar::put_relative(out, start, v);
-            end_line(out, end)
-        }
-        ValidityPeriod::Absolute => put_time_line(out, at, b"valid", time),
-        ValidityPeriod::Enhanced => put_octets_line(out, at, b"valid", &octets),
+        ValidityPeriod::Relative(v) => put_relative_line(out, at, v),
+        ValidityPeriod::Absolute => put_time_line(out, at, labels::VALID, time),
+        ValidityPeriod::Enhanced => put_octets_line(out, at, labels::VALID, &octets),
     }
 }
 
 fn put_destination(out: &mut [u8], at: usize, is_held: bool, address: SMSAddress) -> usize {
     if is_held {
-        return put_address_line(out, at, b"to", address);
+        return put_address_line(out, at, labels::TO, address);
     }
-    let start = put_label(out, at, b"to");
+    let start = put_label(out, at, labels::TO);
     page::put(out, start, b"no destination\n")
 }
 
 fn put_request(out: &mut [u8], at: usize, is_requested: bool) -> usize {
     if is_requested {
-        let start = put_label(out, at, b"report");
+        let start = put_label(out, at, labels::REPORT);
         return page::put(out, start, b"requested\n");
     }
     at
 }
 
-fn put_submit(out: &mut [u8], at: usize, message: SmsSubmit) -> usize {
-    let destination = message.tp_destination_address;
+// What stands before the user data of a SUBMIT.
+fn put_submit_head(out: &mut [u8], at: usize, message: SmsSubmit) -> usize {
     let period = message.tp_validity_period;
-    let time = message.validity_period_digits;
-    let enhanced = message.validity_period_octets;
-    let data = message.tp_user_data_raw;
-    let p1 = put_destination(out, at, message.has_destination_address, destination);
+    let octets = message.validity_period_octets;
+    let p1 = put_destination(
+        out,
+        at,
+        message.has_destination_address,
+        message.tp_destination_address,
+    );
     let p2 = put_reference_line(out, p1, message.tp_mr);
-    let p3 = put_validity_line(out, p2, period, time, enhanced);
-    let p4 = put_request(out, p3, message.tp_srr);
+    let p3 = put_validity_line(out, p2, period, message.validity_period_digits, octets);
+    put_request(out, p3, message.tp_srr)
+}
+
+fn put_submit(out: &mut [u8], at: usize, refusal: u8, message: SmsSubmit) -> usize {
+    if refusal != 0 {
+        return put_refused(out, at, refusal);
+    }
+    let next = put_submit_head(out, at, message);
     put_user_data(
         out,
-        p4,
+        next,
         message.tp_udhi,
         message.tp_dcs,
         message.tp_user_data_length,
-        data,
+        message.tp_user_data_raw,
     )
+}
+
+fn read_submit(data: &[u8], out: &mut [u8], at: usize) -> usize {
+    let read = submit::decode_sms_submit_tpdu(data);
+    let outcome = read.outcome;
+    put_submit(out, at, number_of(outcome), read.message)
 }
 
 // Shows an SMS-SUBMIT; the place behind it.
 pub fn show_submit(data: &[u8], out: &mut [u8], at: usize) -> usize {
     let start = page::put(out, at, b"SMS-SUBMIT\n");
-    let read = tpdu::decode_sms_submit_tpdu(data);
-    let outcome = read.outcome;
-    let message = read.message;
-    match outcome {
-        Outcome::Done => put_submit(out, start, message),
-        Outcome::Refused(why) => put_refused(out, start, why),
-    }
+    read_submit(data, out, start)
 }
 
-fn put_submit_report(out: &mut [u8], at: usize, read: SubmitReportRead) -> usize {
-    let outcome = read.outcome;
-    let message = read.message;
-    if let Outcome::Refused(why) = outcome {
-        return put_refused(out, at, why);
+fn put_submit_report(out: &mut [u8], at: usize, refusal: u8, message: SmsSubmitReport) -> usize {
+    if refusal != 0 {
+        return put_refused(out, at, refusal);
     }
     let cause = message.tp_failure_cause;
-    let time = message.tp_service_centre_timestamp;
     let dcs = message.tp_dcs;
     let udl = message.tp_user_data_length;
-    let data = message.tp_user_data;
     let p1 = put_cause_line(out, at, cause);
-    let p2 = put_time_line(out, p1, b"time", time);
-    put_parameters(out, p2, message.tp_udhi == 1, dcs, udl, data)
+    let p2 = put_time_line(out, p1, labels::TIME, message.tp_service_centre_timestamp);
+    put_parameters(
+        out,
+        p2,
+        message.tp_udhi == 1,
+        dcs,
+        udl,
+        message.tp_user_data,
+    )
+}
+
+fn read_submit_report_ack(data: &[u8], out: &mut [u8], at: usize) -> usize {
+    let read = SmsSubmitReport::decode_for_rp_ack(data);
+    let outcome = read.outcome;
+    put_submit_report(out, at, number_of(outcome), read.message)
 }
 
 // Shows an SMS-SUBMIT-REPORT of an RP-ACK; the place behind it.
 pub fn show_submit_report_ack(data: &[u8], out: &mut [u8], at: usize) -> usize {
     let start = page::put(out, at, b"SMS-SUBMIT-REPORT (RP-ACK)\n");
-    put_submit_report(out, start, SmsSubmitReport::decode_for_rp_ack(data))
+    read_submit_report_ack(data, out, start)
+}
+
+fn read_submit_report_error(data: &[u8], out: &mut [u8], at: usize) -> usize {
+    let read = SmsSubmitReport::decode_for_rp_error(data);
+    let outcome = read.outcome;
+    put_submit_report(out, at, number_of(outcome), read.message)
 }
 
 // Shows an SMS-SUBMIT-REPORT of an RP-ERROR; the place behind it.
 pub fn show_submit_report_error(data: &[u8], out: &mut [u8], at: usize) -> usize {
     let start = page::put(out, at, b"SMS-SUBMIT-REPORT (RP-ERROR)\n");
-    put_submit_report(out, start, SmsSubmitReport::decode_for_rp_error(data))
+    read_submit_report_error(data, out, start)
 }
 
-fn put_deliver_report(out: &mut [u8], at: usize, read: DeliverReportRead) -> usize {
-    let outcome = read.outcome;
-    let message = read.message;
-    if let Outcome::Refused(why) = outcome {
-        return put_refused(out, at, why);
+fn put_deliver_report(out: &mut [u8], at: usize, refusal: u8, message: SmsDeliverReport) -> usize {
+    if refusal != 0 {
+        return put_refused(out, at, refusal);
     }
     let cause = message.tp_failure_cause;
     let dcs = message.tp_dcs;
     let udl = message.tp_user_data_length;
-    let data = message.tp_user_data;
-    let p1 = put_cause_line(out, at, cause);
-    put_parameters(out, p1, message.tp_udhi, dcs, udl, data)
+    let next = put_cause_line(out, at, cause);
+    put_parameters(out, next, message.tp_udhi, dcs, udl, message.tp_user_data)
+}
+
+fn read_deliver_report_ack(data: &[u8], out: &mut [u8], at: usize) -> usize {
+    let read = SmsDeliverReport::decode_for_rp_ack(data);
+    let outcome = read.outcome;
+    put_deliver_report(out, at, number_of(outcome), read.message)
 }
 
 // Shows an SMS-DELIVER-REPORT of an RP-ACK; the place behind it.
 pub fn show_deliver_report_ack(data: &[u8], out: &mut [u8], at: usize) -> usize {
     let start = page::put(out, at, b"SMS-DELIVER-REPORT (RP-ACK)\n");
-    put_deliver_report(out, start, SmsDeliverReport::decode_for_rp_ack(data))
+    read_deliver_report_ack(data, out, start)
+}
+
+fn read_deliver_report_error(data: &[u8], out: &mut [u8], at: usize) -> usize {
+    let read = SmsDeliverReport::decode_for_rp_error(data);
+    let outcome = read.outcome;
+    put_deliver_report(out, at, number_of(outcome), read.message)
 }
 
 // Shows an SMS-DELIVER-REPORT of an RP-ERROR; the place behind it.
 pub fn show_deliver_report_error(data: &[u8], out: &mut [u8], at: usize) -> usize {
     let start = page::put(out, at, b"SMS-DELIVER-REPORT (RP-ERROR)\n");
-    put_deliver_report(out, start, SmsDeliverReport::decode_for_rp_error(data))
+    read_deliver_report_error(data, out, start)
 }
 
 fn put_status_line(out: &mut [u8], at: usize, status: u8) -> usize {
-    let start = put_label(out, at, b"status");
+    let start = put_label(out, at, labels::STATUS);
     let end = words::put_status(out, start, status);
     end_line(out, end)
 }
 
-fn put_status_report(out: &mut [u8], at: usize, message: SmsStatusReport) -> usize {
-    let recipient = message.tp_recipient_address;
-    let sent = message.tp_service_centre_timestamp;
-    let done = message.tp_discharge_time;
+// When a message was sent, when it was done with, and how.
+fn put_done(out: &mut [u8], at: usize, sent: Time, done: Time, status: u8) -> usize {
+    let p1 = put_time_line(out, at, labels::SENT, sent);
+    let p2 = put_time_line(out, p1, labels::DONE, done);
+    put_status_line(out, p2, status)
+}
+
+fn put_status_report(out: &mut [u8], at: usize, refusal: u8, message: SmsStatusReport) -> usize {
+    if refusal != 0 {
+        return put_refused(out, at, refusal);
+    }
     let dcs = message.tp_dcs;
     let udl = message.tp_user_data_length;
-    let data = message.tp_user_data;
-    let p1 = put_address_line(out, at, b"to", recipient);
+    let p1 = put_address_line(out, at, labels::TO, message.tp_recipient_address);
     let p2 = put_reference_line(out, p1, message.tp_mr);
-    let p3 = put_time_line(out, p2, b"sent", sent);
-    let p4 = put_time_line(out, p3, b"done", done);
-    let p5 = put_status_line(out, p4, message.tp_status);
-    put_parameters(out, p5, message.tp_udhi, dcs, udl, data)
+    let p3 = put_done(
+        out,
+        p2,
+        message.tp_service_centre_timestamp,
+        message.tp_discharge_time,
+        message.tp_status,
+    );
+    put_parameters(out, p3, message.tp_udhi, dcs, udl, message.tp_user_data)
+}
+
+fn read_status_report(data: &[u8], out: &mut [u8], at: usize) -> usize {
+    let read = SmsStatusReport::decode(data);
+    let outcome = read.outcome;
+    put_status_report(out, at, number_of(outcome), read.message)
 }
 
 // Shows an SMS-STATUS-REPORT; the place behind it.
 pub fn show_status_report(data: &[u8], out: &mut [u8], at: usize) -> usize {
     let start = page::put(out, at, b"SMS-STATUS-REPORT\n");
-    let read = SmsStatusReport::decode(data);
-    let outcome = read.outcome;
-    let message = read.message;
-    match outcome {
-        Outcome::Done => put_status_report(out, start, message),
-        Outcome::Refused(why) => put_refused(out, start, why),
-    }
+    read_status_report(data, out, start)
 }

@@ -1,22 +1,20 @@
 // The requests that name a reader: the fields of the record that it gives, and the octets that its writer gives back.
+use address::SMSAddress;
+use coding::UserData;
+use deliver::SmsDeliver;
+use deliver_report::SmsDeliverReport;
 use lines::fields::part;
-use lines::fields::same;
+use lines::fields::word_number;
 use lines::writing;
-use tpdu::DeliverReportRead;
-use tpdu::OptionalOctet;
-use tpdu::Outcome;
-use tpdu::SMSAddress;
-use tpdu::SmsDeliver;
-use tpdu::SmsDeliverReport;
-use tpdu::SmsStatusReport;
-use tpdu::SmsSubmit;
-use tpdu::SmsSubmitReport;
-use tpdu::SubmitReportRead;
-use tpdu::SubmitText;
-use tpdu::Time;
-use tpdu::UserData;
-use tpdu::ValidityPeriod;
-use tpdu::Written;
+use octets::Written;
+use parameters::OptionalOctet;
+use refusals::number_of;
+use status_report::SmsStatusReport;
+use submit::SmsSubmit;
+use submit::SubmitText;
+use submit_report::SmsSubmitReport;
+use time::Time;
+use validity::ValidityPeriod;
 
 pub enum Reader {
     Deliver,
@@ -30,37 +28,37 @@ pub enum Reader {
 }
 
 pub fn reader_named(name: &[u8]) -> Reader {
-    if same(name, b"deliver") {
-        return Reader::Deliver;
+    let names = b"\
+        deliver\n\
+        submit\n\
+        submit-report-ack\n\
+        submit-report-error\n\
+        deliver-report-ack\n\
+        deliver-report-error\n\
+        status-report\n";
+    match word_number(names, name) {
+        0 => Reader::Deliver,
+        1 => Reader::Submit,
+        2 => Reader::SubmitReportAck,
+        3 => Reader::SubmitReportError,
+        4 => Reader::DeliverReportAck,
+        5 => Reader::DeliverReportError,
+        6 => Reader::StatusReport,
+        _ => Reader::Unknown,
     }
-    if same(name, b"submit") {
-        return Reader::Submit;
-    }
-    if same(name, b"submit-report-ack") {
-        return Reader::SubmitReportAck;
-    }
-    if same(name, b"submit-report-error") {
-        return Reader::SubmitReportError;
-    }
-    if same(name, b"deliver-report-ack") {
-        return Reader::DeliverReportAck;
-    }
-    if same(name, b"deliver-report-error") {
-        return Reader::DeliverReportError;
-    }
-    if same(name, b"status-report") {
-        return Reader::StatusReport;
-    }
-    Reader::Unknown
 }
 
 // ---- fields
 
+// Each function of a message takes the number of the refusal, which is 0 if there is none.
+fn refused(out: &mut [u8], at: usize, refusal: u8) -> usize {
+    writing::refused_by_number(out, at, refusal, false)
+}
+
 fn address(out: &mut [u8], at: usize, a: SMSAddress) -> usize {
     let text = a.address;
-    let p1 = writing::number(out, at, b" ton=", a.ton);
-    let p2 = writing::number(out, p1, b" npi=", a.npi);
-    writing::octets(out, p2, b" address=", part(&text, 0, a.address_length))
+    let next = writing::numbers(out, at, b" ton=\n npi=\n", &[a.ton, a.npi]);
+    writing::octets(out, next, b" address=", part(&text, 0, a.address_length))
 }
 
 fn protocol_and_coding(out: &mut [u8], at: usize, pid: u8, dcs: u8) -> usize {
@@ -73,6 +71,21 @@ fn user_data(out: &mut [u8], at: usize, udl: u8, ud: UserData) -> usize {
     writing::data(out, next, b" ud=", ud)
 }
 
+fn optional_protocol_and_coding(
+    out: &mut [u8],
+    at: usize,
+    pid: OptionalOctet,
+    dcs: OptionalOctet,
+) -> usize {
+    let next = writing::optional_octet(out, at, b" pid=", pid);
+    writing::optional_octet(out, next, b" dcs=", dcs)
+}
+
+fn optional_user_data(out: &mut [u8], at: usize, udl: OptionalOctet, ud: UserData) -> usize {
+    let next = writing::optional_number(out, at, b" udl=", udl);
+    writing::data(out, next, b" ud=", ud)
+}
+
 // The parameters of a report.
 fn parameters(
     out: &mut [u8],
@@ -82,13 +95,11 @@ fn parameters(
     udl: OptionalOctet,
     ud: UserData,
 ) -> usize {
-    let p1 = writing::optional_octet(out, at, b" pid=", pid);
-    let p2 = writing::optional_octet(out, p1, b" dcs=", dcs);
-    let p3 = writing::optional_number(out, p2, b" udl=", udl);
-    writing::data(out, p3, b" ud=", ud)
+    let next = optional_protocol_and_coding(out, at, pid, dcs);
+    optional_user_data(out, next, udl, ud)
 }
 
-fn deliver_flags(
+fn deliver_numbers(
     out: &mut [u8],
     at: usize,
     rp: bool,
@@ -96,27 +107,44 @@ fn deliver_flags(
     sri: bool,
     lp: bool,
     mms: bool,
+    mti: u8,
 ) -> usize {
-    let p1 = writing::flag(out, at, b"ok rp=", rp);
-    let p2 = writing::flag(out, p1, b" udhi=", udhi);
-    let p3 = writing::flag(out, p2, b" sri=", sri);
-    let p4 = writing::flag(out, p3, b" lp=", lp);
-    writing::flag(out, p4, b" mms=", mms)
+    let names = b"ok rp=\n udhi=\n sri=\n lp=\n mms=\n mti=\n";
+    let values = [rp as u8, udhi as u8, sri as u8, lp as u8, mms as u8, mti];
+    writing::numbers(out, at, names, &values)
 }
 
-fn deliver(out: &mut [u8], at: usize, m: SmsDeliver) -> usize {
-    let originator = m.tp_originating_address;
-    let time = m.tp_service_centre_timestamp;
-    let ud = m.tp_user_data;
-    let p1 = deliver_flags(out, at, m.tp_rp, m.tp_udhi, m.tp_sri, m.tp_lp, m.tp_mms);
-    let p2 = writing::number(out, p1, b" mti=", m.tp_mti);
-    let p3 = address(out, p2, originator);
-    let p4 = protocol_and_coding(out, p3, m.tp_pid, m.tp_dcs);
-    let p5 = writing::time(out, p4, b" scts=", time);
-    user_data(out, p5, m.tp_user_data_length, ud)
+fn time_and_data(out: &mut [u8], at: usize, scts: Time, udl: u8, ud: UserData) -> usize {
+    let next = writing::time(out, at, b" scts=", scts);
+    user_data(out, next, udl, ud)
 }
 
-fn submit_flags(
+fn deliver(out: &mut [u8], at: usize, refusal: u8, m: SmsDeliver) -> usize {
+    if refusal != 0 {
+        return refused(out, at, refusal);
+    }
+    let p1 = deliver_numbers(
+        out,
+        at,
+        m.tp_rp,
+        m.tp_udhi,
+        m.tp_sri,
+        m.tp_lp,
+        m.tp_mms,
+        m.tp_mti,
+    );
+    let p2 = address(out, p1, m.tp_originating_address);
+    let p3 = protocol_and_coding(out, p2, m.tp_pid, m.tp_dcs);
+    time_and_data(
+        out,
+        p3,
+        m.tp_service_centre_timestamp,
+        m.tp_user_data_length,
+        m.tp_user_data,
+    )
+}
+
+fn submit_numbers(
     out: &mut [u8],
     at: usize,
     rp: bool,
@@ -124,12 +152,11 @@ fn submit_flags(
     srr: bool,
     vpf: u8,
     rd: bool,
+    mti: u8,
 ) -> usize {
-    let p1 = writing::flag(out, at, b" rp=", rp);
-    let p2 = writing::flag(out, p1, b" udhi=", udhi);
-    let p3 = writing::flag(out, p2, b" srr=", srr);
-    let p4 = writing::number(out, p3, b" vpf=", vpf);
-    writing::flag(out, p4, b" rd=", rd)
+    let names = b" rp=\n udhi=\n srr=\n vpf=\n rd=\n mti=\n";
+    let values = [rp as u8, udhi as u8, srr as u8, vpf, rd as u8, mti];
+    writing::numbers(out, at, names, &values)
 }
 
 fn period(out: &mut [u8], at: usize, p: ValidityPeriod, digits: Time, octets: [u8; 7]) -> usize {
@@ -155,59 +182,91 @@ fn text(out: &mut [u8], at: usize, t: SubmitText) -> usize {
 
 // What follows TP-DCS in a SUBMIT.
 fn behind_coding(out: &mut [u8], at: usize, m: SmsSubmit) -> usize {
-    let p = m.tp_validity_period;
-    let digits = m.validity_period_digits;
+    let form = m.tp_validity_period;
     let octets = m.validity_period_octets;
-    let ud = m.tp_user_data_raw;
-    let h = m.tp_user_data_header;
-    let t = m.tp_user_data;
-    let p1 = period(out, at, p, digits, octets);
-    let p2 = user_data(out, p1, m.tp_user_data_length, ud);
-    let p3 = header(out, p2, m.has_user_data_header, h);
-    text(out, p3, t)
+    let p1 = period(out, at, form, m.validity_period_digits, octets);
+    let p2 = user_data(out, p1, m.tp_user_data_length, m.tp_user_data_raw);
+    let p3 = header(out, p2, m.has_user_data_header, m.tp_user_data_header);
+    text(out, p3, m.tp_user_data)
 }
 
-fn submit(out: &mut [u8], at: usize, m: SmsSubmit) -> usize {
-    let destination = m.tp_destination_address;
-    let p1 = submit_flags(out, at, m.tp_rp, m.tp_udhi, m.tp_srr, m.tp_vpf, m.tp_rd);
-    let p2 = writing::number(out, p1, b" mti=", m.tp_mti);
-    let p3 = writing::octet(out, p2, b" mr=", m.tp_mr);
-    let p4 = address(out, p3, destination);
-    let p5 = protocol_and_coding(out, p4, m.tp_pid, m.tp_dcs);
-    behind_coding(out, p5, m)
+// What stands before TP-PID in a SUBMIT.
+fn before_protocol(out: &mut [u8], at: usize, m: SmsSubmit) -> usize {
+    let p1 = submit_numbers(
+        out,
+        at,
+        m.tp_rp,
+        m.tp_udhi,
+        m.tp_srr,
+        m.tp_vpf,
+        m.tp_rd,
+        m.tp_mti,
+    );
+    let p2 = writing::octet(out, p1, b" mr=", m.tp_mr);
+    address(out, p2, m.tp_destination_address)
 }
 
-fn submit_report(out: &mut [u8], at: usize, m: SmsSubmitReport) -> usize {
+fn octets_read(out: &mut [u8], at: usize, count: usize) -> usize {
+    let next = page::put(out, at, b"ok read=");
+    page::put_decimal(out, next, count as u64)
+}
+
+fn submit(out: &mut [u8], at: usize, refusal: u8, count: usize, m: SmsSubmit) -> usize {
+    if refusal != 0 {
+        return refused(out, at, refusal);
+    }
+    let p1 = octets_read(out, at, count);
+    let p2 = before_protocol(out, p1, m);
+    let p3 = protocol_and_coding(out, p2, m.tp_pid, m.tp_dcs);
+    behind_coding(out, p3, m)
+}
+
+// A failure cause and an indicator.
+fn cause_and_indicator(out: &mut [u8], at: usize, fcs: OptionalOctet, pi: u8) -> usize {
+    let next = writing::optional_octet(out, at, b" fcs=", fcs);
+    writing::octet(out, next, b" pi=", pi)
+}
+
+fn submit_report(out: &mut [u8], at: usize, refusal: u8, m: SmsSubmitReport) -> usize {
+    if refusal != 0 {
+        return refused(out, at, refusal);
+    }
     let cause = m.tp_failure_cause;
-    let time = m.tp_service_centre_timestamp;
     let pid = m.tp_pid;
     let dcs = m.tp_dcs;
     let udl = m.tp_user_data_length;
-    let ud = m.tp_user_data;
     let p1 = writing::number(out, at, b"ok udhi=", m.tp_udhi);
-    let p2 = writing::optional_octet(out, p1, b" fcs=", cause);
-    let p3 = writing::octet(out, p2, b" pi=", m.tp_parameter_indicator);
-    let p4 = writing::time(out, p3, b" scts=", time);
-    parameters(out, p4, pid, dcs, udl, ud)
+    let p2 = cause_and_indicator(out, p1, cause, m.tp_parameter_indicator);
+    let p3 = writing::time(out, p2, b" scts=", m.tp_service_centre_timestamp);
+    parameters(out, p3, pid, dcs, udl, m.tp_user_data)
 }
 
-fn deliver_report(out: &mut [u8], at: usize, m: SmsDeliverReport) -> usize {
+fn deliver_report(out: &mut [u8], at: usize, refusal: u8, m: SmsDeliverReport) -> usize {
+    if refusal != 0 {
+        return refused(out, at, refusal);
+    }
     let cause = m.tp_failure_cause;
     let pid = m.tp_pid;
     let dcs = m.tp_dcs;
     let udl = m.tp_user_data_length;
-    let ud = m.tp_user_data;
     let p1 = writing::flag(out, at, b"ok udhi=", m.tp_udhi);
-    let p2 = writing::optional_octet(out, p1, b" fcs=", cause);
-    let p3 = writing::octet(out, p2, b" pi=", m.tp_parameter_indicator);
-    parameters(out, p3, pid, dcs, udl, ud)
+    let p2 = cause_and_indicator(out, p1, cause, m.tp_parameter_indicator);
+    parameters(out, p2, pid, dcs, udl, m.tp_user_data)
 }
 
-fn status_flags(out: &mut [u8], at: usize, udhi: bool, srq: bool, lp: bool, mms: bool) -> usize {
-    let p1 = writing::flag(out, at, b"ok udhi=", udhi);
-    let p2 = writing::flag(out, p1, b" srq=", srq);
-    let p3 = writing::flag(out, p2, b" lp=", lp);
-    writing::flag(out, p3, b" mms=", mms)
+fn status_numbers(
+    out: &mut [u8],
+    at: usize,
+    udhi: bool,
+    srq: bool,
+    lp: bool,
+    mms: bool,
+    mr: u8,
+) -> usize {
+    let names = b"ok udhi=\n srq=\n lp=\n mms=\n";
+    let values = [udhi as u8, srq as u8, lp as u8, mms as u8];
+    let next = writing::numbers(out, at, names, &values);
+    writing::octet(out, next, b" mr=", mr)
 }
 
 fn times_and_status(out: &mut [u8], at: usize, scts: Time, dt: Time, st: u8) -> usize {
@@ -216,108 +275,99 @@ fn times_and_status(out: &mut [u8], at: usize, scts: Time, dt: Time, st: u8) -> 
     writing::octet(out, p2, b" st=", st)
 }
 
-fn status_report(out: &mut [u8], at: usize, m: SmsStatusReport) -> usize {
-    let recipient = m.tp_recipient_address;
-    let scts = m.tp_service_centre_timestamp;
-    let dt = m.tp_discharge_time;
+// What stands before the indicator in a STATUS-REPORT.
+fn before_indicator(out: &mut [u8], at: usize, m: SmsStatusReport) -> usize {
+    let p1 = status_numbers(out, at, m.tp_udhi, m.tp_srq, m.tp_lp, m.tp_mms, m.tp_mr);
+    let p2 = address(out, p1, m.tp_recipient_address);
+    times_and_status(
+        out,
+        p2,
+        m.tp_service_centre_timestamp,
+        m.tp_discharge_time,
+        m.tp_status,
+    )
+}
+
+fn status_report(out: &mut [u8], at: usize, refusal: u8, m: SmsStatusReport) -> usize {
+    if refusal != 0 {
+        return refused(out, at, refusal);
+    }
     let indicator = m.tp_parameter_indicator;
     let pid = m.tp_pid;
     let dcs = m.tp_dcs;
     let udl = m.tp_user_data_length;
-    let ud = m.tp_user_data;
-    let p1 = status_flags(out, at, m.tp_udhi, m.tp_srq, m.tp_lp, m.tp_mms);
-    let p2 = writing::octet(out, p1, b" mr=", m.tp_mr);
-    let p3 = address(out, p2, recipient);
-    let p4 = times_and_status(out, p3, scts, dt, m.tp_status);
-    let p5 = writing::optional_octet(out, p4, b" pi=", indicator);
-    parameters(out, p5, pid, dcs, udl, ud)
+    let p1 = before_indicator(out, at, m);
+    let p2 = writing::optional_octet(out, p1, b" pi=", indicator);
+    parameters(out, p2, pid, dcs, udl, m.tp_user_data)
 }
 
 // ---- a reader's answer
 
-fn read_deliver(octets: &[u8], out: &mut [u8], at: usize) -> usize {
+fn answer_deliver(octets: &[u8], out: &mut [u8], at: usize) -> usize {
     let read = SmsDeliver::decode(octets);
     let outcome = read.outcome;
-    let message = read.message;
-    match outcome {
-        Outcome::Done => deliver(out, at, message),
-        Outcome::Refused(r) => writing::refused(out, at, r, false),
-    }
+    deliver(out, at, number_of(outcome), read.message)
 }
 
-fn read_submit(octets: &[u8], out: &mut [u8], at: usize) -> usize {
-    let read = tpdu::decode_sms_submit_tpdu(octets);
+fn answer_submit(octets: &[u8], out: &mut [u8], at: usize) -> usize {
+    let read = submit::decode_sms_submit_tpdu(octets);
     let outcome = read.outcome;
-    let message = read.message;
-    match outcome {
-        Outcome::Done => {
-            let p1 = page::put(out, at, b"ok read=");
-            let p2 = page::put_decimal(out, p1, read.octets_read as u64);
-            submit(out, p2, message)
-        }
-        Outcome::Refused(r) => writing::refused(out, at, r, false),
-    }
+    submit(out, at, number_of(outcome), read.octets_read, read.message)
 }
 
-fn read_submit_report(read: SubmitReportRead, out: &mut [u8], at: usize) -> usize {
+fn answer_submit_report_ack(octets: &[u8], out: &mut [u8], at: usize) -> usize {
+    let read = SmsSubmitReport::decode_for_rp_ack(octets);
     let outcome = read.outcome;
-    let message = read.message;
-    match outcome {
-        Outcome::Done => submit_report(out, at, message),
-        Outcome::Refused(r) => writing::refused(out, at, r, false),
-    }
+    submit_report(out, at, number_of(outcome), read.message)
 }
 
-fn read_deliver_report(read: DeliverReportRead, out: &mut [u8], at: usize) -> usize {
+fn answer_submit_report_error(octets: &[u8], out: &mut [u8], at: usize) -> usize {
+    let read = SmsSubmitReport::decode_for_rp_error(octets);
     let outcome = read.outcome;
-    let message = read.message;
-    match outcome {
-        Outcome::Done => deliver_report(out, at, message),
-        Outcome::Refused(r) => writing::refused(out, at, r, false),
-    }
+    submit_report(out, at, number_of(outcome), read.message)
 }
 
-fn read_status_report(octets: &[u8], out: &mut [u8], at: usize) -> usize {
+fn answer_deliver_report_ack(octets: &[u8], out: &mut [u8], at: usize) -> usize {
+    let read = SmsDeliverReport::decode_for_rp_ack(octets);
+    let outcome = read.outcome;
+    deliver_report(out, at, number_of(outcome), read.message)
+}
+
+fn answer_deliver_report_error(octets: &[u8], out: &mut [u8], at: usize) -> usize {
+    let read = SmsDeliverReport::decode_for_rp_error(octets);
+    let outcome = read.outcome;
+    deliver_report(out, at, number_of(outcome), read.message)
+}
+
+fn answer_status_report(octets: &[u8], out: &mut [u8], at: usize) -> usize {
     let read = SmsStatusReport::decode(octets);
     let outcome = read.outcome;
-    let message = read.message;
-    match outcome {
-        Outcome::Done => status_report(out, at, message),
-        Outcome::Refused(r) => writing::refused(out, at, r, false),
-    }
+    status_report(out, at, number_of(outcome), read.message)
 }
 
 // The fields of the record that a reader gives.
 pub fn answer(reader: Reader, octets: &[u8], out: &mut [u8], at: usize) -> usize {
     match reader {
-        Reader::Deliver => read_deliver(octets, out, at),
-        Reader::Submit => read_submit(octets, out, at),
-        Reader::SubmitReportAck => {
-            read_submit_report(SmsSubmitReport::decode_for_rp_ack(octets), out, at)
-        }
-        Reader::SubmitReportError => {
-            read_submit_report(SmsSubmitReport::decode_for_rp_error(octets), out, at)
-        }
-        Reader::DeliverReportAck => {
-            read_deliver_report(SmsDeliverReport::decode_for_rp_ack(octets), out, at)
-        }
-        Reader::DeliverReportError => {
-            read_deliver_report(SmsDeliverReport::decode_for_rp_error(octets), out, at)
-        }
-        Reader::StatusReport => read_status_report(octets, out, at),
+        Reader::Deliver => answer_deliver(octets, out, at),
+        Reader::Submit => answer_submit(octets, out, at),
+        Reader::SubmitReportAck => answer_submit_report_ack(octets, out, at),
+        Reader::SubmitReportError => answer_submit_report_error(octets, out, at),
+        Reader::DeliverReportAck => answer_deliver_report_ack(octets, out, at),
+        Reader::DeliverReportError => answer_deliver_report_error(octets, out, at),
+        Reader::StatusReport => answer_status_report(octets, out, at),
         Reader::Unknown => at,
     }
 }
 
 fn canonical(reader: Reader, octets: &[u8], lent: &mut [u8]) -> Written {
     match reader {
-        Reader::Deliver => tpdu::canonical_deliver(octets, lent),
-        Reader::Submit => tpdu::canonical_submit(octets, lent),
-        Reader::SubmitReportAck => tpdu::canonical_submit_report_ack(octets, lent),
-        Reader::SubmitReportError => tpdu::canonical_submit_report_error(octets, lent),
-        Reader::DeliverReportAck => tpdu::canonical_deliver_report_ack(octets, lent),
-        Reader::DeliverReportError => tpdu::canonical_deliver_report_error(octets, lent),
-        Reader::StatusReport => tpdu::canonical_status_report(octets, lent),
+        Reader::Deliver => canonical::canonical_deliver(octets, lent),
+        Reader::Submit => canonical::canonical_submit(octets, lent),
+        Reader::SubmitReportAck => canonical::canonical_submit_report_ack(octets, lent),
+        Reader::SubmitReportError => canonical::canonical_submit_report_error(octets, lent),
+        Reader::DeliverReportAck => canonical::canonical_deliver_report_ack(octets, lent),
+        Reader::DeliverReportError => canonical::canonical_deliver_report_error(octets, lent),
+        Reader::StatusReport => canonical::canonical_status_report(octets, lent),
         Reader::Unknown => Written::Done(0),
     }
 }

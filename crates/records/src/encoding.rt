@@ -3,46 +3,80 @@ use crate::keys;
 use crate::keys::Keys;
 use crate::keys::Kind;
 use crate::keys::value;
+use address::SMSAddress;
+use coding::UserData;
+use deliver::SmsDeliver;
+use deliver_report::SmsDeliverReport;
 use lines::values;
 use lines::writing;
-use tpdu::SMSAddress;
-use tpdu::SmsDeliver;
-use tpdu::SmsDeliverReport;
-use tpdu::SmsStatusReport;
-use tpdu::SmsSubmit;
-use tpdu::SmsSubmitReport;
-use tpdu::SubmitText;
-use tpdu::UserData;
-use tpdu::Written;
+use octets::Written;
+use parameters::OptionalOctet;
+use status_report::SmsStatusReport;
+use submit::SmsSubmit;
+use submit::SubmitText;
+use submit_report::SmsSubmitReport;
+use time::Time;
+
+// ---- the values of keys
+
+fn flag(line: &[u8], from: &[usize; 24], to: &[usize; 24], key: usize) -> bool {
+    values::flag_of(value(line, from, to, key))
+}
+
+fn number(line: &[u8], from: &[usize; 24], to: &[usize; 24], key: usize) -> u8 {
+    values::number_of(value(line, from, to, key))
+}
+
+fn octet(line: &[u8], from: &[usize; 24], to: &[usize; 24], key: usize) -> u8 {
+    values::octet_of(value(line, from, to, key))
+}
+
+fn optional_number(line: &[u8], from: &[usize; 24], to: &[usize; 24], key: usize) -> OptionalOctet {
+    values::optional_number_of(value(line, from, to, key))
+}
+
+fn optional_octet(line: &[u8], from: &[usize; 24], to: &[usize; 24], key: usize) -> OptionalOctet {
+    values::optional_octet_of(value(line, from, to, key))
+}
+
+fn time(line: &[u8], from: &[usize; 24], to: &[usize; 24], key: usize) -> Time {
+    values::time_of(value(line, from, to, key))
+}
+
+fn user_data(line: &[u8], from: &[usize; 24], to: &[usize; 24]) -> UserData {
+    values::data_of(value(line, from, to, keys::UD))
+}
 
 fn address_of(line: &[u8], from: &[usize; 24], to: &[usize; 24]) -> SMSAddress {
     let mut address = [0u8; 290];
     let address_length = values::octets_of(value(line, from, to, keys::ADDRESS), &mut address);
     SMSAddress {
-        ton: values::number_of(value(line, from, to, keys::TON)),
-        npi: values::number_of(value(line, from, to, keys::NPI)),
+        ton: number(line, from, to, keys::TON),
+        npi: number(line, from, to, keys::NPI),
         address,
         address_length,
     }
 }
 
+// ---- records
+
 fn write_deliver(line: &[u8], from: &[usize; 24], to: &[usize; 24], lent: &mut [u8]) -> Written {
     let originator = address_of(line, from, to);
-    let time = values::time_of(value(line, from, to, keys::SCTS));
-    let user_data = values::data_of(value(line, from, to, keys::UD));
+    let scts = time(line, from, to, keys::SCTS);
+    let ud = user_data(line, from, to);
     let message = SmsDeliver {
-        tp_rp: values::flag_of(value(line, from, to, keys::RP)),
-        tp_udhi: values::flag_of(value(line, from, to, keys::UDHI)),
-        tp_sri: values::flag_of(value(line, from, to, keys::SRI)),
-        tp_lp: values::flag_of(value(line, from, to, keys::LP)),
-        tp_mms: values::flag_of(value(line, from, to, keys::MMS)),
-        tp_mti: values::number_of(value(line, from, to, keys::MTI)),
+        tp_rp: flag(line, from, to, keys::RP),
+        tp_udhi: flag(line, from, to, keys::UDHI),
+        tp_sri: flag(line, from, to, keys::SRI),
+        tp_lp: flag(line, from, to, keys::LP),
+        tp_mms: flag(line, from, to, keys::MMS),
+        tp_mti: number(line, from, to, keys::MTI),
         tp_originating_address: originator,
-        tp_pid: values::octet_of(value(line, from, to, keys::PID)),
-        tp_dcs: values::octet_of(value(line, from, to, keys::DCS)),
-        tp_service_centre_timestamp: time,
-        tp_user_data_length: values::number_of(value(line, from, to, keys::UDL)),
-        tp_user_data: user_data,
+        tp_pid: octet(line, from, to, keys::PID),
+        tp_dcs: octet(line, from, to, keys::DCS),
+        tp_service_centre_timestamp: scts,
+        tp_user_data_length: number(line, from, to, keys::UDL),
+        tp_user_data: ud,
     };
     message.encode(lent)
 }
@@ -52,7 +86,7 @@ fn write_submit(line: &[u8], from: &[usize; 24], to: &[usize; 24], lent: &mut [u
     let period = values::period_of(value(line, from, to, keys::VP));
     let digits = values::period_digits_of(value(line, from, to, keys::VP));
     let octets = values::period_octets_of(value(line, from, to, keys::VP));
-    let user_data = values::data_of(value(line, from, to, keys::UD));
+    let ud = user_data(line, from, to);
     let header = UserData {
         octets: [0u8; 255],
         length: 0,
@@ -62,22 +96,22 @@ fn write_submit(line: &[u8], from: &[usize; 24], to: &[usize; 24], lent: &mut [u
         length: 0,
     };
     let message = SmsSubmit {
-        tp_rp: values::flag_of(value(line, from, to, keys::RP)),
-        tp_udhi: values::flag_of(value(line, from, to, keys::UDHI)),
-        tp_srr: values::flag_of(value(line, from, to, keys::SRR)),
-        tp_mti: values::number_of(value(line, from, to, keys::MTI)),
-        tp_rd: values::flag_of(value(line, from, to, keys::RD)),
-        tp_vpf: values::number_of(value(line, from, to, keys::VPF)),
-        tp_mr: values::octet_of(value(line, from, to, keys::MR)),
+        tp_rp: flag(line, from, to, keys::RP),
+        tp_udhi: flag(line, from, to, keys::UDHI),
+        tp_srr: flag(line, from, to, keys::SRR),
+        tp_mti: number(line, from, to, keys::MTI),
+        tp_rd: flag(line, from, to, keys::RD),
+        tp_vpf: number(line, from, to, keys::VPF),
+        tp_mr: octet(line, from, to, keys::MR),
         has_destination_address: !keys::no_destination(Kind::Submit, line, from, to),
         tp_destination_address: destination,
-        tp_pid: values::octet_of(value(line, from, to, keys::PID)),
-        tp_dcs: values::octet_of(value(line, from, to, keys::DCS)),
+        tp_pid: octet(line, from, to, keys::PID),
+        tp_dcs: octet(line, from, to, keys::DCS),
         tp_validity_period: period,
         validity_period_digits: digits,
         validity_period_octets: octets,
-        tp_user_data_length: values::number_of(value(line, from, to, keys::UDL)),
-        tp_user_data_raw: user_data,
+        tp_user_data_length: number(line, from, to, keys::UDL),
+        tp_user_data_raw: ud,
         has_user_data_header: false,
         tp_user_data_header: header,
         tp_user_data: text,
@@ -91,17 +125,17 @@ fn write_submit_report(
     to: &[usize; 24],
     lent: &mut [u8],
 ) -> Written {
-    let time = values::time_of(value(line, from, to, keys::SCTS));
-    let user_data = values::data_of(value(line, from, to, keys::UD));
+    let scts = time(line, from, to, keys::SCTS);
+    let ud = user_data(line, from, to);
     let message = SmsSubmitReport {
-        tp_udhi: values::number_of(value(line, from, to, keys::UDHI)),
-        tp_failure_cause: values::optional_octet_of(value(line, from, to, keys::FCS)),
-        tp_parameter_indicator: values::octet_of(value(line, from, to, keys::PI)),
-        tp_service_centre_timestamp: time,
-        tp_pid: values::optional_octet_of(value(line, from, to, keys::PID)),
-        tp_dcs: values::optional_octet_of(value(line, from, to, keys::DCS)),
-        tp_user_data_length: values::optional_number_of(value(line, from, to, keys::UDL)),
-        tp_user_data: user_data,
+        tp_udhi: number(line, from, to, keys::UDHI),
+        tp_failure_cause: optional_octet(line, from, to, keys::FCS),
+        tp_parameter_indicator: octet(line, from, to, keys::PI),
+        tp_service_centre_timestamp: scts,
+        tp_pid: optional_octet(line, from, to, keys::PID),
+        tp_dcs: optional_octet(line, from, to, keys::DCS),
+        tp_user_data_length: optional_number(line, from, to, keys::UDL),
+        tp_user_data: ud,
     };
     message.encode(lent)
 }
@@ -112,15 +146,15 @@ fn write_deliver_report(
     to: &[usize; 24],
     lent: &mut [u8],
 ) -> Written {
-    let user_data = values::data_of(value(line, from, to, keys::UD));
+    let ud = user_data(line, from, to);
     let message = SmsDeliverReport {
-        tp_udhi: values::flag_of(value(line, from, to, keys::UDHI)),
-        tp_failure_cause: values::optional_octet_of(value(line, from, to, keys::FCS)),
-        tp_parameter_indicator: values::octet_of(value(line, from, to, keys::PI)),
-        tp_pid: values::optional_octet_of(value(line, from, to, keys::PID)),
-        tp_dcs: values::optional_octet_of(value(line, from, to, keys::DCS)),
-        tp_user_data_length: values::optional_number_of(value(line, from, to, keys::UDL)),
-        tp_user_data: user_data,
+        tp_udhi: flag(line, from, to, keys::UDHI),
+        tp_failure_cause: optional_octet(line, from, to, keys::FCS),
+        tp_parameter_indicator: octet(line, from, to, keys::PI),
+        tp_pid: optional_octet(line, from, to, keys::PID),
+        tp_dcs: optional_octet(line, from, to, keys::DCS),
+        tp_user_data_length: optional_number(line, from, to, keys::UDL),
+        tp_user_data: ud,
     };
     message.encode(lent)
 }
@@ -132,27 +166,29 @@ fn write_status_report(
     lent: &mut [u8],
 ) -> Written {
     let recipient = address_of(line, from, to);
-    let time = values::time_of(value(line, from, to, keys::SCTS));
-    let discharge = values::time_of(value(line, from, to, keys::DT));
-    let user_data = values::data_of(value(line, from, to, keys::UD));
+    let scts = time(line, from, to, keys::SCTS);
+    let dt = time(line, from, to, keys::DT);
+    let ud = user_data(line, from, to);
     let message = SmsStatusReport {
-        tp_udhi: values::flag_of(value(line, from, to, keys::UDHI)),
-        tp_srq: values::flag_of(value(line, from, to, keys::SRQ)),
-        tp_lp: values::flag_of(value(line, from, to, keys::LP)),
-        tp_mms: values::flag_of(value(line, from, to, keys::MMS)),
-        tp_mr: values::octet_of(value(line, from, to, keys::MR)),
+        tp_udhi: flag(line, from, to, keys::UDHI),
+        tp_srq: flag(line, from, to, keys::SRQ),
+        tp_lp: flag(line, from, to, keys::LP),
+        tp_mms: flag(line, from, to, keys::MMS),
+        tp_mr: octet(line, from, to, keys::MR),
         tp_recipient_address: recipient,
-        tp_service_centre_timestamp: time,
-        tp_discharge_time: discharge,
-        tp_status: values::octet_of(value(line, from, to, keys::ST)),
-        tp_parameter_indicator: values::optional_octet_of(value(line, from, to, keys::PI)),
-        tp_pid: values::optional_octet_of(value(line, from, to, keys::PID)),
-        tp_dcs: values::optional_octet_of(value(line, from, to, keys::DCS)),
-        tp_user_data_length: values::optional_number_of(value(line, from, to, keys::UDL)),
-        tp_user_data: user_data,
+        tp_service_centre_timestamp: scts,
+        tp_discharge_time: dt,
+        tp_status: octet(line, from, to, keys::ST),
+        tp_parameter_indicator: optional_octet(line, from, to, keys::PI),
+        tp_pid: optional_octet(line, from, to, keys::PID),
+        tp_dcs: optional_octet(line, from, to, keys::DCS),
+        tp_user_data_length: optional_number(line, from, to, keys::UDL),
+        tp_user_data: ud,
     };
     message.encode(lent)
 }
+
+// ---- answers
 
 fn write(
     kind: Kind,

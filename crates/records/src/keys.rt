@@ -1,7 +1,6 @@
 // The keys of an `enc-` request: which a kind of message has, where a line gives them, and the form of each value.
 ghost use Prim.Native.Nat.{_≤_};
 use lines::fields;
-use lines::fields::same;
 use lines::values;
 
 // The kinds of message that can be written.
@@ -65,97 +64,14 @@ pub const UD: usize = 23;
 // How many there are; as a key's number it says that there is no such key.
 pub const ALL: usize = 24;
 
-// The key of a name.
+// The key of a name: the names stand in the order of the keys.
 fn key_named(name: &[u8]) -> usize {
-    if name.len() == 2 {
-        return key_of_two(name);
-    }
-    if name.len() == 3 {
-        return key_of_three(name);
-    }
-    if same(name, b"udhi") {
-        return UDHI;
-    }
-    if same(name, b"scts") {
-        return SCTS;
-    }
-    if same(name, b"address") {
-        return ADDRESS;
-    }
-    ALL
-}
-
-// The same of a name of two characters.
-fn key_of_two(name: &[u8]) -> usize {
-    if same(name, b"rp") {
-        return RP;
-    }
-    if same(name, b"lp") {
-        return LP;
-    }
-    if same(name, b"rd") {
-        return RD;
-    }
-    if same(name, b"mr") {
-        return MR;
-    }
-    if same(name, b"pi") {
-        return PI;
-    }
-    if same(name, b"st") {
-        return ST;
-    }
-    if same(name, b"dt") {
-        return DT;
-    }
-    if same(name, b"vp") {
-        return VP;
-    }
-    if same(name, b"ud") {
-        return UD;
-    }
-    ALL
-}
-
-// And of three.
-fn key_of_three(name: &[u8]) -> usize {
-    if same(name, b"sri") {
-        return SRI;
-    }
-    if same(name, b"mms") {
-        return MMS;
-    }
-    if same(name, b"srr") {
-        return SRR;
-    }
-    if same(name, b"srq") {
-        return SRQ;
-    }
-    if same(name, b"mti") {
-        return MTI;
-    }
-    if same(name, b"vpf") {
-        return VPF;
-    }
-    if same(name, b"ton") {
-        return TON;
-    }
-    if same(name, b"npi") {
-        return NPI;
-    }
-    if same(name, b"udl") {
-        return UDL;
-    }
-    if same(name, b"pid") {
-        return PID;
-    }
-    if same(name, b"dcs") {
-        return DCS;
-    }
-    if same(name, b"fcs") {
-        return FCS;
-    }
-    ALL
+    let names = b"\
+        rp\nudhi\nsri\nlp\nmms\nsrr\nrd\nsrq\n\
+        mti\nvpf\nton\nnpi\nudl\n\
+        mr\npid\ndcs\nfcs\npi\nst\n\
+        address\nscts\ndt\nvp\nud\n";
+    fields::word_number(names, name)
 }
 
 // ---- the keys of a kind

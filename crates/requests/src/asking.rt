@@ -1,24 +1,29 @@
 // What a line asks for, and the answer.
+use address::SMSAddress;
+use coding::UserDataCoding;
+use header::pack_gsm7_with_header;
+use header::unpack_gsm7_with_header;
 use lines::fields;
 use lines::fields::begins;
 use lines::fields::behind;
 use lines::fields::field;
 use lines::fields::part;
-use lines::fields::same;
+use lines::fields::word_number;
 use lines::values;
 use lines::values::NumberRead;
 use lines::values::OctetRead;
 use lines::values::ZoneRead;
 use lines::writing;
+use packing::Packed;
+use packing::pack_gsm7;
 use page::HexRead;
 use readings::Reader;
 use records::encoding;
 use records::keys;
 use records::keys::Kind;
-use tpdu::Outcome;
-use tpdu::Packed;
-use tpdu::SMSAddress;
-use tpdu::UserDataCoding;
+use refusals::number_of;
+use text::unpack_gsm7;
+use timestamp::timestamp_digits;
 
 pub enum Request {
     Read(Reader),
@@ -37,22 +42,15 @@ pub enum Request {
 // ---- names
 
 fn encoder_named(name: &[u8]) -> Request {
-    if same(name, b"deliver") {
-        return Request::Encode(Kind::Deliver);
+    let names = b"deliver\nsubmit\nsubmit-report\ndeliver-report\nstatus-report\n";
+    match word_number(names, name) {
+        0 => Request::Encode(Kind::Deliver),
+        1 => Request::Encode(Kind::Submit),
+        2 => Request::Encode(Kind::SubmitReport),
+        3 => Request::Encode(Kind::DeliverReport),
+        4 => Request::Encode(Kind::StatusReport),
+        _ => Request::Unknown,
     }
-    if same(name, b"submit") {
-        return Request::Encode(Kind::Submit);
-    }
-    if same(name, b"submit-report") {
-        return Request::Encode(Kind::SubmitReport);
-    }
-    if same(name, b"deliver-report") {
-        return Request::Encode(Kind::DeliverReport);
-    }
-    if same(name, b"status-report") {
-        return Request::Encode(Kind::StatusReport);
-    }
-    Request::Unknown
 }
 
 fn rewriter_named(name: &[u8]) -> Request {
@@ -65,28 +63,17 @@ fn rewriter_named(name: &[u8]) -> Request {
 
 // A request that names no kind of message.
 fn part_named(name: &[u8]) -> Request {
-    if same(name, b"unpack") {
-        return Request::Unpack;
+    let names = b"unpack\nunpack-header\npack\npack-header\naddress\ncoding\ndigits\n";
+    match word_number(names, name) {
+        0 => Request::Unpack,
+        1 => Request::UnpackHeader,
+        2 => Request::Pack,
+        3 => Request::PackHeader,
+        4 => Request::Address,
+        5 => Request::Coding,
+        6 => Request::Digits,
+        _ => Request::Unknown,
     }
-    if same(name, b"unpack-header") {
-        return Request::UnpackHeader;
-    }
-    if same(name, b"pack") {
-        return Request::Pack;
-    }
-    if same(name, b"pack-header") {
-        return Request::PackHeader;
-    }
-    if same(name, b"address") {
-        return Request::Address;
-    }
-    if same(name, b"coding") {
-        return Request::Coding;
-    }
-    if same(name, b"digits") {
-        return Request::Digits;
-    }
-    Request::Unknown
 }
 
 fn request_named(name: &[u8]) -> Request {
@@ -130,17 +117,24 @@ fn bad_number(out: &mut [u8], at: usize) -> usize {
     writing::bad(out, at, b"number")
 }
 
+// A report for people, several lines.
+fn show_report(reader: Reader, octets: &[u8], out: &mut [u8], at: usize) -> usize {
+    match reader {
+        Reader::SubmitReportAck => people::show_submit_report_ack(octets, out, at),
+        Reader::SubmitReportError => people::show_submit_report_error(octets, out, at),
+        Reader::DeliverReportAck => people::show_deliver_report_ack(octets, out, at),
+        Reader::DeliverReportError => people::show_deliver_report_error(octets, out, at),
+        _ => at,
+    }
+}
+
 // The message for people, several lines.
 fn show_message(reader: Reader, octets: &[u8], out: &mut [u8], at: usize) -> usize {
     match reader {
         Reader::Deliver => people::show_deliver(octets, out, at),
         Reader::Submit => people::show_submit(octets, out, at),
-        Reader::SubmitReportAck => people::show_submit_report_ack(octets, out, at),
-        Reader::SubmitReportError => people::show_submit_report_error(octets, out, at),
-        Reader::DeliverReportAck => people::show_deliver_report_ack(octets, out, at),
-        Reader::DeliverReportError => people::show_deliver_report_error(octets, out, at),
         Reader::StatusReport => people::show_status_report(octets, out, at),
-        Reader::Unknown => at,
+        _ => show_report(reader, octets, out, at),
     }
 }
 
@@ -163,6 +157,22 @@ fn answer_rewrite(reader: Reader, text: &[u8], show: bool, out: &mut [u8], at: u
     readings::answer_again(reader, part(&octets, 0, n), show, out, at)
 }
 
+// A refusal, or the text that was unpacked; no refusal is number 0.
+fn unpacked(refusal: u8, text: &[u8], show: bool, out: &mut [u8], at: usize) -> usize {
+    if refusal != 0 {
+        return writing::refused_by_number(out, at, refusal, show);
+    }
+    writing::octets(out, at, b"ok text=", text)
+}
+
+fn unpack(octets: &[u8], septets: usize, show: bool, out: &mut [u8], at: usize) -> usize {
+    let read = unpack_gsm7(octets, septets);
+    let outcome = read.outcome;
+    let text = read.text;
+    let refusal = number_of(outcome);
+    unpacked(refusal, part(&text, 0, read.text_length), show, out, at)
+}
+
 fn answer_unpack(count: &[u8], text: &[u8], show: bool, out: &mut [u8], at: usize) -> usize {
     let NumberRead::Is(septets) = values::number(count) else {
         return bad_number(out, at);
@@ -171,13 +181,38 @@ fn answer_unpack(count: &[u8], text: &[u8], show: bool, out: &mut [u8], at: usiz
     let HexRead::Octets(n) = page::read_hex(values::digits_of(text), &mut octets) else {
         return bad_octets(out, at);
     };
-    let u = tpdu::unpack_gsm7(part(&octets, 0, n), septets as usize);
-    let outcome = u.outcome;
-    let shown = u.text;
-    match outcome {
-        Outcome::Done => writing::octets(out, at, b"ok text=", part(&shown, 0, u.text_length)),
-        Outcome::Refused(r) => writing::refused(out, at, r, show),
+    unpack(part(&octets, 0, n), septets as usize, show, out, at)
+}
+
+// A refusal, or the header and the text that were unpacked.
+fn unpacked_with_header(
+    refusal: u8,
+    header: &[u8],
+    text: &[u8],
+    show: bool,
+    out: &mut [u8],
+    at: usize,
+) -> usize {
+    if refusal != 0 {
+        return writing::refused_by_number(out, at, refusal, show);
     }
+    let next = writing::octets(out, at, b"ok header=", header);
+    writing::octets(out, next, b" text=", text)
+}
+
+fn unpack_header(octets: &[u8], septets: usize, show: bool, out: &mut [u8], at: usize) -> usize {
+    let read = unpack_gsm7_with_header(octets, septets);
+    let outcome = read.outcome;
+    let header = read.header;
+    let text = read.text;
+    unpacked_with_header(
+        number_of(outcome),
+        part(&header, 0, read.header_length),
+        part(&text, 0, read.text_length),
+        show,
+        out,
+        at,
+    )
 }
 
 fn answer_unpack_header(count: &[u8], text: &[u8], show: bool, out: &mut [u8], at: usize) -> usize {
@@ -188,30 +223,30 @@ fn answer_unpack_header(count: &[u8], text: &[u8], show: bool, out: &mut [u8], a
     let HexRead::Octets(n) = page::read_hex(values::digits_of(text), &mut octets) else {
         return bad_octets(out, at);
     };
-    let u = tpdu::unpack_gsm7_with_header(part(&octets, 0, n), septets as usize);
-    let outcome = u.outcome;
-    let header = u.header;
-    let shown = u.text;
-    match outcome {
-        Outcome::Done => {
-            let next = writing::octets(out, at, b"ok header=", part(&header, 0, u.header_length));
-            writing::octets(out, next, b" text=", part(&shown, 0, u.text_length))
-        }
-        Outcome::Refused(r) => writing::refused(out, at, r, show),
-    }
+    unpack_header(part(&octets, 0, n), septets as usize, show, out, at)
+}
+
+// How many septets were packed, and the octets.
+fn septets_and_octets(septets: usize, octets: &[u8], out: &mut [u8], at: usize) -> usize {
+    let p1 = page::put(out, at, b"ok septets=");
+    let p2 = page::put_decimal(out, p1, septets as u64);
+    writing::octets(out, p2, b" octets=", octets)
 }
 
 // What a packer answered, and the octets that it wrote.
 fn packed(p: Packed, lent: &[u8], show: bool, out: &mut [u8], at: usize) -> usize {
     let outcome = p.outcome;
-    match outcome {
-        Outcome::Done => {
-            let p1 = page::put(out, at, b"ok septets=");
-            let p2 = page::put_decimal(out, p1, p.septets as u64);
-            writing::octets(out, p2, b" octets=", part(lent, 0, p.octets))
-        }
-        Outcome::Refused(r) => writing::refused(out, at, r, show),
+    let refusal = number_of(outcome);
+    if refusal != 0 {
+        return writing::refused_by_number(out, at, refusal, show);
     }
+    septets_and_octets(p.septets, part(lent, 0, p.octets), out, at)
+}
+
+fn pack(octets: &[u8], show: bool, out: &mut [u8], at: usize) -> usize {
+    let mut lent = [0u8; 255];
+    let p = pack_gsm7(octets, &mut lent);
+    packed(p, &lent, show, out, at)
 }
 
 fn answer_pack(text: &[u8], show: bool, out: &mut [u8], at: usize) -> usize {
@@ -219,23 +254,45 @@ fn answer_pack(text: &[u8], show: bool, out: &mut [u8], at: usize) -> usize {
     let HexRead::Octets(n) = page::read_hex(values::digits_of(text), &mut octets) else {
         return bad_octets(out, at);
     };
+    pack(part(&octets, 0, n), show, out, at)
+}
+
+fn pack_header(header: &[u8], octets: &[u8], show: bool, out: &mut [u8], at: usize) -> usize {
     let mut lent = [0u8; 255];
-    let p = tpdu::pack_gsm7(part(&octets, 0, n), &mut lent);
+    let p = pack_gsm7_with_header(header, octets, &mut lent);
     packed(p, &lent, show, out, at)
 }
 
-fn answer_pack_header(header: &[u8], text: &[u8], show: bool, out: &mut [u8], at: usize) -> usize {
-    let mut first = [0u8; 4096];
-    let HexRead::Octets(h) = page::read_hex(values::digits_of(header), &mut first) else {
-        return bad_octets(out, at);
-    };
+// The same of a header that is read already.
+fn answer_pack_behind(header: &[u8], text: &[u8], show: bool, out: &mut [u8], at: usize) -> usize {
     let mut octets = [0u8; 4096];
     let HexRead::Octets(n) = page::read_hex(values::digits_of(text), &mut octets) else {
         return bad_octets(out, at);
     };
+    pack_header(header, part(&octets, 0, n), show, out, at)
+}
+
+fn answer_pack_header(header: &[u8], text: &[u8], show: bool, out: &mut [u8], at: usize) -> usize {
+    let mut octets = [0u8; 4096];
+    let HexRead::Octets(n) = page::read_hex(values::digits_of(header), &mut octets) else {
+        return bad_octets(out, at);
+    };
+    answer_pack_behind(part(&octets, 0, n), text, show, out, at)
+}
+
+// The octets of an address whose text is hexadecimal digits.
+fn write_address(ton: u8, npi: u8, text: &[u8], show: bool, out: &mut [u8], at: usize) -> usize {
+    let mut address = [0u8; 290];
+    let address_length = values::octets_of(text, &mut address);
+    let a = SMSAddress {
+        ton,
+        npi,
+        address,
+        address_length,
+    };
     let mut lent = [0u8; 255];
-    let p = tpdu::pack_gsm7_with_header(part(&first, 0, h), part(&octets, 0, n), &mut lent);
-    packed(p, &lent, show, out, at)
+    let w = a.encode(&mut lent);
+    writing::written(out, at, w, &lent, show)
 }
 
 fn answer_address(
@@ -249,35 +306,31 @@ fn answer_address(
     let OctetRead::Is(t) = values::small_number(ton) else {
         return bad_number(out, at);
     };
-    let OctetRead::Is(p) = values::small_number(npi) else {
+    let OctetRead::Is(n) = values::small_number(npi) else {
         return bad_number(out, at);
     };
     if !values::is_octets(text) {
         return bad_octets(out, at);
     }
-    let mut address = [0u8; 290];
-    let address_length = values::octets_of(text, &mut address);
-    let a = SMSAddress {
-        ton: t,
-        npi: p,
-        address,
-        address_length,
-    };
-    let mut lent = [0u8; 255];
-    let w = a.encode(&mut lent);
-    writing::written(out, at, w, &lent, show)
+    write_address(t, n, text, show, out, at)
+}
+
+// The number of the coding that an octet announces, in the list of their names.
+fn coding_number(dcs: u8) -> usize {
+    match coding::user_data_coding(dcs) {
+        UserDataCoding::Gsm7Bit => 0,
+        UserDataCoding::EightBit => 1,
+        UserDataCoding::Ucs2 => 2,
+        UserDataCoding::Compressed => 3,
+    }
 }
 
 fn answer_coding(text: &[u8], out: &mut [u8], at: usize) -> usize {
     let OctetRead::Is(dcs) = values::octet(text) else {
         return writing::bad(out, at, b"coding");
     };
-    match tpdu::user_data_coding(dcs) {
-        UserDataCoding::Gsm7Bit => page::put(out, at, b"ok 7bit"),
-        UserDataCoding::EightBit => page::put(out, at, b"ok 8bit"),
-        UserDataCoding::Ucs2 => page::put(out, at, b"ok ucs2"),
-        UserDataCoding::Compressed => page::put(out, at, b"ok compressed"),
-    }
+    let names = b"ok 7bit\nok 8bit\nok ucs2\nok compressed\n";
+    page::put(out, at, page::word(names, coding_number(dcs)))
 }
 
 // Reads the six values of the calendar, the fields behind the first.
@@ -298,6 +351,22 @@ fn read_calendar(
     true
 }
 
+// A refusal, or the digits of a time.
+fn digits_or_refusal(refusal: u8, digits: &[u8], show: bool, out: &mut [u8], at: usize) -> usize {
+    if refusal != 0 {
+        return writing::refused_by_number(out, at, refusal, show);
+    }
+    let next = page::put(out, at, b"ok ");
+    page::put(out, next, digits)
+}
+
+fn time_digits(c: [u8; 6], zone: i8, show: bool, out: &mut [u8], at: usize) -> usize {
+    let time = timestamp_digits(c[0], c[1], c[2], c[3], c[4], c[5], zone);
+    let outcome = time.outcome;
+    let digits = time.digits;
+    digits_or_refusal(number_of(outcome), &digits, show, out, at)
+}
+
 fn answer_digits(
     line: &[u8],
     starts: &[usize; 20],
@@ -313,19 +382,62 @@ fn answer_digits(
     let ZoneRead::Is(zone) = values::zone(field(line, starts, ends, 7)) else {
         return bad_number(out, at);
     };
-    let t = tpdu::timestamp_digits(c[0], c[1], c[2], c[3], c[4], c[5], zone);
-    let outcome = t.outcome;
-    let digits = t.digits;
-    match outcome {
-        Outcome::Done => {
-            let next = page::put(out, at, b"ok ");
-            page::put(out, next, &digits)
-        }
-        Outcome::Refused(r) => writing::refused(out, at, r, show),
-    }
+    time_digits(c, zone, show, out, at)
 }
 
 // ---- a line
+
+// The answer to a request for a text.
+fn answer_text(
+    request: Request,
+    first: &[u8],
+    second: &[u8],
+    show: bool,
+    out: &mut [u8],
+    at: usize,
+) -> usize {
+    match request {
+        Request::Unpack => answer_unpack(first, second, show, out, at),
+        Request::UnpackHeader => answer_unpack_header(first, second, show, out, at),
+        Request::Pack => answer_pack(first, show, out, at),
+        Request::PackHeader => answer_pack_header(first, second, show, out, at),
+        _ => writing::bad(out, at, b"unknown request"),
+    }
+}
+
+// The answer to a request of up to three fields behind its name.
+fn answer_fields(
+    request: Request,
+    first: &[u8],
+    second: &[u8],
+    third: &[u8],
+    show: bool,
+    out: &mut [u8],
+    at: usize,
+) -> usize {
+    match request {
+        Request::Read(reader) => answer_read(reader, first, show, out, at),
+        Request::Rewrite(reader) => answer_rewrite(reader, first, show, out, at),
+        Request::Address => answer_address(first, second, third, show, out, at),
+        Request::Coding => answer_coding(first, out, at),
+        _ => answer_text(request, first, second, show, out, at),
+    }
+}
+
+fn answer_first_fields(
+    request: Request,
+    line: &[u8],
+    starts: &[usize; 20],
+    ends: &[usize; 20],
+    show: bool,
+    out: &mut [u8],
+    at: usize,
+) -> usize {
+    let first = field(line, starts, ends, 1);
+    let second = field(line, starts, ends, 2);
+    let third = field(line, starts, ends, 3);
+    answer_fields(request, first, second, third, show, out, at)
+}
 
 // The answer to a request whose fields are as many as it takes.
 fn answer_request(
@@ -338,22 +450,40 @@ fn answer_request(
     out: &mut [u8],
     at: usize,
 ) -> usize {
-    let first = field(line, starts, ends, 1);
-    let second = field(line, starts, ends, 2);
-    let third = field(line, starts, ends, 3);
     match request {
-        Request::Read(reader) => answer_read(reader, first, show, out, at),
-        Request::Rewrite(reader) => answer_rewrite(reader, first, show, out, at),
-        Request::Unpack => answer_unpack(first, second, show, out, at),
-        Request::UnpackHeader => answer_unpack_header(first, second, show, out, at),
-        Request::Pack => answer_pack(first, show, out, at),
-        Request::PackHeader => answer_pack_header(first, second, show, out, at),
-        Request::Address => answer_address(first, second, third, show, out, at),
-        Request::Coding => answer_coding(first, out, at),
         Request::Digits => answer_digits(line, starts, ends, show, out, at),
         Request::Encode(kind) => encoding::answer(kind, line, starts, ends, count, show, out, at),
-        Request::Unknown => writing::bad(out, at, b"unknown request"),
+        _ => answer_first_fields(request, line, starts, ends, show, out, at),
     }
+}
+
+// What keeps a request from being answered: 0 for nothing, or its number in the list of reasons.
+fn reason_against(request: Request, count: usize) -> usize {
+    if let Request::Unknown = request {
+        return 1;
+    }
+    if count != fields_of(request) {
+        return 2;
+    }
+    0
+}
+
+fn answer_named(
+    request: Request,
+    line: &[u8],
+    starts: &[usize; 20],
+    ends: &[usize; 20],
+    count: usize,
+    show: bool,
+    out: &mut [u8],
+    at: usize,
+) -> usize {
+    let reason = reason_against(request, count);
+    if reason != 0 {
+        let reasons = b"\nunknown request\nnumber of fields\n";
+        return writing::bad(out, at, page::word(reasons, reason));
+    }
+    answer_request(request, line, starts, ends, count, show, out, at)
 }
 
 // The answer to a line, without its end.
@@ -365,11 +495,5 @@ pub fn answer(line: &[u8], out: &mut [u8], at: usize, show: bool) -> usize {
         return writing::bad(out, at, b"empty line");
     }
     let request = request_named(field(line, &starts, &ends, 0));
-    if let Request::Unknown = request {
-        return writing::bad(out, at, b"unknown request");
-    }
-    if count != fields_of(request) {
-        return writing::bad(out, at, b"number of fields");
-    }
-    answer_request(request, line, &starts, &ends, count, show, out, at)
+    answer_named(request, line, &starts, &ends, count, show, out, at)
 }

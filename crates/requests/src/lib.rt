@@ -149,31 +149,45 @@ fn say(words: &[u8]) {
 
 // The arguments.
 fn say_arguments() {
-    say(b"tpdutool         answers requests on standard input, a line each, with a line each\n");
-    say(b"tpdutool show    answers for people, several lines a message\n");
-    say(b"tpdutool help    says this\n\n");
+    say(
+        b"\
+tpdutool         answers requests on standard input, a line each, with a line each
+tpdutool show    answers for people, several lines a message
+tpdutool help    says this
+
+",
+    );
 }
 
 // The requests that name a kind of message.
 fn say_messages() {
-    say(b"deliver HEX, submit HEX, submit-report-ack HEX, submit-report-error HEX,\n");
-    say(b"deliver-report-ack HEX, deliver-report-error HEX, status-report HEX\n");
-    say(b"                             the fields of a message\n");
-    say(b"re-KIND HEX                  a message of one of these kinds, read and written back\n");
-    say(b"enc-KIND key=value ..        the octets of a record: deliver, submit, submit-report,\n");
-    say(b"                             deliver-report, status-report\n");
+    say(
+        b"\
+deliver HEX, submit HEX, submit-report-ack HEX, submit-report-error HEX,
+deliver-report-ack HEX, deliver-report-error HEX, status-report HEX
+                             the fields of a message
+re-KIND HEX                  a message of one of these kinds, read and written back
+enc-KIND key=value ..        the octets of a record: deliver, submit, submit-report,
+                             deliver-report, status-report
+",
+    );
 }
 
 // The other requests.
 fn say_parts() {
-    say(b"unpack COUNT HEX             the text of so many septets\n");
-    say(b"unpack-header COUNT HEX      the same behind a header\n");
-    say(b"pack HEX                     the septets of a text, which is given as UTF-8\n");
-    say(b"pack-header HEX HEX          the same behind a header\n");
-    say(b"address TON NPI HEX          the octets of an address\n");
-    say(b"coding DCS                   the coding of user data\n");
-    say(b"digits Y M D H M S Z         the digits of a time\n\n");
-    say(b"docs/REQUESTS.md has the keys and the answers.\n");
+    say(
+        b"\
+unpack COUNT HEX             the text of so many septets
+unpack-header COUNT HEX      the same behind a header
+pack HEX                     the septets of a text, which is given as UTF-8
+pack-header HEX HEX          the same behind a header
+address TON NPI HEX          the octets of an address
+coding DCS                   the coding of user data
+digits Y M D H M S Z         the digits of a time
+
+docs/REQUESTS.md has the keys and the answers.
+",
+    );
 }
 
 // How the program is used.

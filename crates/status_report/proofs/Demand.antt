@@ -33,9 +33,10 @@ use Rattle.parameters.specs.declared.OptionalOctet.{OptionalOctet}
 use Rattle.parameters.specs.declared.OptionalOctet.the-variants.{Absent, Present}
 use Rattle.parameters.proofs.Checking.{answers}
 use Rattle.parameters.proofs.Made.{Held, parameters-make}
-use Rattle.status_report.proofs.Writing.{by-parts}
+use Rattle.status_report.proofs.Writing.{fits, by-parts}
 use Rattle.status_report.specs.declared.SmsStatusReport.{SmsStatusReport}
-use Rattle.status_report.specs.StatusReport.{bits, reported, behindStatus, behindAddress, line, statusReport, octetsIn, optionalChecks, making, reporting, Parts, parts, answer, unread}
+use Rattle.status_report.specs.StatusReport.{bits, reported, behindStatus, behindAddress, line, statusReport, reporting, Parts, parts, answer, unread}
+use Rattle.status_report_writing.specs.Writing.{octetsIn, optionalChecks, making}
 
 -- ---- the parts alone
 
@@ -89,7 +90,7 @@ module _ (x : ℕ) (hx : x < 256) (mti : eqb (messageType (kept bits x)) 2 ≡ t
     its-making =
         let short : length (timeDigits t) ≤ 14 = omega (arith, length-digits t) in
         let brief : length (timeDigits u) ≤ 14 = omega (arith, length-digits u) in
-        by-parts (make pi p) (rw (canonical-reads f wf) (length-short f wf)) short brief few
+        by-parts (make pi p) (fits (make pi p) (rw (canonical-reads f wf) (length-short f wf)) short brief few)
         ∙ its-checks ∙ ap (λ (xs : List ℕ). if ltb 12 (length (canonicalAddress f)) then refused AddressTooLong else checked (optionalChecks pi p) xs) its-octets
 
     -- behind the fields up to status stand those of indicator and parameters

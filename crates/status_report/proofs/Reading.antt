@@ -6,7 +6,6 @@ use mathlib.Core.List.{List}
 use native.Mathlib.Omega.{arith}
 use lib.Dec.{eqb}
 use lib.ListN.{length, take, drop}
-use Rattle.octets.specs.Arrays.{pad}
 use Rattle.octets.specs.Each.{Octets}
 use Rattle.octets.specs.Places.{octetAt, spanAt}
 use Rattle.octets.specs.declared.Octet.{Octet}
@@ -15,11 +14,12 @@ use Rattle.octets.specs.declared.Place.{Place}
 use Rattle.octets.specs.declared.Refusal.{Refusal}
 use Rattle.octets.specs.declared.Refusal.the-variants.{OctetsEnd, WrongMessageType}
 use Rattle.octets.specs.declared.Span.{Span}
-use Rattle.octets.proofs.Laws.{part-is, part-size}
+use Rattle.octets.proofs.Laws.{part-is}
 use Rattle.octets.proofs.Places.{octet-read, span-there, start}
-use Rattle.coding.proofs.Laws.{data-stored}
-use Rattle.time.specs.Time.{timeDigits}
-use Rattle.time.proofs.Laws.{time-stored}
+use Rattle.coding.specs.Coding.{dataWith}
+use Rattle.coding.specs.declared.UserData.{UserData}
+use Rattle.time.specs.Time.{timeIn}
+use Rattle.time.specs.declared.Time.{Time}
 use Rattle.address.specs.Address.{addressIn, addressSize, canonicalAddress}
 use Rattle.address.specs.Parts.{fieldAt}
 use Rattle.address.specs.declared.SMSAddress.{SMSAddress}
@@ -57,7 +57,7 @@ module _ (s : List ℕ) (make : OptionalOctet → Parameters → SmsStatusReport
   ended h = end-reached s (p .at) _ _ h ∙ done-reached s _ _
 
   module _ (h : p .at < length s) where
-    pub no-indicator : {why : Refusal} → indicatorAt s p ≡ Octet.Refused why → tail ≡ halted OctetsEnd
+    pub no-indicator : indicatorAt s p ≡ Octet.Ended → tail ≡ halted OctetsEnd
     unfolding behindStatus
     no-indicator e = end-not-reached s (p .at) _ _ h ∙ indicator-ends s p e _
 
@@ -77,17 +77,17 @@ module _ (s : List ℕ) (f mr : ℕ) (ra : List ℕ) (p : Place) where
   abbrev rest : Reached SmsStatusReport
   rest = readFrom (behindAddress f mr ra) s (p .at)
 
-  pub no-time : {why : Refusal} → spanAt s p 7 ≡ Span.Refused why → rest ≡ halted OctetsEnd
+  pub no-time : spanAt s p 7 ≡ Span.Ended → rest ≡ halted OctetsEnd
   unfolding behindAddress
   no-time e = span-ends s p 7 e any _
 
   module _ {scts : ℕ} {p₂ : Place} (e₁ : spanAt s p 7 ≡ Span.There scts p₂) where
-    pub no-discharge : {why : Refusal} → spanAt s p₂ 7 ≡ Span.Refused why → rest ≡ halted OctetsEnd
+    pub no-discharge : spanAt s p₂ 7 ≡ Span.Ended → rest ≡ halted OctetsEnd
     unfolding behindAddress
     no-discharge e = span-goes-on s p 7 e₁ any _ ∙ span-ends s p₂ 7 e any _
 
     module _ {dt : ℕ} {p₃ : Place} (e₂ : spanAt s p₂ 7 ≡ Span.There dt p₃) where
-      pub no-status : {why : Refusal} → octetAt s p₃ ≡ Octet.Refused why → rest ≡ halted OctetsEnd
+      pub no-status : octetAt s p₃ ≡ Octet.Ended → rest ≡ halted OctetsEnd
       unfolding behindAddress
       no-status e = span-goes-on s p 7 e₁ any _ ∙ span-goes-on s p₂ 7 e₂ any _ ∙ octet-ends s p₃ e _
 
@@ -103,7 +103,7 @@ module _ (s : List ℕ) where
   abbrev behindFirst : ℕ → Format SmsStatusReport
   behindFirst f = one λ mr. field address λ ra. behindAddress f mr ra
 
-  pub no-first : {why : Refusal} → octetAt s start ≡ Octet.Refused why → read statusReport s ≡ halted OctetsEnd
+  pub no-first : octetAt s start ≡ Octet.Ended → read statusReport s ≡ halted OctetsEnd
   unfolding read line
   no-first e = message-ends s start e 2 bits behindFirst
 
@@ -113,12 +113,12 @@ module _ (s : List ℕ) where
     other-type d = message-differs s start e 2 bits refl behindFirst d
 
     module _ (m : messageType b ≡ 2) where
-      pub no-reference : {why : Refusal} → octetAt s p ≡ Octet.Refused why → read statusReport s ≡ halted OctetsEnd
+      pub no-reference : octetAt s p ≡ Octet.Ended → read statusReport s ≡ halted OctetsEnd
       unfolding read line
       no-reference d = message-goes-on s start e 2 bits refl behindFirst m ∙ octet-ends s p d _
 
       module _ {mr : ℕ} {p₂ : Place} (e₂ : octetAt s p ≡ Octet.Read mr p₂) where
-        pub no-address : {why : Refusal} → fieldAt s p₂ ≡ Span.Refused why → read statusReport s ≡ halted OctetsEnd
+        pub no-address : fieldAt s p₂ ≡ Span.Ended → read statusReport s ≡ halted OctetsEnd
         unfolding read line
         no-address d = message-goes-on s start e 2 bits refl behindFirst m ∙ octet-goes-on s p e₂ _ ∙ address-ends s p₂ d (behindAddress (kept bits b) mr)
 
@@ -131,9 +131,9 @@ module _ (s : List ℕ) where
 
 -- ---- the record
 
-pub message-is : (s : List ℕ) → Octets s → (first mr ra scts dt st : ℕ) (pi pid dcs udl : OptionalOctet) (ud n : ℕ) → ra + addressSize (drop ra s) ≤ length s → scts + 7 ≤ length s → dt + 7 ≤ length s → ud + n ≤ length s
-    → (a : SMSAddress) → a ≡ addressIn (take (addressSize (drop ra s)) (drop ra s)) → (ds : List ℕ) → ds ≡ timeDigits (take 7 (drop scts s)) → (es : List ℕ) → es ≡ timeDigits (take 7 (drop dt s))
-    → (xs : List ℕ) → xs ≡ pad 255 (take (ud + n - ud) (drop ud s))
+pub message-is : (s : List ℕ) → Octets s → (first mr ra scts dt st : ℕ) (pi pid dcs udl : OptionalOctet) (ud n : ℕ) → ra + addressSize (drop ra s) ≤ length s
+    → (a : SMSAddress) → a ≡ addressIn (take (addressSize (drop ra s)) (drop ra s)) → (t : Time) → t ≡ timeIn (take 7 (drop scts s)) → (u : Time) → u ≡ timeIn (take 7 (drop dt s))
+    → (d : UserData) → d ≡ dataWith (take (ud + n - ud) (drop ud s))
     → _≡_ {A = SmsStatusReport} (record {
       «tp_udhi» = eqb (first / 64 % 2) 1;
       «tp_srq» = eqb (first / 32 % 2) 1;
@@ -141,18 +141,18 @@ pub message-is : (s : List ℕ) → Octets s → (first mr ra scts dt st : ℕ) 
       «tp_mms» = eqb (first / 4 % 2) 1;
       «tp_mr» = mr;
       «tp_recipient_address» = a;
-      «tp_service_centre_timestamp» = record { digits = ds; length = 14 };
-      «tp_discharge_time» = record { digits = es; length = 14 };
+      «tp_service_centre_timestamp» = t;
+      «tp_discharge_time» = u;
       «tp_status» = st;
       «tp_parameter_indicator» = pi;
       «tp_pid» = pid;
       «tp_dcs» = dcs;
       «tp_user_data_length» = udl;
-      «tp_user_data» = record { octets = xs; length = n };
+      «tp_user_data» = d;
     })
     (reported (kept bits first) mr (canonicalAddress (cut address (drop ra s))) (take 7 (drop scts s)) (take 7 (drop dt s)) st pi (record { pid = pid; dcs = dcs; udl = udl; ud = take n (drop ud s) }))
 unfolding reported
-message-is s o first mr ra scts dt st pi pid dcs udl ud n wa wt wu wd a ea ds ed es ee xs ex =
+message-is s o first mr ra scts dt st pi pid dcs udl ud n wa a ea t et u eu d ed =
     rw (
       kept-bit bits refl 6 refl first,
       kept-bit bits refl 5 refl first,
@@ -160,7 +160,8 @@ message-is s o first mr ra scts dt st pi pid dcs udl ud n wa wt wu wd a ea ds ed
       kept-bit bits refl 2 refl first,
       address-there s o ra wa,
       ea,
-      time-stored (take 7 (drop scts s)) (part-size scts 7 s wt) ed,
-      time-stored (take 7 (drop dt s)) (part-size dt 7 s wu) ee,
-      data-stored (take n (drop ud s)) (part-size ud n s wd) (ex ∙ rw (part-is ud n s)),
+      et,
+      eu,
+      ed,
+      part-is ud n s,
     )

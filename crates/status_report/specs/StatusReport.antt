@@ -1,25 +1,23 @@
 -- SMS-STATUS-REPORT (TS 23.040 §9.2.2.3): its line, its reader's answer, and what its writer makes.
 use Prim.Native.Nat.{ℕ, _+_}
 use mathlib.Core.Bool.{Bool, false, _||_}
-use mathlib.Core.List.{List, [], _∷_, _++_}
-use lib.Dec.{eqb, ltb}
+use mathlib.Core.List.{List, [], _∷_}
+use lib.Dec.{ltb}
 use lib.ListN.{length}
 use Rattle.octets.specs.Choice.{if_then_else_, flag}
-use Rattle.octets.specs.Checks.{Check, _unless_, checked}
 use Rattle.octets.specs.Lent.{Making, refused}
 use Rattle.octets.specs.declared.Outcome.{Outcome}
 use Rattle.octets.specs.declared.Refusal.{Refusal}
-use Rattle.octets.specs.declared.Refusal.the-variants.{LengthTooLarge, NotATime, ParametersWithoutIndicator}
+use Rattle.octets.specs.declared.Refusal.the-variants.{LengthTooLarge}
 use Rattle.octets.specs.declared.Written.{Written}
 use Rattle.coding.specs.Coding.{dataWith, dataOf}
-use Rattle.time.specs.Time.{isTime, timeOctets, timeIn, digitsOf, capitals}
-use Rattle.address.specs.Address.{addressIn, addressWith, addressOctets, octetsOr, addressChecks, textHeld}
+use Rattle.time.specs.Time.{timeIn, digitsOf, capitals}
+use Rattle.address.specs.Address.{addressIn, addressWith, textHeld}
 use Rattle.layout.specs.Layout.{isSet, leading, Format, field, endOr, done, _then_, message, one, time, address, Reached, reached, halted, Layout, plain}
-use Rattle.parameters.specs.Checking.{indicatorChecks, dataChecks}
-use Rattle.parameters.specs.Line.{Parameters, parameters, parametersOctets, noParameters}
-use Rattle.parameters.specs.Optional.{octetsHeld}
+use Rattle.parameters.specs.Line.{Parameters, parameters, noParameters}
 use Rattle.parameters.specs.declared.OptionalOctet.{OptionalOctet}
 use Rattle.parameters.specs.declared.OptionalOctet.the-variants.{Absent, Present}
+use Rattle.status_report_writing.specs.Writing.{making}
 use Rattle.status_report.specs.declared.SmsStatusReport.{SmsStatusReport}
 use Rattle.status_report.specs.declared.StatusReportRead.{StatusReportRead}
 
@@ -90,26 +88,6 @@ answer (reached r n) = record { outcome = Outcome.Done; message = r }
 answer (halted why) = unread why
 
 -- ---- writing
-
--- the octets of the parts, in the line's order
-abbrev pub octetsBehind : List ℕ → List ℕ → ℕ → OptionalOctet → Parameters → List ℕ
-octetsBehind scts dt st pi p = timeOctets scts ++ (timeOctets dt ++ (st ∷ (octetsHeld pi ++ parametersOctets p)))
-
-abbrev pub octetsIn : ℕ → ℕ → ℕ → ℕ → List ℕ → List ℕ → List ℕ → ℕ → OptionalOctet → Parameters → List ℕ
-octetsIn first mr ton npi text scts dt st pi p = first ∷ mr ∷ (octetsOr [] (addressOctets ton npi text) ++ octetsBehind scts dt st pi p)
-
--- with an indicator 13, 14, 7, 8, 15; without one 16: neither parameters nor user data are held
-unfoldable pub optionalChecks : OptionalOctet → Parameters → List Check
-optionalChecks (Present i) p = indicatorChecks i (p .pid) (p .dcs) (p .udl) ++ dataChecks (p .dcs) (p .udl) (length (p .ud))
-optionalChecks Absent p = (ParametersWithoutIndicator unless eqb (length (parametersOctets p)) 0) ∷ []
-
--- behind the address: 12 of either time, then those
-abbrev pub checksBehind : List ℕ → List ℕ → OptionalOctet → Parameters → List Check
-checksBehind scts dt pi p = (NotATime unless isTime scts) ∷ (NotATime unless isTime dt) ∷ optionalChecks pi p
-
--- what a writer makes of the parts: first octet, reference, address, the two times, status, indicator, parameters
-unfoldable pub making : ℕ → ℕ → ℕ → ℕ → List ℕ → List ℕ → List ℕ → ℕ → OptionalOctet → Parameters → Making Written
-making first mr ton npi text scts dt st pi p = checked (addressChecks ton npi text ++ checksBehind scts dt pi p) (octetsIn first mr ton npi text scts dt st pi p)
 
 -- MTI 2; UDHI bit 6, SRQ 5, LP 3, MMS 2
 abbrev pub firstOf : SmsStatusReport → ℕ

@@ -1,21 +1,15 @@
 // SMS-STATUS-REPORT (TS 23.040 §9.2.2.3).
 ghost use mathlib.Core.Path.{_≡_};
-ghost use mathlib.Core.Bool.{true, false};
+ghost use mathlib.Core.Bool.{false};
 ghost use Prim.Native.Nat.{_+_, _/_, _%_, _≤_, _<_};
 ghost use lib.ListN.{length, take, drop};
-ghost use Rattle.octets.specs.Lent.{Wrote, lend};
-ghost use Rattle.octets.specs.Checks.{found};
-ghost use Rattle.layout.specs.Demand.{Rewrites};
+ghost use Rattle.octets.specs.Choice.{flag};
+ghost use Rattle.octets.specs.Lent.{lend};
 ghost use Rattle.layout.specs.Layout.{read, readFrom, kept, cut, address as addressKind};
-ghost use Rattle.time.specs.Time.{isTime};
-ghost use Rattle.address.specs.Address.{addressMaking, addressSize, canonicalAddress};
-ghost use Rattle.address.specs.Parts.{checkOf};
-ghost use Rattle.parameters.specs.Optional.{held};
-ghost use Rattle.status_report.specs.StatusReport.{bits, reported, behindStatus, behindAddress, statusReport, answer, unread, octetsBehind, octetsIn, optionalChecks, checksBehind, making, reporting};
-use address::AddressCheck;
+ghost use Rattle.address.specs.Address.{addressSize, canonicalAddress};
+ghost use Rattle.status_report.specs.StatusReport.{bits, reported, behindStatus, behindAddress, statusReport, blank as blankMessage, answer, unread, reporting};
 use address::SMSAddress;
 use coding::UserData;
-use octets::Checked;
 use octets::Octet;
 use octets::Outcome;
 use octets::Place;
@@ -51,47 +45,42 @@ pub struct StatusReportRead {
     pub message: SmsStatusReport,
 }
 
-fn refused(r: Refusal) -> StatusReportRead
-    ensures { λ u. ⌜ u ≡ unread r ⌝ }
+// The blank message.
+fn blank() -> SmsStatusReport
+    ensures { λ r. ⌜ r ≡ blankMessage ⌝ }
 {
-    let address = SMSAddress {
-        ton: 0,
-        npi: 0,
-        address: [0u8; 290],
-        address_length: 0,
-    };
-    let timestamp = Time {
-        digits: [0u8; 14],
-        length: 0,
-    };
-    let discharge = Time {
-        digits: [0u8; 14],
-        length: 0,
-    };
-    let data = UserData {
-        octets: [0u8; 255],
-        length: 0,
-    };
-    let message = SmsStatusReport {
+    SmsStatusReport {
         tp_udhi: false,
         tp_srq: false,
         tp_lp: false,
         tp_mms: false,
         tp_mr: 0,
-        tp_recipient_address: address,
-        tp_service_centre_timestamp: timestamp,
-        tp_discharge_time: discharge,
+        tp_recipient_address: address::no_address(),
+        tp_service_centre_timestamp: time::no_time(),
+        tp_discharge_time: time::no_time(),
         tp_status: 0,
         tp_parameter_indicator: OptionalOctet::Absent,
         tp_pid: OptionalOctet::Absent,
         tp_dcs: OptionalOctet::Absent,
         tp_user_data_length: OptionalOctet::Absent,
-        tp_user_data: data,
-    };
+        tp_user_data: coding::no_data(),
+    }
+}
+
+fn refused(r: Refusal) -> StatusReportRead
+    ensures { λ u. ⌜ u ≡ unread r ⌝ }
+{
     StatusReportRead {
         outcome: Outcome::Refused(r),
-        message,
+        message: blank(),
     }
+}
+
+// The octets end inside a field.
+fn ended() -> StatusReportRead
+    ensures { λ u. ⌜ u ≡ unread Refusal.OctetsEnd ⌝ }
+{
+    refused(Refusal::OctetsEnd)
 }
 
 // The message of fields that are there: the first octet's flags, reference, address, the two times, status, indicator,
@@ -115,16 +104,10 @@ fn message(
     ensures { λ r. ⌜ r ≡ reported (kept bits first) mr (canonicalAddress (cut addressKind (drop ra (now («data» .entry))))) (take 7 (drop scts (now («data» .entry)))) (take 7 (drop dt (now («data» .entry)))) status indicator (record { pid = pid; dcs = dcs; udl = udl; ud = take n (drop ud (now («data» .entry))) }) ⌝ }
 {
     let recipient = SMSAddress::decode(data, ra);
-    let digits = time::decode_time(data, scts);
-    let timestamp = Time { digits, length: 14 };
-    let digits2 = time::decode_time(data, dt);
-    let discharge = Time {
-        digits: digits2,
-        length: 14,
-    };
+    let timestamp = time::time_at(data, scts);
+    let discharge = time::time_at(data, dt);
     let end = ud + n;
-    let octets = octets::stored_octets(&data[ud..end]);
-    let user_data = UserData { octets, length: n };
+    let user_data = coding::data_with(&data[ud..end]);
     SmsStatusReport {
         tp_udhi: first / 64 % 2 == 1,
         tp_srq: first / 32 % 2 == 1,
@@ -158,6 +141,7 @@ fn behind_status(
     ensures { λ r. ⌜ r ≡ answer (readFrom (behindStatus (reported (kept bits first) mr (canonicalAddress (cut addressKind (drop ra (now («data» .entry))))) (take 7 (drop scts (now («data» .entry)))) (take 7 (drop dt (now («data» .entry)))) status)) (now («data» .entry)) (place .at)) ⌝ }
 {
     if place.at >= data.len() {
+        let missing = OptionalOctet::Absent;
         let message = message(
             first,
             data,
@@ -166,7 +150,7 @@ fn behind_status(
             scts,
             dt,
             status,
-            OptionalOctet::Absent,
+            missing,
             OptionalOctet::Absent,
             OptionalOctet::Absent,
             OptionalOctet::Absent,
@@ -179,7 +163,7 @@ fn behind_status(
         };
     }
     let Octet::Read(indicator, next) = parameters::read_indicator(data, place) else {
-        return refused(Refusal::OctetsEnd);
+        return ended();
     };
     match parameters::read_parameters(data, next, indicator) {
         ParametersRead::Refused(r) => refused(r),
@@ -214,169 +198,26 @@ fn behind_address(data: &[u8], first: u8, mr: u8, ra: usize, place: Place) -> St
     ensures { λ r. ⌜ r ≡ answer (readFrom (behindAddress (kept bits first) mr (canonicalAddress (cut addressKind (drop ra (now («data» .entry)))))) (now («data» .entry)) (place .at)) ⌝ }
 {
     let Span::There(scts, place2) = place.span(data, 7) else {
-        return refused(Refusal::OctetsEnd);
+        return ended();
     };
     let Span::There(dt, place3) = place2.span(data, 7) else {
-        return refused(Refusal::OctetsEnd);
+        return ended();
     };
     let Octet::Read(status, place4) = place3.octet(data) else {
-        return refused(Refusal::OctetsEnd);
+        return ended();
     };
     behind_status(data, first, mr, ra, scts, dt, status, place4)
 }
 
-// Whether indicator, parameters and user data go together.
-fn check_optional(
-    indicator: OptionalOctet,
-    pid: OptionalOctet,
-    dcs: OptionalOctet,
-    udl: OptionalOctet,
-    data: &[u8],
-) -> Checked
-    requires { ⌜ length (now «data») ≤ 255 ⌝ }
-    ensures { λ r. ⌜ r ≡ found (optionalChecks indicator (record { pid = pid; dcs = dcs; udl = udl; ud = now («data» .entry) })) ⌝ }
+// The first octet: TP-MTI and the flags.
+fn first_octet(udhi: bool, srq: bool, lp: bool, mms: bool) -> u8
+    ensures { λ r. ⌜ r ≡ 2 + flag udhi 64 + flag srq 32 + flag lp 8 + flag mms 4 ⌝ }
 {
-    let OptionalOctet::Present(i) = indicator else {
-        if parameters::parameters_size(pid, dcs, udl, data.len()) != 0 {
-            return Checked::Against(Refusal::ParametersWithoutIndicator);
-        }
-        return Checked::Fine;
-    };
-    if let Checked::Against(r) = parameters::check_parameter_indicator(i, pid, dcs, udl) {
-        return Checked::Against(r);
-    }
-    parameters::check_data(dcs, udl, data.len())
-}
-
-// Whether what follows the address can be written.
-fn check_behind_address(
-    scts: &[u8],
-    dt: &[u8],
-    indicator: OptionalOctet,
-    pid: OptionalOctet,
-    dcs: OptionalOctet,
-    udl: OptionalOctet,
-    data: &[u8],
-) -> Checked
-    requires { ⌜ length (now «data») ≤ 255 ⌝ }
-    ensures { λ r. ⌜ r ≡ found (checksBehind (now (scts .entry)) (now (dt .entry)) indicator (record { pid = pid; dcs = dcs; udl = udl; ud = now («data» .entry) })) ⌝ }
-{
-    if !time::is_time(scts) {
-        return Checked::Against(Refusal::NotATime);
-    }
-    if !time::is_time(dt) {
-        return Checked::Against(Refusal::NotATime);
-    }
-    check_optional(indicator, pid, dcs, udl, data)
-}
-
-// Writes what follows the address from `at` on; the place behind it.
-fn put_behind_address(
-    scts: &[u8],
-    dt: &[u8],
-    status: u8,
-    indicator: OptionalOctet,
-    pid: OptionalOctet,
-    dcs: OptionalOctet,
-    udl: OptionalOctet,
-    data: &[u8],
-    out: &mut [u8],
-    at: usize,
-) -> usize
-    requires { ⌜ (isTime (now scts) ≡ true) × (isTime (now dt) ≡ true) × (at + 15 + held indicator + (held pid + held dcs + held udl + length (now «data»)) ≤ length (now out)) ⌝ }
-    ensures { λ r. ⌜ Wrote at (octetsBehind (now (scts .entry)) (now (dt .entry)) status indicator (record { pid = pid; dcs = dcs; udl = udl; ud = now («data» .entry) })) (now (out .entry)) r (now (out .exit)) ⌝ }
-{
-    let p1 = time::encode_time(scts, out, at);
-    let p2 = time::encode_time(dt, out, p1);
-    let p3 = octets::put_octet(out, p2, status);
-    let p4 = parameters::put_optional(out, p3, indicator);
-    parameters::put_parameters(out, p4, pid, dcs, udl, data)
-}
-
-// Writes parts that were checked; how many octets they take.
-fn put_parts(
-    first: u8,
-    mr: u8,
-    ton: u8,
-    npi: u8,
-    text: &[u8],
-    count: usize,
-    scts: &[u8],
-    dt: &[u8],
-    status: u8,
-    indicator: OptionalOctet,
-    pid: OptionalOctet,
-    dcs: OptionalOctet,
-    udl: OptionalOctet,
-    data: &[u8],
-    out: &mut [u8],
-) -> usize
-    requires { ⌜ (checkOf (addressMaking ton npi (now text)) ≡ AddressCheck.Fine count) × (isTime (now scts) ≡ true) × (isTime (now dt) ≡ true) × (19 + (count + 1) / 2 + held indicator + (held pid + held dcs + held udl + length (now «data»)) ≤ length (now out)) ⌝ }
-    ensures { λ r. ⌜ Wrote 0 (octetsIn first mr ton npi (now (text .entry)) (now (scts .entry)) (now (dt .entry)) status indicator (record { pid = pid; dcs = dcs; udl = udl; ud = now («data» .entry) })) (now (out .entry)) r (now (out .exit)) ⌝ }
-{
-    let p1 = octets::put_octet(out, 0, first);
-    let p2 = octets::put_octet(out, p1, mr);
-    let p3 = address::put_address(ton, npi, text, count, out, p2);
-    put_behind_address(scts, dt, status, indicator, pid, dcs, udl, data, out, p3)
-}
-
-// Writes the parts to the start of a lent output: checks in order, then the size, then the octets.
-fn encode_parts(
-    first: u8,
-    mr: u8,
-    ton: u8,
-    npi: u8,
-    text: &[u8],
-    scts: &[u8],
-    dt: &[u8],
-    status: u8,
-    indicator: OptionalOctet,
-    pid: OptionalOctet,
-    dcs: OptionalOctet,
-    udl: OptionalOctet,
-    data: &[u8],
-    out: &mut [u8],
-) -> Written
-    requires { ⌜ length (now «data») ≤ 255 ⌝ }
-    ensures { λ r. ⌜ (r, now (out .exit)) ≡ lend Written.Refused (making first mr ton npi (now (text .entry)) (now (scts .entry)) (now (dt .entry)) status indicator (record { pid = pid; dcs = dcs; udl = udl; ud = now («data» .entry) })) (now (out .entry)) ⌝ }
-{
-    match address::check_address(ton, npi, text) {
-        AddressCheck::Refused(r) => Written::Refused(r),
-        AddressCheck::Fine(count) => {
-            if let Checked::Against(r) = check_behind_address(
-                scts,
-                dt,
-                indicator,
-                pid,
-                dcs,
-                udl,
-                data,
-            ) {
-                return Written::Refused(r);
-            }
-            let size = parameters::parameters_size(pid, dcs, udl, data.len());
-            if out.len() < 19 + (count + 1) / 2 + parameters::octets_held(indicator) + size {
-                return Written::Refused(Refusal::OutputTooShort);
-            }
-            Written::Done(put_parts(
-                first,
-                mr,
-                ton,
-                npi,
-                text,
-                count,
-                scts,
-                dt,
-                status,
-                indicator,
-                pid,
-                dcs,
-                udl,
-                data,
-                out,
-            ))
-        }
-    }
+    MTI_STATUS_REPORT
+        + octets::flag(udhi, 64)
+        + octets::flag(srq, 32)
+        + octets::flag(lp, 8)
+        + octets::flag(mms, 4)
 }
 
 impl SmsStatusReport {
@@ -384,44 +225,27 @@ impl SmsStatusReport {
     pub fn encode(self, out: &mut [u8]) -> Written
         ensures { λ r. ⌜ (r, now (out .exit)) ≡ lend Written.Refused (reporting self) (now (out .entry)) ⌝ }
     {
-        let recipient = self.tp_recipient_address;
-        let timestamp = self.tp_service_centre_timestamp;
-        let discharge = self.tp_discharge_time;
-        let user_data = self.tp_user_data;
-        let n = recipient.address_length;
-        let m = timestamp.length;
-        let l = discharge.length;
-        let k = user_data.length;
-        if 290 < n {
+        let n = self.tp_recipient_address.address_length;
+        let m = self.tp_service_centre_timestamp.length;
+        let l = self.tp_discharge_time.length;
+        let k = self.tp_user_data.length;
+        if (290 < n) | ((14 < m) | ((14 < l) | (255 < k))) {
             return Written::Refused(Refusal::LengthTooLarge);
         }
-        if 14 < m {
-            return Written::Refused(Refusal::LengthTooLarge);
-        }
-        if 14 < l {
-            return Written::Refused(Refusal::LengthTooLarge);
-        }
-        if 255 < k {
-            return Written::Refused(Refusal::LengthTooLarge);
-        }
-        let first = MTI_STATUS_REPORT
-            + octets::flag(self.tp_udhi, 64)
-            + octets::flag(self.tp_srq, 32)
-            + octets::flag(self.tp_lp, 8)
-            + octets::flag(self.tp_mms, 4);
-        let text = recipient.address;
-        let digits = timestamp.digits;
-        let digits2 = discharge.digits;
-        let octets = user_data.octets;
+        let first = first_octet(self.tp_udhi, self.tp_srq, self.tp_lp, self.tp_mms);
+        let text = self.tp_recipient_address.address;
+        let digits = self.tp_service_centre_timestamp.digits;
+        let digits2 = self.tp_discharge_time.digits;
+        let octets = self.tp_user_data.octets;
         let indicator = self.tp_parameter_indicator;
         let pid = self.tp_pid;
         let dcs = self.tp_dcs;
         let udl = self.tp_user_data_length;
-        encode_parts(
+        status_report_writing::encode_parts(
             first,
             self.tp_mr,
-            recipient.ton,
-            recipient.npi,
+            self.tp_recipient_address.ton,
+            self.tp_recipient_address.npi,
             &text[..n],
             &digits[..m],
             &digits2[..l],
@@ -441,30 +265,17 @@ impl SmsStatusReport {
     {
         let start = Place { at: 0 };
         let Octet::Read(first, place) = start.octet(data) else {
-            return refused(Refusal::OctetsEnd);
+            return ended();
         };
         if first % 4 != MTI_STATUS_REPORT {
             return refused(Refusal::WrongMessageType);
         }
         let Octet::Read(mr, place2) = place.octet(data) else {
-            return refused(Refusal::OctetsEnd);
+            return ended();
         };
         let Span::There(ra, place3) = address::address_at(data, place2) else {
-            return refused(Refusal::OctetsEnd);
+            return ended();
         };
         behind_address(data, first, mr, ra, place3)
     }
-}
-
-// Reads a report, and writes it back.
-pub fn canonical_status_report(data: &[u8], out: &mut [u8]) -> Written
-    ensures { λ r. ⌜ Rewrites statusReport false (now («data» .entry)) (now (out .entry)) r (now (out .exit)) ⌝ }
-{
-    let read = SmsStatusReport::decode(data);
-    let outcome = read.outcome;
-    let message = read.message;
-    if let Outcome::Refused(r) = outcome {
-        return Written::Refused(r);
-    }
-    message.encode(out)
 }

@@ -30,9 +30,12 @@ use Rattle.layout.proofs.Demand.{Answers, Writes, demand3, answers-plain, answe
 use Rattle.layout.proofs.Rewriting.{Told}
 use Rattle.layout.proofs.Makes.{Makes}
 use Rattle.submit.specs.declared.SmsSubmit.{SmsSubmit}
-use Rattle.submit.specs.Submit.{formatIn, periodIn, ofFormat, periodOctets, headerSize, inCount, textWith, submitted, bits, behindCoding, behindFirst, line, submit, answer, unread, making, flagsOf, lengthIf, lengthsFit, submitting, timeHolds}
+use Rattle.submit.specs.Submit.{formatIn, headerSize, inCount, textWith, submitted, bits, behindCoding, behindFirst, line, submit, answer, unread, flagsOf, lengthsFit, submitting}
+use Rattle.submit_writing.specs.Writing.{making}
+use Rattle.octets.specs.Choice.{lengthIf}
+use Rattle.validity.specs.Validity.{periodIn, ofFormat, periodOctets, timeHolds}
 use Rattle.submit.specs.Parts.{Destination, Parts, parts}
-use Rattle.submit.proofs.Period.{digitsCount, digitsBeside, Held, period-held}
+use Rattle.validity.proofs.Period.{digitsCount, digitsBeside, Held, period-held}
 use Rattle.submit.proofs.Reading.{kept-whole}
 use Rattle.submit.proofs.Text.{readable-short}
 use Rattle.submit.proofs.Writing.{by-parts}

@@ -11,7 +11,8 @@ use Rattle.coding.specs.Coding.{codingOf, characterSet, dataOctets}
 use Rattle.text.specs.Alphabet.{indexOf}
 use Rattle.address.specs.Address.{digitCharacters, digitCharacter, digitValue, isDigit, withoutF, valueText, textIn, addressOctets, canonicalAddress}
 use Rattle.layout.specs.Layout.{kept, halted, after, reading, readFrom, fieldsOf, read, canonicalOf}
-use Rattle.submit.specs.Submit.{periodSize, headerSize, inCount, behindCoding, behindFirst, line, submit}
+use Rattle.submit.specs.Submit.{headerSize, inCount, behindCoding, behindFirst, line, submit}
+use Rattle.validity.specs.Validity.{periodSize}
 
 -- MR 07, "12" in a field with an F, PID and DCS 0
 abbrev front : List ℕ

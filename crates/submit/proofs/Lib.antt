@@ -1,4 +1,3 @@
-pub mod Period
 pub mod Text
 pub mod Parts
 pub mod Reading

@@ -17,15 +17,9 @@ use Rattle.address.specs.declared.SMSAddress.{SMSAddress}
 use Rattle.address.specs.Address.{addressIn}
 use Rattle.submit.specs.declared.SmsSubmit.{SmsSubmit}
 use Rattle.submit.specs.declared.SubmitText.{SubmitText}
-use Rattle.submit.specs.declared.ValidityPeriod.{ValidityPeriod}
-use Rattle.submit.specs.Submit.{formatIn, periodIn, ofFormat, readable, textWith, submitted}
-
--- the start of a start
-pub take-less : (h n : ℕ) (xs : List ℕ) → h ≤ n → take h (take n xs) ≡ take h xs
-take-less zero n xs le = refl
-take-less (suc h) zero xs le = absurd (omega arith)
-take-less (suc h) (suc n) [] le = refl
-take-less (suc h) (suc n) (x ∷ xs) le = ap (λ (l : List ℕ). x ∷ l) (take-less h n xs (le-of-suc-le-suc le))
+use Rattle.validity.specs.declared.ValidityPeriod.{ValidityPeriod}
+use Rattle.submit.specs.Submit.{formatIn, readable, textWith, submitted}
+use Rattle.validity.specs.Validity.{periodIn, ofFormat}
 
 -- the record, from its parts
 pub message-is : (f mr : ℕ) (da : List ℕ) (pid dcs : ℕ) (vp : List ℕ) (udl : ℕ) (ud : List ℕ) (h : ℕ)

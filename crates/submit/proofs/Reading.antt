@@ -26,7 +26,8 @@ use Rattle.layout.specs.Layout.{any, upTo, address, userData, isSet, field, req
 use Rattle.layout.proofs.Steps.{message-goes-on, message-differs, message-ends, octet-goes-on, octet-ends, span-goes-on, span-ends, address-goes-on, address-ends, require-holds, require-fails, done-reached, address-inside}
 use Rattle.submit.specs.declared.SmsSubmit.{SmsSubmit}
 use Rattle.submit.specs.declared.SubmitRead.{SubmitRead}
-use Rattle.submit.specs.Submit.{formatIn, periodSize, headerSize, inCount, submitted, behindCoding, bits, behindFirst, line, submit, answer, unread}
+use Rattle.submit.specs.Submit.{formatIn, headerSize, inCount, submitted, behindCoding, bits, behindFirst, line, submit, answer, unread}
+use Rattle.validity.specs.Validity.{periodSize}
 
 -- ---- the answer
 
@@ -44,12 +45,12 @@ module _ (s : List ℕ) (f mr : ℕ) (da : List ℕ) (pid dcs : ℕ) (p : Place)
   abbrev rest : Reached SmsSubmit
   rest = readFrom (behindCoding f mr da pid dcs) s (p .at)
 
-  pub no-period : {why : Refusal} → spanAt s p size ≡ Span.Refused why → rest ≡ halted OctetsEnd
+  pub no-period : spanAt s p size ≡ Span.Ended → rest ≡ halted OctetsEnd
   unfolding behindCoding
   no-period e = rw (← size-is) (span-ends s p size e any _)
 
   module _ {vp : ℕ} {p₂ : Place} (e₁ : spanAt s p size ≡ Span.There vp p₂) where
-    pub no-udl : {why : Refusal} → octetAt s p₂ ≡ Octet.Refused why → rest ≡ halted OctetsEnd
+    pub no-udl : octetAt s p₂ ≡ Octet.Ended → rest ≡ halted OctetsEnd
     unfolding behindCoding
     no-udl e = rw (← size-is) (span-goes-on s p size e₁ any _ ∙ octet-ends s p₂ e _)
 
@@ -62,7 +63,7 @@ module _ (s : List ℕ) (f mr : ℕ) (da : List ℕ) (pid dcs : ℕ) (p : Place)
       unfolding behindCoding
       two = rw (← size-is, n-is) (span-goes-on s p size e₁ any _ ∙ octet-goes-on s p₂ e₂ _)
 
-      pub no-data : {why : Refusal} → spanAt s p₃ n ≡ Span.Refused why → rest ≡ halted OctetsEnd
+      pub no-data : spanAt s p₃ n ≡ Span.Ended → rest ≡ halted OctetsEnd
       no-data e = two ∙ span-ends s p₃ n e (upTo 140) _
 
       module _ {ud : ℕ} {p₄ : Place} (e₃ : spanAt s p₃ n ≡ Span.There ud p₄) (h : ℕ) (h-is : h ≡ headerSize (isSet 6 f) (take n (drop (p₃ .at) s))) where
@@ -87,7 +88,7 @@ unfolding kept
 kept-whole x h = eqb-true _ _ (below (λ y. eqb (kept bits y) y) 256 refl x h)
 
 module _ (s : List ℕ) (o : Octets s) where
-  pub no-first : {why : Refusal} → octetAt s start ≡ Octet.Refused why → read submit s ≡ halted OctetsEnd
+  pub no-first : octetAt s start ≡ Octet.Ended → read submit s ≡ halted OctetsEnd
   unfolding read line behindFirst
   no-first e = message-ends s start e 1 bits behindFirst
 
@@ -97,22 +98,22 @@ module _ (s : List ℕ) (o : Octets s) where
     other-type d = message-differs s start e₁ 1 bits refl behindFirst d
 
     module _ (m : messageType b ≡ 1) where
-      pub no-mr : {why : Refusal} → octetAt s p ≡ Octet.Refused why → read submit s ≡ halted OctetsEnd
+      pub no-mr : octetAt s p ≡ Octet.Ended → read submit s ≡ halted OctetsEnd
       unfolding read line behindFirst
       no-mr e = message-goes-on s start e₁ 1 bits refl behindFirst m ∙ octet-ends s p e _
 
       module _ {mr : ℕ} {p₂ : Place} (e₂ : octetAt s p ≡ Octet.Read mr p₂) where
-        pub no-address : {why : Refusal} → fieldAt s p₂ ≡ Span.Refused why → read submit s ≡ halted OctetsEnd
+        pub no-address : fieldAt s p₂ ≡ Span.Ended → read submit s ≡ halted OctetsEnd
         unfolding read line behindFirst
         no-address e = message-goes-on s start e₁ 1 bits refl behindFirst m ∙ octet-goes-on s p e₂ _ ∙ address-ends s p₂ e _
 
         module _ {da : ℕ} {p₃ : Place} (e₃ : fieldAt s p₂ ≡ Span.There da p₃) where
-          pub no-pid : {why : Refusal} → octetAt s p₃ ≡ Octet.Refused why → read submit s ≡ halted OctetsEnd
+          pub no-pid : octetAt s p₃ ≡ Octet.Ended → read submit s ≡ halted OctetsEnd
           unfolding read line behindFirst
           no-pid e = message-goes-on s start e₁ 1 bits refl behindFirst m ∙ octet-goes-on s p e₂ _ ∙ address-goes-on s p₂ e₃ _ ∙ octet-ends s p₃ e _
 
           module _ {pid : ℕ} {p₄ : Place} (e₄ : octetAt s p₃ ≡ Octet.Read pid p₄) where
-            pub no-dcs : {why : Refusal} → octetAt s p₄ ≡ Octet.Refused why → read submit s ≡ halted OctetsEnd
+            pub no-dcs : octetAt s p₄ ≡ Octet.Ended → read submit s ≡ halted OctetsEnd
             unfolding read line behindFirst
             no-dcs e = message-goes-on s start e₁ 1 bits refl behindFirst m ∙ octet-goes-on s p e₂ _ ∙ address-goes-on s p₂ e₃ _ ∙ octet-goes-on s p₃ e₄ _ ∙ octet-ends s p₄ e _
 

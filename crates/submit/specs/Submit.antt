@@ -1,58 +1,31 @@
 -- SMS-SUBMIT (TS 23.040 §9.2.2.2): its line, its reader's answer, and what its writer makes.
-use Prim.Native.Nat.{ℕ, _+_, _-_, _*_, _/_, _%_}
+use Prim.Native.Nat.{ℕ, _+_, _-_, _/_, _%_}
 use mathlib.Core.Bool.{Bool, true, false, _&&_}
 use mathlib.Core.List.{List, [], _∷_, _++_}
-use lib.Dec.{eqb, leb}
+use lib.Dec.{leb}
 use lib.ListN.{length, take, drop}
 use Rattle.octets.specs.Arrays.{pad}
-use Rattle.octets.specs.Choice.{if_then_else_, flag}
-use Rattle.octets.specs.Checks.{_unless_, checked}
+use Rattle.octets.specs.Choice.{if_then_else_, flag, lengthIf}
 use Rattle.octets.specs.Lent.{Making, refused}
 use Rattle.octets.specs.declared.Outcome.{Outcome}
 use Rattle.octets.specs.declared.Refusal.{Refusal}
-use Rattle.octets.specs.declared.Refusal.the-variants.{LengthTooLarge, WrongMessageType, ValidityFormatDisagrees, NoDestination, NotATime, HeaderNotWhole, HeaderPassesCount}
+use Rattle.octets.specs.declared.Refusal.the-variants.{LengthTooLarge, HeaderNotWhole, HeaderPassesCount}
 use Rattle.octets.specs.declared.Written.{Written}
-use Rattle.coding.specs.Coding.{codingOf, dataOctets, dataWith, dataOf, dataChecks}
+use Rattle.coding.specs.Coding.{codingOf, dataOctets, dataWith, dataOf}
 use Rattle.coding.specs.declared.UserDataCoding.{UserDataCoding}
 use Rattle.coding.specs.declared.UserDataCoding.the-variants.{Gsm7Bit, EightBit, Ucs2, Compressed}
 use Rattle.septets.specs.Septets.{septetsIn, headerSeptets, fillBits}
 use Rattle.text.specs.Reading.{textOf}
 use Rattle.header.specs.Header.{headerOctets}
-use Rattle.time.specs.Time.{isTime, timeOctets, timeIn}
-use Rattle.address.specs.Address.{addressIn, addressWith, addressOctets, octetsOr, addressChecks}
-use Rattle.layout.specs.Layout.{Format, Layout, plain, Reached, reached, halted, message, field, one, require, done, address, octets, any, userData, isSet, leading, messageType}
+use Rattle.time.specs.Time.{timeIn}
+use Rattle.address.specs.Address.{addressIn, addressWith}
+use Rattle.layout.specs.Layout.{Format, Layout, plain, Reached, reached, halted, message, field, one, require, done, address, octets, any, userData, isSet, messageType}
+use Rattle.validity.specs.Validity.{periodSize, periodIn, ofFormat, isAbsolute}
+use Rattle.submit_writing.specs.Writing.{making}
 use Rattle.submit.specs.declared.SmsSubmit.{SmsSubmit}
 use Rattle.submit.specs.declared.SubmitRead.{SubmitRead}
 use Rattle.submit.specs.declared.SubmitText.{SubmitText}
-use Rattle.submit.specs.declared.ValidityPeriod.{ValidityPeriod}
-
--- ---- the validity period (§9.2.3.3, §9.2.3.12)
-
--- the octets that TP-VPF calls for: 0 none, 2 one, 3 (a time) and 1 seven
-unfoldable pub periodSize : ℕ → ℕ
-periodSize vpf = if eqb vpf 0 then 0 else if eqb vpf 2 then 1 else 7
-
--- the period that they are
-unfoldable pub periodIn : ℕ → List ℕ → ValidityPeriod
-periodIn vpf vp = if eqb vpf 0 then ValidityPeriod.None else if eqb vpf 2 then ValidityPeriod.Relative (leading vp) else if eqb vpf 3 then ValidityPeriod.Absolute else ValidityPeriod.Enhanced
-
--- what stands beside it: the digits of a time, and the seven octets of the enhanced format
-abbrev pub ofFormat : ℕ → ℕ → List ℕ → List ℕ
-ofFormat format vpf vp = if eqb vpf format then vp else []
-
--- TP-VPF of a period
-abbrev pub formatOf : ValidityPeriod → ℕ
-formatOf ValidityPeriod.None = 0
-formatOf (ValidityPeriod.Relative x) = 2
-formatOf ValidityPeriod.Absolute = 3
-formatOf ValidityPeriod.Enhanced = 1
-
--- its octets, by the digits and the seven octets beside it
-abbrev pub periodOctets : ValidityPeriod → List ℕ → List ℕ → List ℕ
-periodOctets ValidityPeriod.None digits enhanced = []
-periodOctets (ValidityPeriod.Relative x) digits enhanced = x ∷ []
-periodOctets ValidityPeriod.Absolute digits enhanced = timeOctets digits
-periodOctets ValidityPeriod.Enhanced digits enhanced = enhanced
+use Rattle.validity.specs.declared.ValidityPeriod.{ValidityPeriod}
 
 -- ---- the header and the readable form of user data (§9.2.3.24)
 
@@ -161,33 +134,6 @@ answer (reached r n) = record { outcome = Outcome.Done; message = r; «octets_re
 answer (halted why) = unread why
 
 -- ---- writing
-
--- a length that counts: that of an absent part doesn't
-abbrev pub lengthIf : Bool → ℕ → ℕ
-lengthIf true n = n
-lengthIf false n = 0
-
-abbrev pub isAbsolute : ValidityPeriod → Bool
-isAbsolute vp = eqb (formatOf vp) 3
-
--- the digits of a period are a time, if it is held as one
-abbrev pub timeHolds : ValidityPeriod → List ℕ → Bool
-timeHolds ValidityPeriod.None digits = true
-timeHolds (ValidityPeriod.Relative x) digits = true
-timeHolds ValidityPeriod.Absolute digits = isTime digits
-timeHolds ValidityPeriod.Enhanced digits = true
-
--- the octets of the parts, in the line's order
-abbrev pub octetsIn : ℕ → ℕ → ℕ → ℕ → List ℕ → ℕ → ℕ → List ℕ → ℕ → List ℕ → List ℕ
-octetsIn first mr ton npi text pid dcs vp udl ud = first ∷ mr ∷ (octetsOr [] (addressOctets ton npi text) ++ (pid ∷ dcs ∷ (vp ++ (udl ∷ ud))))
-
--- what a writer makes of the parts: flags of the first octet, MTI, VPF, MR, whether there is a destination, address, PID, DCS, validity, UDL, data
-unfoldable pub making : ℕ → ℕ → ℕ → ℕ → Bool → ℕ → ℕ → List ℕ → ℕ → ℕ → ValidityPeriod → List ℕ → List ℕ → ℕ → List ℕ → Making Written
-making flags mti vpf mr there ton npi text pid dcs period digits enhanced udl ud =
-    checked
-    ((WrongMessageType unless eqb mti 1) ∷ (ValidityFormatDisagrees unless eqb vpf (formatOf period)) ∷ (NoDestination unless there)
-    ∷ dataChecks dcs udl (length ud) ++ addressChecks ton npi text ++ (NotATime unless timeHolds period digits) ∷ [])
-    (octetsIn (flags + 8 * vpf + 1) mr ton npi text pid dcs (periodOctets period digits enhanced) udl ud)
 
 -- RP bit 7, UDHI 6, SRR 5, RD 2
 abbrev pub flagsOf : SmsSubmit → ℕ

@@ -1,51 +1,32 @@
 // SMS-SUBMIT (TS 23.040 §9.2.2.2).
 ghost use mathlib.Core.Path.{_≡_};
 ghost use mathlib.Core.Bool.{true, false};
-ghost use mathlib.Core.List.{_++_};
+ghost use mathlib.Core.List.{[], _++_};
 ghost use Prim.Native.Nat.{_+_, _-_, _*_, _/_, _%_, _≤_, _<_};
 ghost use lib.ListN.{length, take, drop};
+ghost use Rattle.octets.specs.Choice.{flag};
 ghost use Rattle.octets.specs.Lent.{Wrote, lend};
-ghost use Rattle.octets.specs.Arrays.{pad};
-ghost use Rattle.coding.specs.Coding.{codingOf, dataOctets, dataWith};
+ghost use Rattle.coding.specs.Coding.{codingOf, dataOctets};
 ghost use Rattle.septets.specs.Septets.{headerSeptets, fillBits, septetsIn};
 ghost use Rattle.text.specs.Reading.{textOf};
-ghost use Rattle.time.specs.Time.{timeIn};
-ghost use Rattle.layout.specs.Demand.{Rewrites};
 ghost use Rattle.layout.specs.Layout.{read, readFrom, cut, address as addressKind};
-ghost use Rattle.address.specs.Address.{addressMaking, addressSize, canonicalAddress};
-ghost use Rattle.address.specs.Parts.{checkOf};
-ghost use Rattle.submit.specs.Submit.{submit, behindCoding, submitted, answer, unread, headerSize, inCount, readable, textWith, formatIn, formatOf, periodIn, ofFormat, periodSize, periodOctets, timeHolds, lengthIf, octetsIn, making, submitting};
-use address::AddressCheck;
+ghost use Rattle.address.specs.Address.{addressSize, canonicalAddress};
+ghost use Rattle.submit.specs.Submit.{submit, behindCoding, submitted, blank as blankMessage, answer, unread, headerSize, inCount, readable, textWith, formatIn, submitting};
+ghost use Rattle.octets.specs.Choice.{lengthIf};
+ghost use Rattle.validity.specs.Validity.{periodSize};
 use address::SMSAddress;
 use coding::UserData;
 use coding::UserDataCoding;
-use octets::Checked;
 use octets::Octet;
 use octets::Outcome;
 use octets::Place;
 use octets::Refusal;
 use octets::Span;
 use octets::Written;
+use submit_writing::MTI_SUBMIT;
 use time::Time;
-
-const MTI_SUBMIT: u8 = 1;
-
-// TP-Validity-Period-Format (TS 23.040 §9.2.3.3).
-pub const VALIDITY_PERIOD_FORMAT_NONE: u8 = 0;
-
-pub const VALIDITY_PERIOD_FORMAT_ENHANCED: u8 = 1;
-
-pub const VALIDITY_PERIOD_FORMAT_RELATIVE: u8 = 2;
-
-pub const VALIDITY_PERIOD_FORMAT_ABSOLUTE: u8 = 3;
-
-// TP-Validity-Period (§9.2.3.12). The digits of an absolute one and the seven octets of an enhanced one stand beside it.
-pub enum ValidityPeriod {
-    None,
-    Relative(u8),
-    Absolute,
-    Enhanced,
-}
+use validity::VALIDITY_PERIOD_FORMAT_ABSOLUTE;
+use validity::ValidityPeriod;
 
 // The readable form of user data: octets, and how many there are.
 pub struct SubmitText {
@@ -82,57 +63,11 @@ pub struct SubmitRead {
     pub octets_read: usize,
 }
 
-impl ValidityPeriod {
-    // The TP-VPF value that announces this format.
-    pub fn format(self) -> u8
-        ensures { λ r. ⌜ (r ≡ formatOf self) × (r ≤ 3) ⌝ }
-    {
-        match self {
-            ValidityPeriod::None => VALIDITY_PERIOD_FORMAT_NONE,
-            ValidityPeriod::Relative(_) => VALIDITY_PERIOD_FORMAT_RELATIVE,
-            ValidityPeriod::Absolute => VALIDITY_PERIOD_FORMAT_ABSOLUTE,
-            ValidityPeriod::Enhanced => VALIDITY_PERIOD_FORMAT_ENHANCED,
-        }
-    }
-}
-
-// The octets of a validity period in a format.
-fn validity_octets(format: u8) -> usize
-    ensures { λ r. ⌜ (r ≡ periodSize format) × (r ≤ 7) ⌝ }
+// The blank message.
+fn blank() -> SmsSubmit
+    ensures { λ r. ⌜ r ≡ blankMessage ⌝ }
 {
-    match format {
-        VALIDITY_PERIOD_FORMAT_NONE => 0,
-        VALIDITY_PERIOD_FORMAT_RELATIVE => 1,
-        _ => 7,
-    }
-}
-
-fn refused(r: Refusal) -> SubmitRead
-    ensures { λ u. ⌜ u ≡ unread r ⌝ }
-{
-    let address = SMSAddress {
-        ton: 0,
-        npi: 0,
-        address: [0u8; 290],
-        address_length: 0,
-    };
-    let time = Time {
-        digits: [0u8; 14],
-        length: 0,
-    };
-    let data = UserData {
-        octets: [0u8; 255],
-        length: 0,
-    };
-    let header = UserData {
-        octets: [0u8; 255],
-        length: 0,
-    };
-    let text = SubmitText {
-        octets: [0u8; 510],
-        length: 0,
-    };
-    let message = SmsSubmit {
+    SmsSubmit {
         tp_rp: false,
         tp_udhi: false,
         tp_srr: false,
@@ -141,63 +76,35 @@ fn refused(r: Refusal) -> SubmitRead
         tp_vpf: 0,
         tp_mr: 0,
         has_destination_address: false,
-        tp_destination_address: address,
+        tp_destination_address: address::no_address(),
         tp_pid: 0,
         tp_dcs: 0,
         tp_validity_period: ValidityPeriod::None,
-        validity_period_digits: time,
+        validity_period_digits: time::no_time(),
         validity_period_octets: [0u8; 7],
         tp_user_data_length: 0,
-        tp_user_data_raw: data,
+        tp_user_data_raw: coding::no_data(),
         has_user_data_header: false,
-        tp_user_data_header: header,
-        tp_user_data: text,
-    };
+        tp_user_data_header: coding::no_data(),
+        tp_user_data: no_text(),
+    }
+}
+
+fn refused(r: Refusal) -> SubmitRead
+    ensures { λ u. ⌜ u ≡ unread r ⌝ }
+{
     SubmitRead {
         outcome: Outcome::Refused(r),
-        message,
+        message: blank(),
         octets_read: 0,
     }
 }
 
-// The validity period of octets in a format.
-fn period_in(format: u8, octets: &[u8]) -> ValidityPeriod
-    requires { ⌜ length (now octets) ≡ periodSize format ⌝ }
-    ensures { λ r. ⌜ r ≡ periodIn format (now (octets .entry)) ⌝ }
+// The octets end inside a field.
+fn ended() -> SubmitRead
+    ensures { λ u. ⌜ u ≡ unread Refusal.OctetsEnd ⌝ }
 {
-    match format {
-        VALIDITY_PERIOD_FORMAT_NONE => ValidityPeriod::None,
-        VALIDITY_PERIOD_FORMAT_RELATIVE => ValidityPeriod::Relative(octets[0]),
-        VALIDITY_PERIOD_FORMAT_ABSOLUTE => ValidityPeriod::Absolute,
-        _ => ValidityPeriod::Enhanced,
-    }
-}
-
-// The digits that stand beside it.
-fn digits_in(format: u8, octets: &[u8]) -> Time
-    requires { ⌜ length (now octets) ≡ periodSize format ⌝ }
-    ensures { λ r. ⌜ r ≡ timeIn (ofFormat 3 format (now (octets .entry))) ⌝ }
-{
-    if format != VALIDITY_PERIOD_FORMAT_ABSOLUTE {
-        return Time {
-            digits: [0u8; 14],
-            length: 0,
-        };
-    }
-    let digits = time::decode_time(octets, 0);
-    Time { digits, length: 14 }
-}
-
-// The seven octets that stand beside it.
-fn enhanced_in(format: u8, octets: &[u8]) -> [u8; 7]
-    requires { ⌜ length (now octets) ≡ periodSize format ⌝ }
-    ensures { λ r. ⌜ r ≡ pad 7 (ofFormat 1 format (now (octets .entry))) ⌝ }
-{
-    let mut enhanced = [0u8; 7];
-    if format == VALIDITY_PERIOD_FORMAT_ENHANCED {
-        octets::put_octets(&mut enhanced, 0, octets);
-    }
-    enhanced
+    refused(Refusal::OctetsEnd)
 }
 
 // The octets that a header takes; none without TP-UDHI.
@@ -258,6 +165,16 @@ fn put_readable(
     }
 }
 
+// No text.
+fn no_text() -> SubmitText
+    ensures { λ r. ⌜ r ≡ textWith [] ⌝ }
+{
+    SubmitText {
+        octets: [0u8; 510],
+        length: 0,
+    }
+}
+
 // The readable form of user data.
 fn text_in(coding: UserDataCoding, udl: u8, h: usize, data: &[u8]) -> SubmitText
     requires { ⌜ (h ≤ length (now «data»)) × (inCount coding udl h ≡ true) × (length (now «data») ≡ dataOctets coding udl) ⌝ }
@@ -268,19 +185,7 @@ fn text_in(coding: UserDataCoding, udl: u8, h: usize, data: &[u8]) -> SubmitText
     SubmitText { octets, length: n }
 }
 
-// Octets as a record holds them.
-fn data_in(octets: &[u8]) -> UserData
-    requires { ⌜ length (now octets) ≤ 255 ⌝ }
-    ensures { λ r. ⌜ r ≡ dataWith (now (octets .entry)) ⌝ }
-{
-    let array = octets::stored_octets(octets);
-    UserData {
-        octets: array,
-        length: octets.len(),
-    }
-}
-
-// The message of fields that are there: the first octet, MR, the address, PID, DCS, the validity period, UDL, and n octets of user data with a header of h octets.
+// The message of fields that are there: the first octet, MR, the address at `da`, PID, DCS, the validity period, UDL, and user data with a header of h octets.
 fn message(
     first: u8,
     mr: u8,
@@ -288,26 +193,15 @@ fn message(
     da: usize,
     pid: u8,
     dcs: u8,
-    vp: usize,
+    vp: &[u8],
     udl: u8,
-    ud: usize,
-    n: usize,
+    ud: &[u8],
     h: usize,
 ) -> SmsSubmit
-    requires { ⌜ (da + addressSize (drop da (now «data»)) ≤ length (now «data»)) × (vp + periodSize (formatIn first) ≤ length (now «data»)) × (ud + n ≤ length (now «data»)) × (n ≡ dataOctets (codingOf dcs) udl) × (h ≤ n) × (inCount (codingOf dcs) udl h ≡ true) ⌝ }
-    ensures { λ r. ⌜ r ≡ submitted first mr (canonicalAddress (cut addressKind (drop da (now («data» .entry))))) pid dcs (take (periodSize (formatIn first)) (drop vp (now («data» .entry)))) udl (take n (drop ud (now («data» .entry)))) h ⌝ }
+    requires { ⌜ (da + addressSize (drop da (now «data»)) ≤ length (now «data»)) × (length (now vp) ≡ periodSize (formatIn first)) × (length (now ud) ≡ dataOctets (codingOf dcs) udl) × (h ≤ length (now ud)) × (inCount (codingOf dcs) udl h ≡ true) ⌝ }
+    ensures { λ r. ⌜ r ≡ submitted first mr (canonicalAddress (cut addressKind (drop da (now («data» .entry))))) pid dcs (now (vp .entry)) udl (now (ud .entry)) h ⌝ }
 {
     let format = first / 8 % 4;
-    let destination = SMSAddress::decode(data, da);
-    let period_end = vp + validity_octets(format);
-    let period = period_in(format, &data[vp..period_end]);
-    let time = digits_in(format, &data[vp..period_end]);
-    let enhanced = enhanced_in(format, &data[vp..period_end]);
-    let end = ud + n;
-    let user_data = data_in(&data[ud..end]);
-    let header_end = ud + h;
-    let header = data_in(&data[ud..header_end]);
-    let text = text_in(coding::user_data_coding(dcs), udl, h, &data[ud..end]);
     SmsSubmit {
         tp_rp: first / 128 % 2 == 1,
         tp_udhi: first / 64 % 2 == 1,
@@ -317,17 +211,17 @@ fn message(
         tp_vpf: format,
         tp_mr: mr,
         has_destination_address: true,
-        tp_destination_address: destination,
+        tp_destination_address: SMSAddress::decode(data, da),
         tp_pid: pid,
         tp_dcs: dcs,
-        tp_validity_period: period,
-        validity_period_digits: time,
-        validity_period_octets: enhanced,
+        tp_validity_period: validity::period_in(format, vp),
+        validity_period_digits: validity::digits_in(format, vp),
+        validity_period_octets: validity::enhanced_in(format, vp),
         tp_user_data_length: udl,
-        tp_user_data_raw: user_data,
+        tp_user_data_raw: coding::data_with(ud),
         has_user_data_header: first / 64 % 2 == 1,
-        tp_user_data_header: header,
-        tp_user_data: text,
+        tp_user_data_header: coding::data_with(&ud[..h]),
+        tp_user_data: text_in(coding::user_data_coding(dcs), udl, h, ud),
     }
 }
 
@@ -344,17 +238,18 @@ fn behind_coding(
     requires { ⌜ (da + addressSize (drop da (now «data»)) ≤ length (now «data»)) × (place .at ≤ length (now «data»)) ⌝ }
     ensures { λ r. ⌜ r ≡ answer (readFrom (behindCoding first mr (canonicalAddress (cut addressKind (drop da (now («data» .entry))))) pid dcs) (now («data» .entry)) (place .at)) ⌝ }
 {
-    let Span::There(vp, place2) = place.span(data, validity_octets(first / 8 % 4)) else {
-        return refused(Refusal::OctetsEnd);
+    let Span::There(vp, place2) = place.span(data, validity::validity_octets(first / 8 % 4)) else {
+        return ended();
     };
     let Octet::Read(udl, place3) = place2.octet(data) else {
-        return refused(Refusal::OctetsEnd);
+        return ended();
     };
     let n = coding::user_data_octets(coding::user_data_coding(dcs), udl);
     let Span::There(ud, place4) = place3.span(data, n) else {
-        return refused(Refusal::OctetsEnd);
+        return ended();
     };
-    let end = ud + n;
+    let period_end = place2.at;
+    let end = place4.at;
     let h = header_size(first / 64 % 2 == 1, &data[ud..end]);
     if n < h {
         return refused(Refusal::HeaderNotWhole);
@@ -364,8 +259,19 @@ fn behind_coding(
     }
     SubmitRead {
         outcome: Outcome::Done,
-        message: message(first, mr, data, da, pid, dcs, vp, udl, ud, n, h),
-        octets_read: place4.at,
+        message: message(
+            first,
+            mr,
+            data,
+            da,
+            pid,
+            dcs,
+            &data[vp..period_end],
+            udl,
+            &data[ud..end],
+            h,
+        ),
+        octets_read: end,
     }
 }
 
@@ -375,149 +281,24 @@ pub fn decode_sms_submit_tpdu(data: &[u8]) -> SubmitRead
 {
     let start = Place { at: 0 };
     let Octet::Read(first, place) = start.octet(data) else {
-        return refused(Refusal::OctetsEnd);
+        return ended();
     };
     if first % 4 != MTI_SUBMIT {
         return refused(Refusal::WrongMessageType);
     }
     let Octet::Read(mr, place2) = place.octet(data) else {
-        return refused(Refusal::OctetsEnd);
+        return ended();
     };
     let Span::There(da, place3) = address::address_at(data, place2) else {
-        return refused(Refusal::OctetsEnd);
+        return ended();
     };
     let Octet::Read(pid, place4) = place3.octet(data) else {
-        return refused(Refusal::OctetsEnd);
+        return ended();
     };
     let Octet::Read(dcs, place5) = place4.octet(data) else {
-        return refused(Refusal::OctetsEnd);
+        return ended();
     };
     behind_coding(data, first, mr, da, pid, dcs, place5)
-}
-
-// Whether the digits of a validity period can be written.
-fn check_period(period: ValidityPeriod, digits: &[u8]) -> bool
-    ensures { λ r. ⌜ r ≡ timeHolds period (now (digits .entry)) ⌝ }
-{
-    match period {
-        ValidityPeriod::None => true,
-        ValidityPeriod::Relative(_) => true,
-        ValidityPeriod::Absolute => time::is_time(digits),
-        ValidityPeriod::Enhanced => true,
-    }
-}
-
-// Writes a validity period that was checked; the place behind it.
-fn put_period(
-    period: ValidityPeriod,
-    digits: &[u8],
-    enhanced: &[u8],
-    out: &mut [u8],
-    at: usize,
-) -> usize
-    requires { ⌜ (timeHolds period (now digits) ≡ true) × (length (now enhanced) ≡ 7) × (at + periodSize (formatOf period) ≤ length (now out)) ⌝ }
-    ensures { λ r. ⌜ Wrote at (periodOctets period (now (digits .entry)) (now (enhanced .entry))) (now (out .entry)) r (now (out .exit)) ⌝ }
-{
-    match period {
-        ValidityPeriod::None => at,
-        ValidityPeriod::Relative(x) => octets::put_octet(out, at, x),
-        ValidityPeriod::Absolute => time::encode_time(digits, out, at),
-        ValidityPeriod::Enhanced => octets::put_octets(out, at, enhanced),
-    }
-}
-
-// Writes parts that were checked; how many octets they take.
-fn put_parts(
-    first: u8,
-    mr: u8,
-    ton: u8,
-    npi: u8,
-    text: &[u8],
-    count: usize,
-    pid: u8,
-    dcs: u8,
-    period: ValidityPeriod,
-    digits: &[u8],
-    enhanced: &[u8],
-    udl: u8,
-    data: &[u8],
-    out: &mut [u8],
-) -> usize
-    requires { ⌜ (checkOf (addressMaking ton npi (now text)) ≡ AddressCheck.Fine count) × (timeHolds period (now digits) ≡ true) × (length (now enhanced) ≡ 7) × (7 + (count + 1) / 2 + periodSize (formatOf period) + length (now «data») ≤ length (now out)) ⌝ }
-    ensures { λ r. ⌜ Wrote 0 (octetsIn first mr ton npi (now (text .entry)) pid dcs (periodOctets period (now (digits .entry)) (now (enhanced .entry))) udl (now («data» .entry))) (now (out .entry)) r (now (out .exit)) ⌝ }
-{
-    let p1 = octets::put_octet(out, 0, first);
-    let p2 = octets::put_octet(out, p1, mr);
-    let p3 = address::put_address(ton, npi, text, count, out, p2);
-    let p4 = octets::put_octet(out, p3, pid);
-    let p5 = octets::put_octet(out, p4, dcs);
-    let p6 = put_period(period, digits, enhanced, out, p5);
-    let p7 = octets::put_octet(out, p6, udl);
-    octets::put_octets(out, p7, data)
-}
-
-// Writes the parts to the start of a lent output: checks in order, then the size, then the octets.
-fn encode_parts(
-    flags: u8,
-    mti: u8,
-    vpf: u8,
-    mr: u8,
-    there: bool,
-    ton: u8,
-    npi: u8,
-    text: &[u8],
-    pid: u8,
-    dcs: u8,
-    period: ValidityPeriod,
-    digits: &[u8],
-    enhanced: &[u8],
-    udl: u8,
-    data: &[u8],
-    out: &mut [u8],
-) -> Written
-    requires { ⌜ (flags ≤ 228) × (length (now enhanced) ≡ 7) ⌝ }
-    ensures { λ r. ⌜ (r, now (out .exit)) ≡ lend Written.Refused (making flags mti vpf mr there ton npi (now (text .entry)) pid dcs period (now (digits .entry)) (now (enhanced .entry)) udl (now («data» .entry))) (now (out .entry)) ⌝ }
-{
-    if mti != MTI_SUBMIT {
-        return Written::Refused(Refusal::WrongMessageType);
-    }
-    if vpf != period.format() {
-        return Written::Refused(Refusal::ValidityFormatDisagrees);
-    }
-    if !there {
-        return Written::Refused(Refusal::NoDestination);
-    }
-    if let Checked::Against(r) = coding::check_user_data(dcs, udl, data.len()) {
-        return Written::Refused(r);
-    }
-    match address::check_address(ton, npi, text) {
-        AddressCheck::Refused(r) => Written::Refused(r),
-        AddressCheck::Fine(count) => {
-            if !check_period(period, digits) {
-                return Written::Refused(Refusal::NotATime);
-            }
-            let first = flags + 8 * vpf + MTI_SUBMIT;
-            if out.len() < 7 + (count + 1) / 2 + validity_octets(vpf) + data.len() {
-                return Written::Refused(Refusal::OutputTooShort);
-            }
-            Written::Done(put_parts(
-                first,
-                mr,
-                ton,
-                npi,
-                text,
-                count,
-                pid,
-                dcs,
-                period,
-                digits,
-                enhanced,
-                udl,
-                data,
-                out,
-            ))
-        }
-    }
 }
 
 // A length that counts: that of an absent part doesn't.
@@ -527,44 +308,47 @@ fn length_if(there: bool, length: usize) -> usize
     if there { length } else { 0 }
 }
 
+// The flags of the first octet.
+fn flags(rp: bool, udhi: bool, srr: bool, rd: bool) -> u8
+    ensures { λ r. ⌜ (r ≡ flag rp 128 + flag udhi 64 + flag srr 32 + flag rd 4) × (r ≤ 228) ⌝ }
+{
+    octets::flag(rp, 128) + octets::flag(udhi, 64) + octets::flag(srr, 32) + octets::flag(rd, 4)
+}
+
 impl SmsSubmit {
     // Writes the message to the start of a lent output.
     pub fn encode(self, out: &mut [u8]) -> Written
         ensures { λ r. ⌜ (r, now (out .exit)) ≡ lend Written.Refused (submitting self) (now (out .entry)) ⌝ }
     {
-        let destination = self.tp_destination_address;
-        let time = self.validity_period_digits;
-        let user_data = self.tp_user_data_raw;
-        let header = self.tp_user_data_header;
-        let shown = self.tp_user_data;
         let period = self.tp_validity_period;
-        let n = length_if(self.has_destination_address, destination.address_length);
+        let n = length_if(
+            self.has_destination_address,
+            self.tp_destination_address.address_length,
+        );
         let m = length_if(
             period.format() == VALIDITY_PERIOD_FORMAT_ABSOLUTE,
-            time.length,
+            self.validity_period_digits.length,
         );
-        let k = user_data.length;
-        let h = length_if(self.has_user_data_header, header.length);
-        let fit = (n <= 290) & ((m <= 14) & ((k <= 255) & ((h <= 255) & (shown.length <= 510))));
+        let k = self.tp_user_data_raw.length;
+        let h = length_if(self.has_user_data_header, self.tp_user_data_header.length);
+        let t = self.tp_user_data.length;
+        let fit = (n <= 290) & ((m <= 14) & ((k <= 255) & ((h <= 255) & (t <= 510))));
         if !fit {
             return Written::Refused(Refusal::LengthTooLarge);
         }
-        let flags = octets::flag(self.tp_rp, 128)
-            + octets::flag(self.tp_udhi, 64)
-            + octets::flag(self.tp_srr, 32)
-            + octets::flag(self.tp_rd, 4);
-        let text = destination.address;
-        let digits = time.digits;
+        let flags = flags(self.tp_rp, self.tp_udhi, self.tp_srr, self.tp_rd);
+        let text = self.tp_destination_address.address;
+        let digits = self.validity_period_digits.digits;
         let enhanced = self.validity_period_octets;
-        let octets = user_data.octets;
-        encode_parts(
+        let octets = self.tp_user_data_raw.octets;
+        submit_writing::encode_parts(
             flags,
             self.tp_mti,
             self.tp_vpf,
             self.tp_mr,
             self.has_destination_address,
-            destination.ton,
-            destination.npi,
+            self.tp_destination_address.ton,
+            self.tp_destination_address.npi,
             &text[..n],
             self.tp_pid,
             self.tp_dcs,
@@ -576,17 +360,4 @@ impl SmsSubmit {
             out,
         )
     }
-}
-
-// Reads a message, and writes it back.
-pub fn canonical_submit(data: &[u8], out: &mut [u8]) -> Written
-    ensures { λ r. ⌜ Rewrites submit false (now («data» .entry)) (now (out .entry)) r (now (out .exit)) ⌝ }
-{
-    let read = decode_sms_submit_tpdu(data);
-    let outcome = read.outcome;
-    let message = read.message;
-    if let Outcome::Refused(r) = outcome {
-        return Written::Refused(r);
-    }
-    message.encode(out)
 }

@@ -30,7 +30,8 @@ use Rattle.parameters.specs.declared.OptionalOctet.{OptionalOctet}
 use Rattle.parameters.specs.declared.OptionalOctet.the-variants.{Absent, Present}
 use Rattle.parameters.proofs.Checking.{answers}
 use Rattle.parameters.proofs.Made.{Held, parameters-make, joined-append, past-append}
-use Rattle.submit_report.specs.SubmitReport.{reported, rest, ackLine, errorLine, stopped, ack, error, answer, octetsIn, making, reporting, Parts, parts, partsOctets}
+use Rattle.submit_report.specs.SubmitReport.{reported, rest, ackLine, errorLine, stopped, ack, error, answer, reporting, Parts, parts, partsOctets}
+use Rattle.submit_report_writing.specs.Writing.{octetsIn, making}
 use Rattle.submit_report.specs.declared.SmsSubmitReport.{SmsSubmitReport}
 use Rattle.submit_report.proofs.Writing.{by-parts}
 

@@ -4,8 +4,6 @@ use Prim.Native.Nat.{ℕ, _+_, _-_, _≤_}
 use mathlib.Core.Path.{_≡_, _∙_}
 use mathlib.Core.List.{List}
 use lib.ListN.{length, take, drop}
-use lib.Seq.{length-take-le}
-use Rattle.octets.specs.Arrays.{pad}
 use Rattle.octets.specs.Each.{Octets}
 use Rattle.octets.specs.Places.{spanAt}
 use Rattle.octets.specs.declared.Octet.{Octet}
@@ -15,9 +13,6 @@ use Rattle.octets.specs.declared.Refusal.{Refusal}
 use Rattle.octets.specs.declared.Refusal.the-variants.{OctetsEnd}
 use Rattle.octets.specs.declared.Span.{Span}
 use Rattle.octets.proofs.Places.{span-there, span-inside}
-use Rattle.coding.proofs.Laws.{data-stored}
-use Rattle.time.specs.Time.{timeDigits}
-use Rattle.time.proofs.Laws.{time-stored}
 use Rattle.layout.specs.Layout.{any, halted, readFrom, indicatorAt}
 use Rattle.layout.proofs.Steps.{indicator-goes-on, indicator-ends, span-goes-on, span-ends, then-goes-on, then-ends, done-reached}
 use Rattle.parameters.specs.Line.{parameters, parametersAnswer}
@@ -39,36 +34,22 @@ module _ {pi : ℕ} {q : Place} (s : List ℕ) (p : Place) (i : indicatorAt s p 
   parameters-there o e = parameters-told s (v .at) pi o (time-inside .1) e
 
 module _ (s : List ℕ) (p : Place) (udhi : ℕ) (cause : OptionalOctet) where
-  pub no-indicator : {why : Refusal} → indicatorAt s p ≡ Octet.Refused why → readFrom (rest udhi cause) s (p .at) ≡ halted OctetsEnd
+  pub no-indicator : indicatorAt s p ≡ Octet.Ended → readFrom (rest udhi cause) s (p .at) ≡ halted OctetsEnd
   no-indicator e = indicator-ends s p e _
 
   module _ {pi : ℕ} {q : Place} (i : indicatorAt s p ≡ Octet.Read pi q) where
-    pub no-time : {why : Refusal} → spanAt s q 7 ≡ Span.Refused why → readFrom (rest udhi cause) s (p .at) ≡ halted OctetsEnd
+    pub no-time : spanAt s q 7 ≡ Span.Ended → readFrom (rest udhi cause) s (p .at) ≡ halted OctetsEnd
     no-time e = indicator-goes-on s p i _ ∙ span-ends s q 7 e any _
 
     module _ {a : ℕ} {v : Place} (r : spanAt s q 7 ≡ Span.There a v) where
       pub no-parameters : {why : Refusal} → parametersAnswer (readFrom (parameters pi) s (v .at)) ≡ ParametersRead.Refused why → readFrom (rest udhi cause) s (p .at) ≡ halted why
       no-parameters e = indicator-goes-on s p i _ ∙ span-goes-on s q 7 r any _ ∙ then-ends s (parameters pi) (v .at) (parameters-halted s (v .at) pi e) _
 
-      pub whole : {pid dcs udl : OptionalOctet} {size : ℕ} {t : Place} {digits octets : List ℕ} → Told s (v .at) pi pid dcs udl size t → digits ≡ timeDigits (take 7 (drop a s))
-          → octets ≡ pad 255 (take size (drop (t .at - size) s))
-          → _≡_ {A = SubmitReportRead} (record {
-            outcome = Outcome.Done;
-            message = record {
-              «tp_udhi» = udhi;
-              «tp_failure_cause» = cause;
-              «tp_parameter_indicator» = pi;
-              «tp_service_centre_timestamp» = record { digits = digits; length = 14 };
-              «tp_pid» = pid;
-              «tp_dcs» = dcs;
-              «tp_user_data_length» = udl;
-              «tp_user_data» = record { octets = octets; length = size };
-            };
-          }) (answer (readFrom (rest udhi cause) s (p .at)))
-      unfolding answer reported
-      whole told d e =
-          let (h, at, to) = span-there s q 7 r in
-          rw (indicator-goes-on s p i, span-goes-on s q 7 r, then-goes-on s (parameters pi) (v .at) (told .is), done-reached, time-stored (take 7 (drop (q .at) s)) (length-take-le 7 (drop (q .at) s) h) (d ∙ rw at), data-stored _ (told .counted) e)
+      pub whole : {pid dcs udl : OptionalOctet} {size : ℕ} {t : Place} → Told s (v .at) pi pid dcs udl size t
+          → _≡_ {A = SubmitReportRead} (record { outcome = Outcome.Done; message = reported udhi cause pi (take 7 (drop a s)) (record { pid = pid; dcs = dcs; udl = udl; ud = take size (drop (t .at - size) s) }) })
+          (answer (readFrom (rest udhi cause) s (p .at)))
+      unfolding answer
+      whole told = rw (indicator-goes-on s p i, span-goes-on s q 7 r, then-goes-on s (parameters pi) (v .at) (told .is), done-reached, span-there s q 7 r .1)
 
 -- ---- the first octet, and the cause
 

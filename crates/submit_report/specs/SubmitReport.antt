@@ -1,23 +1,21 @@
 -- SMS-SUBMIT-REPORT (TS 23.040 §9.2.2.2a): its two lines, its readers' answers, and what its writer makes.
-use Prim.Native.Nat.{ℕ, _+_, _*_}
+use Prim.Native.Nat.{ℕ}
 use mathlib.Core.Bool.{_&&_}
-use mathlib.Core.List.{List, [], _∷_, _++_}
+use mathlib.Core.List.{List, [], _∷_}
 use lib.Dec.{leb}
 use lib.ListN.{length}
-use Rattle.octets.specs.Checks.{_unless_, checked}
 use Rattle.octets.specs.Choice.{if_then_else_}
 use Rattle.octets.specs.Lent.{Making, refused}
 use Rattle.octets.specs.declared.Outcome.{Outcome}
-use Rattle.octets.specs.declared.Refusal.the-variants.{LengthTooLarge, UdhiTooLarge, NotATime}
+use Rattle.octets.specs.declared.Refusal.the-variants.{LengthTooLarge}
 use Rattle.octets.specs.declared.Written.{Written}
 use Rattle.coding.specs.Coding.{dataWith, dataOf}
-use Rattle.time.specs.Time.{isTime, timeOctets, timeIn, digitsOf, capitals}
+use Rattle.time.specs.Time.{timeIn, digitsOf, capitals}
 use Rattle.layout.specs.Layout.{indicator, bit, leading, Format, field, time, done, _then_, message, one, Reached, reached, halted, Layout, plain, stopping}
-use Rattle.parameters.specs.Checking.{indicatorChecks, dataChecks}
-use Rattle.parameters.specs.Line.{Parameters, parameters, parametersOctets, noParameters}
-use Rattle.parameters.specs.Optional.{octetsHeld}
+use Rattle.parameters.specs.Line.{Parameters, parameters, noParameters}
 use Rattle.parameters.specs.declared.OptionalOctet.{OptionalOctet}
 use Rattle.parameters.specs.declared.OptionalOctet.the-variants.{Absent, Present}
+use Rattle.submit_report_writing.specs.Writing.{octetsIn, making}
 use Rattle.submit_report.specs.declared.SubmitReportRead.{SubmitReportRead}
 use Rattle.submit_report.specs.declared.SmsSubmitReport.{SmsSubmitReport}
 
@@ -72,17 +70,6 @@ answer (reached r n) = record { outcome = Outcome.Done; message = r }
 answer (halted why) = record { outcome = Outcome.Refused why; message = causeAlone Absent }
 
 -- ---- writing
-
--- UDHI in bit 6, MTI 1; cause, indicator, time, parameters
-abbrev pub octetsIn : ℕ → OptionalOctet → ℕ → List ℕ → Parameters → List ℕ
-octetsIn udhi cause pi digits p = (64 * udhi + 1) ∷ (octetsHeld cause ++ (pi ∷ (timeOctets digits ++ parametersOctets p)))
-
--- what a writer makes of the parts: 4, 13, 14, 12, 7, 8, 15
-unfoldable pub making : ℕ → OptionalOctet → ℕ → List ℕ → Parameters → Making Written
-making udhi cause pi digits p =
-    checked
-    ((UdhiTooLarge unless leb udhi 1) ∷ (indicatorChecks pi (p .pid) (p .dcs) (p .udl) ++ ((NotATime unless isTime digits) ∷ dataChecks (p .dcs) (p .udl) (length (p .ud)))))
-    (octetsIn udhi cause pi digits p)
 
 -- the parameters of a record
 abbrev pub parametersOf : SmsSubmitReport → Parameters

@@ -1,33 +1,24 @@
 -- What holds of every text that is read, and of every text that is packed.
 -- Assumes nothing.
 use Prim.Native.Nat.{ℕ, suc, _+_, _*_, _<_, _≤_}
-use mathlib.Core.Path.{_≡_, refl, sym, _∙_, ap, ap₂}
+use mathlib.Core.Path.{_≡_, refl, ap}
 use mathlib.Core.Bool.{Bool, true, false}
 use mathlib.Core.List.{List, [], _∷_, _++_, append-nil}
 use mathlib.Core.Option.{Option, none, some}
-use mathlib.Core.Logic.{_↔_}
 use native.Mathlib.Omega.{arith}
-use native.Mathlib.Nat.{zero-add}
-use borrow.Author.Tests.{eqb-true, eqb-false, ltb-true, ltb-false}
-use lib.Dec.{eqb, ltb}
-use lib.ListN.{length, getD, length-append}
+use borrow.Author.Tests.{eqb-true, eqb-false}
+use lib.Dec.{eqb}
+use lib.ListN.{length, length-append}
 use Rattle.octets.specs.Choice.{if_then_else_}
-use Rattle.octets.specs.Lent.{Making, refused, made}
-use Rattle.octets.specs.declared.Refusal.the-variants.{NotInAlphabet, TooManySeptets}
-use Rattle.septets.specs.Septets.{Digits, octetCount, septetsIn, packedSeptets, headerSeptets}
-use Rattle.septets.proofs.Inverse.{septets-septets, length-septets, length-packed}
+use Rattle.septets.specs.Septets.{Digits, septetsIn}
+use Rattle.septets.proofs.Inverse.{septets-septets, length-septets}
 use Rattle.text.specs.declared.Extension.{Extension}
-use Rattle.text.specs.declared.Packed.{Packed}
-use Rattle.text.specs.Alphabet.{extension, row, rowWith, character, characterOr, escaped}
-use Rattle.text.specs.Reading.{utf8, textOf, afterEscape, shown, unpacked}
-use Rattle.text.specs.Writing.{septetsOf, packing}
+use Rattle.text.specs.Alphabet.{extension, rowWith, character, characterOr, escaped}
+use Rattle.text.specs.Reading.{utf8, textOf, afterEscape}
 use Rattle.text.specs.Characters.{Entry, plain, extended, octetsFor, septetsFor, spelled, coded}
 use Rattle.text.proofs.Rows.{Stands, row-stands}
 use Rattle.text.proofs.Tables.{short, short-escaped}
 use Rattle.text.proofs.Utf8.{utf8-one}
-use Rattle.text.proofs.Reading.{unpacked-done}
-use Rattle.text.proofs.Adequate.{adequate, entries-of, written, text-packed-text}
-use Rattle.text.proofs.Packing.{length-behind, packing-none, packing-many, packing-done, packing-made}
 
 tail : (s : ℕ) (ss : List ℕ) → Digits 7 (s ∷ ss) → Digits 7 ss
 tail s ss d i = d (suc i)
@@ -99,40 +90,3 @@ readables (s ∷ ss) d =
 -- every octet of text that is read is that of a character of the tables
 pub read-spelled : (ss : List ℕ) → Digits 7 ss → (es : List Entry) × (spelled es ≡ textOf ss) × (length (coded es) ≤ length ss)
 read-spelled ss d = readables ss d .0
-
--- so a text that was read can be written, in no more septets
-pub read-writable : (ss : List ℕ) → Digits 7 ss → (ks : List ℕ) × (septetsOf (textOf ss) ≡ some ks) × (length ks ≤ length ss)
-read-writable ss d = let r = read-spelled ss d in (coded (r .0), adequate (textOf ss) (coded (r .0)) .1 (r .0, r .1, refl), r .2)
-
--- ---- packing
-
--- refused with 10 exactly when the text is not characters of the tables, one after the other
-pub refused-with-10 : (header text : List ℕ) → (packing header text ≡ refused NotInAlphabet) ↔ ((es : List Entry) → spelled es ≡ text → ⊥)
-refused-with-10 header text = by-septets (septetsOf text) refl
-  where
-    clash : (ss : List ℕ) → septetsOf text ≡ some ss → packing header text ≡ refused NotInAlphabet → (t : Bool) → ltb 255 (headerSeptets (length header) + length ss) ≡ t → ⊥
-    clash ss e p true q = let r = packing-many header text ss e (ltb-true _ _ q) in let z : _≡_ {A = ℕ} 0 1 = cc in omega arith
-    clash ss e p false q = let r = packing-done header text ss e (ltb-false _ _ q) in let z : _≡_ {A = ℕ} 0 1 = cc in omega arith
-
-    by-septets : (o : Option (List ℕ)) → septetsOf text ≡ o → (packing header text ≡ refused NotInAlphabet) ↔ ((es : List Entry) → spelled es ≡ text → ⊥)
-    by-septets none e = ((λ p es q. let w = sym (written es) ∙ ap septetsOf q ∙ e in let z : _≡_ {A = ℕ} 0 1 = cc in omega arith), λ h. packing-none header text e)
-    by-septets (some ss) e =
-        ((λ p es q. clash ss e p (ltb 255 (headerSeptets (length header) + length ss)) refl), λ h. absurd (let w = entries-of text ss e in h (w .0) (w .1)))
-
--- the counts that a packer answers: the octets are those of the septets (TP-UDL), and never pass 224
-pub packing-counts : (header text xs : List ℕ) (a : Packed) → packing header text ≡ made xs a
-    → (a .octets ≡ length xs) × (length xs ≡ octetCount 0 (a .septets)) × (length xs ≤ 224)
-packing-counts header text xs a p =
-    let m = packing-made header text xs a p in
-    let long = ap length (m .3) ∙ length-behind header (m .0) in
-    (ap (λ (b : Packed). b .octets) (m .4) ∙ sym (ap length (m .3)), long ∙ ap (λ (b : Packed). octetCount 0 (b .septets)) (sym (m .4)), omega (arith, m .2, long))
-
--- what was packed reads back as the text
-pub packed-reads : (text xs : List ℕ) (a : Packed) → packing [] text ≡ made xs a → unpacked xs 0 (a .septets) ≡ shown text
-packed-reads text xs a p =
-    let m = packing-made [] text xs a p in
-    let n : a .septets ≡ length (m .0) = ap (λ (b : Packed). b .septets) (m .4) ∙ zero-add _ in
-    let few : length (m .0) ≤ 255 = omega (arith, m .2) in
-    ap₂ (λ (os : List ℕ) (k : ℕ). unpacked os 0 k) (m .3) n
-    ∙ unpacked-done (packedSeptets 0 (m .0)) 0 (length (m .0)) few (rw length-packed (omega arith))
-    ∙ ap shown (text-packed-text 0 text (m .0) (m .1))

@@ -1,10 +1,5 @@
 pub mod Utf8
 pub mod Rows
 pub mod Tables
-pub mod ByCharacter
-pub mod Decoding
 pub mod Reading
-pub mod Scanning
-pub mod Adequate
-pub mod Packing
 pub mod Laws

@@ -5,13 +5,12 @@ use mathlib.Core.Path.{_≡_, refl, sym, ap, _∙_}
 use mathlib.Core.Bool.{Bool, true, false}
 use mathlib.Core.List.{List, [], _∷_, _++_}
 use native.Mathlib.Omega.{arith}
-use native.Mathlib.Nat.{sub-zero, add-zero}
+use native.Mathlib.Nat.{sub-zero, add-zero, zero-add}
 use native.Mathlib.Numerals.{add-one, add-two}
 use lib.ListN.{length, replicate}
-use lib.Seq.{sets}
 use lib.Dec.{ltb}
 use borrow.Author.Tests.{lt-ltb, le-ltb, eq-eqb, ne-eqb, ltb-true, ltb-false}
-use Rattle.octets.specs.Arrays.{pad}
+use Rattle.octets.specs.Lent.{Wrote}
 use Rattle.octets.specs.declared.Refusal.{Refusal}
 use Rattle.octets.specs.declared.Refusal.the-variants.{LengthTooLarge, TooFewOctets}
 use Rattle.octets.specs.declared.Outcome.the-variants.{Done, Refused}
@@ -104,12 +103,8 @@ module _ (os : List ℕ) (f n : ℕ) where
         by-test true p = ltb-true _ _ p
         by-test false p = let q = sym d ∙ ap (λ (v : Unpacked). v .outcome) (e ∙ unpacked-done (ltb-false _ _ p)) in let z : _≡_ {A = ℕ} 0 1 = cc in absurd (omega arith)
 
-    -- a text stored from the start of the array
-    pub unpacked-whole : octetCount f n ≤ length os → (text : List ℕ) (length′ : ℕ) → length′ ≤ 510 → length′ ≡ 0 + length (textOf (septetsIn os f n))
-        → text ≡ sets (replicate 510 0) 0 (textOf (septetsIn os f n)) → _≡_ {A = Unpacked} (record { outcome = Done; text = text; «text_length» = length′ }) (unpacked os f n)
-    unfolding shown
-    unpacked-whole h text length′ l e p =
-        let whole = textOf (septetsIn os f n) in
-        let q : text ≡ pad 510 whole = p ∙ sets-zeros 510 whole (omega arith) in
-        let r : length′ ≡ length whole = omega arith in
-        rw (unpacked-done h, q, r)
+-- a text stored from the start of the array
+pub shown-whole : (text : List ℕ) → length text ≤ 510 → {n : ℕ} {array : List ℕ} → Wrote 0 text (replicate 510 0) n array
+    → _≡_ {A = Unpacked} (record { outcome = Done; text = array; «text_length» = n }) (shown text)
+unfolding shown
+shown-whole text h w = rw (w .place, w .list, zero-add, sets-zeros 510 text h)

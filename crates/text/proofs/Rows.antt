@@ -1,7 +1,7 @@
 -- A search of the extension table from the front, by either column; and the places of what is found.
 -- Assumes nothing.
 use Prim.Native.Nat.{ℕ, zero, suc, _+_, _<_, _≤_}
-use mathlib.Core.Path.{_≡_, refl, sym, _∙_}
+use mathlib.Core.Path.{_≡_, refl}
 use mathlib.Core.Bool.{Bool, true, false}
 use mathlib.Core.List.{List, [], _∷_}
 use mathlib.Core.Option.{Option, none, some}
@@ -19,13 +19,14 @@ use Rattle.text.specs.Alphabet.{row, rowWith, indexOf}
 module _ (column : Extension → ℕ) (x : ℕ) where
   -- what is found from place i on
   module _ (es : List Extension) (i : ℕ) where
-    pub row-here : i < length es → column (getD es i (row 0 0)) ≡ x → rowWith column x (drop i es) ≡ some (getD es i (row 0 0))
-    unfolding rowWith
-    row-here h e = rw (drop-cons es i (row 0 0) h, eq-eqb _ _ e)
+    module _ (h : i < length es) {e : Extension} (at : e ≡ getD es i (row 0 0)) where
+      pub row-here : column e ≡ x → rowWith column x (drop i es) ≡ some e
+      unfolding rowWith
+      row-here p = rw (drop-cons es i (row 0 0) h, ← at, eq-eqb (column e) x p)
 
-    pub row-next : i < length es → (column (getD es i (row 0 0)) ≡ x → ⊥) → rowWith column x (drop i es) ≡ rowWith column x (drop (i + 1) es)
-    unfolding rowWith
-    row-next h e = rw (add-one, drop-cons es i (row 0 0) h, ne-eqb _ _ e)
+      pub row-next : (column e ≡ x → ⊥) → rowWith column x (drop i es) ≡ rowWith column x (drop (i + 1) es)
+      unfolding rowWith
+      row-next p = rw (add-one, drop-cons es i (row 0 0) h, ← at, ne-eqb (column e) x p)
 
     pub row-end : length es ≤ i → rowWith column x (drop i es) ≡ none
     unfolding rowWith

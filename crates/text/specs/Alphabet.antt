@@ -1,7 +1,6 @@
 -- The default alphabet and its extension table (TS 23.038 §6.2.1, §6.2.1.1), as code points.
 use Prim.Native.Nat.{ℕ, zero, suc}
 use mathlib.Core.Path.{_≡_, refl}
-use mathlib.Core.Bool.{Bool, true, false}
 use mathlib.Core.List.{List, [], _∷_}
 use mathlib.Core.Option.{Option, none, some}
 use lib.ListN.{getD}

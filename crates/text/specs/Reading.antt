@@ -1,7 +1,6 @@
 -- The text of septets (TS 23.038 §6.2.1.1), in UTF-8, and what the text readers answer.
-use Prim.Native.Nat.{ℕ, _+_, _-_, _*_, _/_, _%_}
+use Prim.Native.Nat.{ℕ, _+_, _/_, _%_}
 use mathlib.Core.Path.{_≡_, refl}
-use mathlib.Core.Bool.{Bool, true, false}
 use mathlib.Core.List.{List, [], _∷_, _++_}
 use lib.ListN.{length}
 use lib.Dec.{eqb, ltb}

@@ -1,13 +1,11 @@
 // Times (TS 23.040 §9.2.3.11): fourteen digits and seven octets.
 ghost use mathlib.Core.Path.{_≡_};
 ghost use mathlib.Core.Bool.{true};
-ghost use Prim.Native.Nat.{_+_, _*_, _/_, _%_, _≤_, _<_};
-ghost use lib.IntN.{natAbs};
+ghost use mathlib.Core.List.{[]};
+ghost use Prim.Native.Nat.{_+_, _≤_, _<_};
 ghost use lib.ListN.{length, take, drop};
 ghost use Rattle.octets.specs.Lent.{Wrote};
-ghost use Rattle.time.specs.Time.{hexDigit, isHex, hexValue, timeDigits, timeOctets, isTime, inCalendar, refusedDigits, zoneSign, timestamp};
-use octets::Outcome;
-use octets::Refusal;
+ghost use Rattle.time.specs.Time.{hexDigit, isHex, hexValue, timeDigits, timeIn, timeOctets, isTime};
 
 // A time as a record holds it: digits, and how many there are.
 pub struct Time {
@@ -86,92 +84,23 @@ pub fn decode_time(data: &[u8], at: usize) -> [u8; 14]
     digits
 }
 
-// How `timestamp_digits` ended, and the digits; zero octets on a refusal.
-pub struct TimestampDigits {
-    pub outcome: Outcome,
-    pub digits: [u8; 14],
-}
-
-// A refusal, with no digits.
-fn refused(why: Refusal) -> TimestampDigits
-    ensures { λ r. ⌜ r ≡ refusedDigits why ⌝ }
+// The time of the seven octets from `at` on.
+pub fn time_at(data: &[u8], at: usize) -> Time
+    requires { ⌜ at + 7 ≤ length (now «data») ⌝ }
+    ensures { λ r. ⌜ r ≡ timeIn (take 7 (drop at (now («data» .entry)))) ⌝ }
 {
-    TimestampDigits {
-        outcome: Outcome::Refused(why),
-        digits: [0; 14],
+    Time {
+        digits: decode_time(data, at),
+        length: 14,
     }
 }
 
-// Every part but the zone is in its range.
-fn in_calendar(year: u8, month: u8, day: u8, hour: u8, minute: u8, second: u8) -> bool
-    ensures { λ r. ⌜ r ≡ inCalendar year month day hour minute second ⌝ }
+// No time.
+pub fn no_time() -> Time
+    ensures { λ r. ⌜ r ≡ timeIn [] ⌝ }
 {
-    (year <= 99)
-        & ((1 <= month) & (month <= 12))
-        & ((1 <= day) & (day <= 31))
-        & (hour <= 23)
-        & (minute <= 59)
-        & (second <= 59)
-}
-
-// A zone without its sign.
-fn quarter_hours(zone: i8) -> u8
-    ensures { λ r. ⌜ r ≡ natAbs zone ⌝ }
-{
-    if zone < 0 {
-        -(zone as i16) as u8
-    } else {
-        zone as u8
-    }
-}
-
-// Bit 3 of the seventh octet says that the zone is negative.
-const NEGATIVE: u8 = 8;
-
-// The sign of a zone.
-fn zone_sign(zone: i8) -> u8
-    ensures { λ r. ⌜ (r ≡ zoneSign zone) × (r ≤ 8) ⌝ }
-{
-    if zone < 0 { NEGATIVE } else { 0 }
-}
-
-// The octet whose digits are the two decimal digits of a value.
-fn decimal_octet(value: u8) -> u8
-    ensures { λ r. ⌜ r ≡ value / 10 + 16 * (value % 10) ⌝ }
-{
-    value / 10 + 16 * (value % 10)
-}
-
-// The fourteen digits of a time from its parts: two decimal digits each, and the sign of the zone in its first digit.
-pub fn timestamp_digits(
-    year: u8,
-    month: u8,
-    day: u8,
-    hour: u8,
-    minute: u8,
-    second: u8,
-    time_zone_quarter_hours: i8,
-) -> TimestampDigits
-    ensures { λ r. ⌜ r ≡ timestamp year month day hour minute second «time_zone_quarter_hours» ⌝ }
-{
-    if !in_calendar(year, month, day, hour, minute, second) {
-        return refused(Refusal::CalendarOutOfRange);
-    }
-    let quarters = quarter_hours(time_zone_quarter_hours);
-    if 79 < quarters {
-        return refused(Refusal::ZoneOutOfRange);
-    }
-    let octets = [
-        decimal_octet(year),
-        decimal_octet(month),
-        decimal_octet(day),
-        decimal_octet(hour),
-        decimal_octet(minute),
-        decimal_octet(second),
-        decimal_octet(quarters) + zone_sign(time_zone_quarter_hours),
-    ];
-    TimestampDigits {
-        outcome: Outcome::Done,
-        digits: decode_time(&octets, 0),
+    Time {
+        digits: [0u8; 14],
+        length: 0,
     }
 }

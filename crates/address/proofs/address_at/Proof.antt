@@ -10,7 +10,7 @@ use denote.Ref.{now}
 use lib.ListN.{length, getD, drop, length-drop}
 use lib.Seq.{getD-drop}
 use Rattle.octets.specs.Places.{spanAt}
-use Rattle.octets.proofs.Places.{octet-read, octet-refused}
+use Rattle.octets.proofs.Places.{octet-read, octet-ended}
 use Rattle.address.specs.Address.{addressSize}
 use Rattle.address.specs.Parts.{fieldAt}
 use Rattle.address.proofs.address_at.Statement.{statement}
@@ -20,8 +20,8 @@ returns : tie.Need-returns
 unfolding fieldAt
 returns c =
     let a = c .before .before .before .before .args in
-    let r = octet-refused (now (a .«data»)) (a .place) (sym (c .before .before .octet .ensures) ∙ c .enum-told .given .1) in
-    rw (lt-leb (addressSize (drop (a .place .at) (now (a .«data»)))) (length (drop (a .place .at) (now (a .«data»)))) (rw length-drop (omega (arith, r .0))))
+    let r = octet-ended (now (a .«data»)) (a .place) (sym (c .before .before .octet .ensures) ∙ c .enum-told .given .1) in
+    rw (lt-leb (addressSize (drop (a .place .at) (now (a .«data»)))) (length (drop (a .place .at) (now (a .«data»)))) (rw length-drop (omega (arith, r))))
 
 returns-2 : tie.Need-returns-2
 unfolding fieldAt spanAt

@@ -9,12 +9,12 @@ use mathlib.Core.Option.{some}
 use denote.Ref.{now}
 use lib.ListN.{length, replicate}
 use lib.Seq.{sets}
-use Rattle.text.specs.Writing.{septetsOf}
-use Rattle.text.proofs.Packing.{scanned-some, scanned-not}
+use Rattle.scanning.specs.Writing.{septetsOf}
+use Rattle.scanning.proofs.Scanning.{scanned-some, scanned-not}
 use Rattle.address.proofs.Checks.{text-none, text-long, text-fine}
 use Rattle.address.proofs.check_text.Reads as reads
 use Rattle.address.proofs.check_text.Lts as lts
-use Rattle.text.proofs.scan_text.Reads as scan-text-reads
+use Rattle.scanning.proofs.scan_text.Reads as scan-text-reads
 use Rattle.address.proofs.check_text.Statement.{statement}
 use Rattle.address.proofs.check_text.Tie as tie
 

@@ -10,7 +10,7 @@ use denote.Ref.{now}
 use lib.ListN.{length, set, length-set}
 use lib.Seq.{length-sets}
 use Rattle.octets.specs.Lent.{Wrote}
-use Rattle.text.specs.Writing.{septetsOf}
+use Rattle.scanning.specs.Writing.{septetsOf}
 use Rattle.address.specs.Address.{octetsOr}
 use Rattle.address.specs.Parts.{Spells, septetsOr}
 use Rattle.address.proofs.Checks.{fine-range, fine-text, fine-digits, fine-small, wrote-field}

@@ -10,13 +10,13 @@ use denote.Ref.{now}
 use lib.ListN.{length, take, replicate}
 use lib.Seq.{sets, length-sets, length-take-le}
 use Rattle.septets.specs.Septets.{Digits, octetCount}
-use Rattle.text.specs.Writing.{septetsOf}
-use Rattle.text.proofs.Adequate.{septets-digits}
-use Rattle.text.proofs.Packing.{scanned-some, scanned-not, codes-are}
+use Rattle.scanning.specs.Writing.{septetsOf}
+use Rattle.scanning.proofs.Adequate.{septets-digits}
+use Rattle.scanning.proofs.Scanning.{scanned-some, scanned-not, codes-are}
 use Rattle.address.specs.Parts.{Spells, septetsOr}
 use Rattle.address.proofs.put_text.Reads as reads
 use Rattle.address.proofs.put_text.Lts as lts
-use Rattle.text.proofs.scan_text.Reads as scan-text-reads
+use Rattle.scanning.proofs.scan_text.Reads as scan-text-reads
 use Rattle.septets.proofs.pack_octets.Reads as pack-octets-reads
 use Rattle.address.proofs.put_text.Statement.{statement}
 use Rattle.address.proofs.put_text.Tie as tie

@@ -1,6 +1,6 @@
 -- `coding::user_data_octets` meets its contract: each arm knows its coding.
 -- Assumes nothing.
-use borrow.Author.Needs.{needs}
+use native.Mathlib.Omega.{arith}
 use Rattle.coding.specs.Coding.{dataOctets}
 use Rattle.coding.proofs.user_data_octets.Statement.{statement}
 use Rattle.coding.proofs.user_data_octets.Tie as tie
@@ -10,12 +10,12 @@ unfolding dataOctets
 user-data-octets-spec =
     tie.close
     (tie.spec
-    (λ c. search needs)
-    (λ c. search needs)
-    (λ c. search needs)
-    (λ c. search needs)
-    (λ c. search needs)
-    (λ c. search needs)
+    (λ c. omega arith)
+    (λ c. omega arith)
+    (λ c. omega arith)
+    (λ c. omega arith)
+    (λ c. omega arith)
+    (λ c. omega arith)
     (λ c. rw (c .enum-told .given .1))
     (λ c. rw (c .enum-told2 .given .1))
     (λ c. rw (c .enum-told3 .given .1))

@@ -20,7 +20,7 @@ few s o dcs udl at e size = omega (arith, o at, data-at-most (codingOf dcs) udl)
 
 returns-5 : tie.Need-returns-5
 returns-5 c =
-    c .refused5 .ensures
+    c .ended5 .ensures
     ∙ answer-ends (no-data _ _ _ _ (sym (c .before .before .before .before .before .before .before .before .before .before .before .before .before .before .before .before .before .before .before .before .before .octet .ensures) ∙ c .before .before .before .before .before .before .before .before .before .before .before .before .before .before .before .before .before .before .before .pid .given .1) (sym (c .before .before .before .before .before .before .before .before .before .before .before .before .before .before .before .before .before .octet2 .ensures) ∙ c .before .before .before .before .before .before .before .before .before .before .before .before .before .before .before .dcs .given .1) (sym (c .before .before .before .before .before .before .before .before .before .before .before .before .before .span .ensures) ∙ c .before .before .before .before .before .before .before .before .before .before .before .scts .given .1) (sym (c .before .before .before .before .before .before .before .before .before .octet3 .ensures) ∙ c .before .before .before .before .before .before .before .udl .given .1) _ (size-told _ _ (c .before .before .before .before .user-data-octets .ensures) (c .before .before .before .before .before .user-data-coding .ensures)) (sym (c .before .before .before .span2 .ensures) ∙ c .before .enum-told5 .given .1))
 
 message-requires : tie.Need-message-requires
@@ -49,22 +49,22 @@ behind-address-spec =
     (λ c. search needs)
     (λ c. search needs)
     (λ c κs. tt)
-    (λ c. c .refused .ensures ∙ answer-ends (no-pid _ _ _ _ (sym (c .before .before .before .octet .ensures) ∙ c .before .enum-told .given .1)))
+    (λ c. c .ended .ensures ∙ answer-ends (no-pid _ _ _ _ (sym (c .before .before .before .octet .ensures) ∙ c .before .enum-told .given .1)))
     (λ c κs. tt)
     (λ c. search needs)
     (λ c. search needs)
     (λ c κs. tt)
-    (λ c. c .refused2 .ensures ∙ answer-ends (no-dcs _ _ _ _ (sym (c .before .before .before .before .before .before .before .octet .ensures) ∙ c .before .before .before .before .before .pid .given .1) (sym (c .before .before .before .octet2 .ensures) ∙ c .before .enum-told2 .given .1)))
+    (λ c. c .ended2 .ensures ∙ answer-ends (no-dcs _ _ _ _ (sym (c .before .before .before .before .before .before .before .octet .ensures) ∙ c .before .before .before .before .before .pid .given .1) (sym (c .before .before .before .octet2 .ensures) ∙ c .before .enum-told2 .given .1)))
     (λ c κs. tt)
     (λ c. search needs)
     (λ c. search needs)
     (λ c κs. tt)
-    (λ c. c .refused3 .ensures ∙ answer-ends (no-time _ _ _ _ (sym (c .before .before .before .before .before .before .before .before .before .before .before .octet .ensures) ∙ c .before .before .before .before .before .before .before .before .before .pid .given .1) (sym (c .before .before .before .before .before .before .before .octet2 .ensures) ∙ c .before .before .before .before .before .dcs .given .1) (sym (c .before .before .before .span .ensures) ∙ c .before .enum-told3 .given .1)))
+    (λ c. c .ended3 .ensures ∙ answer-ends (no-time _ _ _ _ (sym (c .before .before .before .before .before .before .before .before .before .before .before .octet .ensures) ∙ c .before .before .before .before .before .before .before .before .before .pid .given .1) (sym (c .before .before .before .before .before .before .before .octet2 .ensures) ∙ c .before .before .before .before .before .dcs .given .1) (sym (c .before .before .before .span .ensures) ∙ c .before .enum-told3 .given .1)))
     (λ c κs. tt)
     (λ c. search needs)
     (λ c. search needs)
     (λ c κs. tt)
-    (λ c. c .refused4 .ensures ∙ answer-ends (no-udl _ _ _ _ (sym (c .before .before .before .before .before .before .before .before .before .before .before .before .before .before .before .octet .ensures) ∙ c .before .before .before .before .before .before .before .before .before .before .before .before .before .pid .given .1) (sym (c .before .before .before .before .before .before .before .before .before .before .before .octet2 .ensures) ∙ c .before .before .before .before .before .before .before .before .before .dcs .given .1) (sym (c .before .before .before .before .before .before .before .span .ensures) ∙ c .before .before .before .before .before .scts .given .1) (sym (c .before .before .before .octet3 .ensures) ∙ c .before .enum-told4 .given .1)))
+    (λ c. c .ended4 .ensures ∙ answer-ends (no-udl _ _ _ _ (sym (c .before .before .before .before .before .before .before .before .before .before .before .before .before .before .before .octet .ensures) ∙ c .before .before .before .before .before .before .before .before .before .before .before .before .before .pid .given .1) (sym (c .before .before .before .before .before .before .before .before .before .before .before .octet2 .ensures) ∙ c .before .before .before .before .before .before .before .before .before .dcs .given .1) (sym (c .before .before .before .before .before .before .before .span .ensures) ∙ c .before .before .before .before .before .scts .given .1) (sym (c .before .before .before .octet3 .ensures) ∙ c .before .enum-told4 .given .1)))
     (λ c κs. tt)
     (λ c κs. tt)
     (λ c κs. tt)

@@ -1,9 +1,8 @@
 -- `deliver_report::decode_rest` meets its contract: indicator, then parameters.
 -- Assumes nothing.
 use mathlib.Core.Path.{sym, ap, _∙_}
-use native.Mathlib.Omega.{arith}
 use borrow.Author.Needs.{needs}
-use Rattle.parameters.proofs.Reading.{parameters-behind, stored}
+use Rattle.parameters.proofs.Reading.{parameters-behind}
 use Rattle.deliver_report.specs.DeliverReport.{answer}
 use Rattle.deliver_report.proofs.Reading.{no-indicator, no-parameters, whole}
 use Rattle.deliver_report.proofs.decode_rest.Statement.{statement}
@@ -11,42 +10,26 @@ use Rattle.deliver_report.proofs.decode_rest.Tie as tie
 
 returns : tie.Need-returns
 unfolding answer
-returns c = c .refused .ensures ∙ ap answer (sym (no-indicator _ _ _ _ (sym (c .before .before .before .read-indicator .ensures) ∙ c .before .enum-told .given .1)))
+returns c = c .ended .ensures ∙ ap answer (sym (no-indicator _ _ _ _ (sym (c .before .before .before .read-indicator .ensures) ∙ c .before .enum-told .given .1)))
 
 returns-2 : tie.Need-returns-2
 unfolding answer
 returns-2 c =
     let k = c .before .before .before .before .before in
-    c .refused2 .ensures
+    c .refused .ensures
     ∙ ap answer (sym (no-parameters _ _ _ _ (sym (k .before .before .before .read-indicator .ensures) ∙ k .before .indicator .given .1) (sym (c .before .before .before .before .read-parameters .ensures) ∙ c .before .before .r .given .1)))
 
-sub-start : tie.Need-sub-start
-sub-start c =
+there : tie.Need-report-requires
+there c κs =
     let k = c .before .before .before .before in
-    let i = sym (k .before .before .before .read-indicator .ensures) ∙ k .before .indicator .given .1 in
-    let told = parameters-behind _ _ i (λ j. k .before .before .before .before .shared-slice-known .given j .fits) (sym (c .before .before .before .read-parameters .ensures) ∙ c .before .pid .given .1) in
-    omega (arith, told .start)
-
-part-stored-octets-end : tie.Need-part-stored-octets-end
-part-stored-octets-end c =
-    let k = c .before .before .before .before in
-    let i = sym (k .before .before .before .read-indicator .ensures) ∙ k .before .indicator .given .1 in
-    let told = parameters-behind _ _ i (λ j. k .before .before .before .before .shared-slice-known .given j .fits) (sym (c .before .before .before .read-parameters .ensures) ∙ c .before .pid .given .1) in
-    omega (arith, told .end)
-
-stored-octets-requires : tie.Need-stored-octets-requires
-stored-octets-requires c κs =
-    let k = c .before .before .before .before .before in
-    let i = sym (k .before .before .before .read-indicator .ensures) ∙ k .before .indicator .given .1 in
-    let told = parameters-behind _ _ i (λ j. k .before .before .before .before .shared-slice-known .given j .fits) (sym (c .before .before .before .before .read-parameters .ensures) ∙ c .before .before .pid .given .1) in
-    omega (arith, told .counted, told .few)
+    let told = parameters-behind _ _ (sym (k .before .before .before .read-indicator .ensures) ∙ k .before .indicator .given .1) (λ j. k .before .before .before .before .shared-slice-known .given j .fits) (sym (c .before .before .before .read-parameters .ensures) ∙ c .before .pid .given .1) in
+    (told .start, told .end, told .few)
 
 returns-3 : tie.Need-returns-3
 returns-3 c =
-    let k = c .before .before .before .before .before .before in
+    let k = c .before .before .before .before .before in
     let i = sym (k .before .before .before .read-indicator .ensures) ∙ k .before .indicator .given .1 in
-    let told = parameters-behind _ _ i (λ j. k .before .before .before .before .shared-slice-known .given j .fits) (sym (c .before .before .before .before .before .read-parameters .ensures) ∙ c .before .before .before .pid .given .1) in
-    whole _ _ _ _ i told (stored _ _ _ (told .start) (c .stored-octets .ensures))
+    c .report .ensures ∙ whole _ _ _ _ i (parameters-behind _ _ i (λ j. k .before .before .before .before .shared-slice-known .given j .fits) (sym (c .before .before .before .before .read-parameters .ensures) ∙ c .before .before .pid .given .1))
 
 pub decode-rest-spec : {M : Type 1} → statement M
 decode-rest-spec =
@@ -61,10 +44,6 @@ decode-rest-spec =
     (λ c. search needs)
     (λ c κs. tt)
     (λ c. search needs)
-    sub-start
-    (λ c. search needs)
-    (λ c. search needs)
-    part-stored-octets-end
-    stored-octets-requires
+    there
     returns-2
     returns-3)

@@ -1,6 +1,5 @@
 -- `gsm7::octet_or_zero` meets its contract: an octet fits a u16, and behind the end the list reads 0.
 -- Assumes nothing.
-use borrow.Author.Needs.{needs}
 use native.Mathlib.Omega.{arith}
 use mathlib.Core.Path.{sym}
 use denote.Ref.{now}
@@ -9,13 +8,13 @@ use Rattle.septets.proofs.octet_or_zero.Statement.{statement}
 use Rattle.septets.proofs.octet_or_zero.Tie as tie
 
 shared-slice-read-result : tie.Need-shared-slice-read-result
-shared-slice-read-result c = search needs
+shared-slice-read-result c = omega arith
 
 cast-result : tie.Need-cast-result
 cast-result c = omega (arith, c .shared-slice-known .given (c .before .before .args .at))
 
 returns : tie.Need-returns
-returns c = search needs
+returns c = omega arith
 
 returns-2 : tie.Need-returns-2
 returns-2 c = sym (List·getD-eq-default (now (c .before .args .octets)) 0 (c .if1 .left))

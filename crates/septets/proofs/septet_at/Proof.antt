@@ -3,7 +3,6 @@
 use Prim.Native.Nat.{ℕ, _+_, _*_, _/_, _<_}
 use mathlib.Core.Path.{_≡_, sym}
 use native.Mathlib.Omega.{arith}
-use borrow.Author.Needs.{needs}
 use denote.Ref.{now}
 use Rattle.septets.specs.Septets.{septetAt}
 use Rattle.septets.proofs.Number.{in-two}
@@ -32,14 +31,14 @@ pub septet-at-spec : {M : Type 1} → statement M
 septet-at-spec =
     tie.close
     (tie.spec
-    (λ c. search needs)
-    (λ c. search needs)
+    (λ c. omega arith)
+    (λ c. omega arith)
     (λ c κs. tt)
-    (λ c. search needs)
+    (λ c. omega arith)
     (λ c κs. tt)
     mul-pair
     add-pair
-    (λ c. search needs)
-    (λ c. search needs)
-    (λ c. search needs)
+    (λ c. omega arith)
+    (λ c. omega arith)
+    (λ c. omega arith)
     returns)

@@ -1,3 +1,4 @@
+use native.Mathlib.Omega.{arith}
 use denote.Ref.{now}
 use mathlib.Core.Path.{sym, _∙_}
 use Rattle.septets.proofs.Number.{getD-before}
@@ -6,10 +7,10 @@ use Rattle.septets.proofs.septet_before.Statement.{statement}
 use Rattle.septets.proofs.septet_before.Tie as tie
 
 sub-octet-or-zero : tie.Need-sub-octet-or-zero
-sub-octet-or-zero c = search needs
+sub-octet-or-zero c = omega arith
 
 octet-or-zero-requires : tie.Need-octet-or-zero-requires
-octet-or-zero-requires c κs = search needs
+octet-or-zero-requires c κs = omega arith
 
 returns : tie.Need-returns
 returns c = search needs

@@ -12,7 +12,7 @@ returns : tie.Need-returns
 returns c = answer-done (ended _ _ _ (c .before .if1 .taken)) (c .message .ensures)
 
 returns-2 : tie.Need-returns-2
-returns-2 c = c .refused .ensures ∙ answer-ends (no-indicator _ _ _ (c .before .before .before .before .if1 .left) (sym (c .before .before .before .read-indicator .ensures) ∙ c .before .enum-told .given .1))
+returns-2 c = c .ended .ensures ∙ answer-ends (no-indicator _ _ _ (c .before .before .before .before .if1 .left) (sym (c .before .before .before .read-indicator .ensures) ∙ c .before .enum-told .given .1))
 
 sub-ud : tie.Need-sub-ud
 sub-ud c =
@@ -29,7 +29,7 @@ message-requires-2 c κs =
 
 returns-3 : tie.Need-returns-3
 returns-3 c =
-    c .refused2 .ensures
+    c .refused .ensures
     ∙ answer-ends (no-parameters _ _ _ (c .before .before .before .before .before .before .before .before .before .if1 .left) (sym (c .before .before .before .before .before .before .before .before .read-indicator .ensures) ∙ c .before .before .before .before .before .before .indicator .given .1) (sym (c .before .before .before .before .read-parameters .ensures) ∙ c .before .before .r .given .1))
 
 returns-4 : tie.Need-returns-4

@@ -10,8 +10,8 @@ returns : tie.Need-returns
 returns c =
     let a = c .before .before .before .before .before .before .args in
     let p = c .before .before .before .before .before .before .pre in
-    message-is (now (a .«data»)) (λ i. c .before .before .before .before .before .shared-slice-known .given i .fits) (a .first) (a .mr) (a .ra) (a .scts) (a .dt) (a .status) (a .indicator) (a .pid) (a .dcs) (a .udl) (a .ud) (a .n) (p .0) (p .1) (p .2) (p .3)
-    _ (c .before .before .before .before .decode .ensures) _ (c .before .before .before .decode-time .ensures) _ (c .before .before .decode-time2 .ensures) _ (c .stored-octets .ensures)
+    message-is (now (a .«data»)) (λ i. c .before .before .before .before .before .shared-slice-known .given i .fits) (a .first) (a .mr) (a .ra) (a .scts) (a .dt) (a .status) (a .indicator) (a .pid) (a .dcs) (a .udl) (a .ud) (a .n) (p .0)
+    _ (c .before .before .before .before .decode .ensures) _ (c .before .before .before .time-at .ensures) _ (c .before .before .time-at2 .ensures) _ (c .data-with .ensures)
 
 pub message-spec : {M : Type 1} → statement M
 message-spec =

@@ -7,31 +7,31 @@ use Rattle.submit.proofs.decode_sms_submit_tpdu.Statement.{statement}
 use Rattle.submit.proofs.decode_sms_submit_tpdu.Tie as tie
 
 none : tie.Need-returns
-none c = c .refused .ensures ∙ answer-ends (no-first _ (λ i. c .before .before .before .before .shared-slice-known .given i .fits) (sym (c .before .before .before .octet .ensures) ∙ c .before .enum-told .given .1))
+none c = c .ended .ensures ∙ answer-ends (no-first _ (λ i. c .before .before .before .before .shared-slice-known .given i .fits) (sym (c .before .before .before .octet .ensures) ∙ c .before .enum-told .given .1))
 
 another-type : tie.Need-returns-2
 another-type c =
     let k1 = c .before .before in
-    c .refused2 .ensures ∙ answer-ends (other-type _ (λ i. k1 .before .before .before .before .shared-slice-known .given i .fits) (sym (k1 .before .before .before .octet .ensures) ∙ k1 .before .first .given .1) (c .before .if1 .taken))
+    c .refused .ensures ∙ answer-ends (other-type _ (λ i. k1 .before .before .before .before .shared-slice-known .given i .fits) (sym (k1 .before .before .before .octet .ensures) ∙ k1 .before .first .given .1) (c .before .if1 .taken))
 
 no-reference : tie.Need-returns-3
 no-reference c =
     let e = c .before .before .before .before in
     let k1 = e .before in
-    c .refused3 .ensures ∙ answer-ends (no-mr _ (λ i. k1 .before .before .before .before .shared-slice-known .given i .fits) (sym (k1 .before .before .before .octet .ensures) ∙ k1 .before .first .given .1) (e .if1 .left) (sym (c .before .before .before .octet2 .ensures) ∙ c .before .enum-told2 .given .1))
+    c .ended2 .ensures ∙ answer-ends (no-mr _ (λ i. k1 .before .before .before .before .shared-slice-known .given i .fits) (sym (k1 .before .before .before .octet .ensures) ∙ k1 .before .first .given .1) (e .if1 .left) (sym (c .before .before .before .octet2 .ensures) ∙ c .before .enum-told2 .given .1))
 
 no-destination : tie.Need-returns-4
 no-destination c =
     let k2 = c .before .before .before .before in
     let k1 = k2 .before .before .before .before .before in
-    c .refused4 .ensures ∙ answer-ends (no-address _ (λ i. k1 .before .before .before .before .shared-slice-known .given i .fits) (sym (k1 .before .before .before .octet .ensures) ∙ k1 .before .first .given .1) (k2 .before .before .before .before .if1 .left) (sym (k2 .before .before .before .octet2 .ensures) ∙ k2 .before .mr .given .1) (sym (c .before .before .before .address-at .ensures) ∙ c .before .enum-told3 .given .1))
+    c .ended3 .ensures ∙ answer-ends (no-address _ (λ i. k1 .before .before .before .before .shared-slice-known .given i .fits) (sym (k1 .before .before .before .octet .ensures) ∙ k1 .before .first .given .1) (k2 .before .before .before .before .if1 .left) (sym (k2 .before .before .before .octet2 .ensures) ∙ k2 .before .mr .given .1) (sym (c .before .before .before .address-at .ensures) ∙ c .before .enum-told3 .given .1))
 
 no-protocol : tie.Need-returns-5
 no-protocol c =
     let k3 = c .before .before .before .before in
     let k2 = k3 .before .before .before .before in
     let k1 = k2 .before .before .before .before .before in
-    c .refused5 .ensures ∙ answer-ends (no-pid _ (λ i. k1 .before .before .before .before .shared-slice-known .given i .fits) (sym (k1 .before .before .before .octet .ensures) ∙ k1 .before .first .given .1) (k2 .before .before .before .before .if1 .left) (sym (k2 .before .before .before .octet2 .ensures) ∙ k2 .before .mr .given .1) (sym (k3 .before .before .before .address-at .ensures) ∙ k3 .before .da .given .1) (sym (c .before .before .before .octet3 .ensures) ∙ c .before .enum-told4 .given .1))
+    c .ended4 .ensures ∙ answer-ends (no-pid _ (λ i. k1 .before .before .before .before .shared-slice-known .given i .fits) (sym (k1 .before .before .before .octet .ensures) ∙ k1 .before .first .given .1) (k2 .before .before .before .before .if1 .left) (sym (k2 .before .before .before .octet2 .ensures) ∙ k2 .before .mr .given .1) (sym (k3 .before .before .before .address-at .ensures) ∙ k3 .before .da .given .1) (sym (c .before .before .before .octet3 .ensures) ∙ c .before .enum-told4 .given .1))
 
 no-coding : tie.Need-returns-6
 no-coding c =
@@ -39,7 +39,7 @@ no-coding c =
     let k3 = k4 .before .before .before .before in
     let k2 = k3 .before .before .before .before in
     let k1 = k2 .before .before .before .before .before in
-    c .refused6 .ensures ∙ answer-ends (no-dcs _ (λ i. k1 .before .before .before .before .shared-slice-known .given i .fits) (sym (k1 .before .before .before .octet .ensures) ∙ k1 .before .first .given .1) (k2 .before .before .before .before .if1 .left) (sym (k2 .before .before .before .octet2 .ensures) ∙ k2 .before .mr .given .1) (sym (k3 .before .before .before .address-at .ensures) ∙ k3 .before .da .given .1) (sym (k4 .before .before .before .octet3 .ensures) ∙ k4 .before .pid .given .1) (sym (c .before .before .before .octet4 .ensures) ∙ c .before .enum-told5 .given .1))
+    c .ended5 .ensures ∙ answer-ends (no-dcs _ (λ i. k1 .before .before .before .before .shared-slice-known .given i .fits) (sym (k1 .before .before .before .octet .ensures) ∙ k1 .before .first .given .1) (k2 .before .before .before .before .if1 .left) (sym (k2 .before .before .before .octet2 .ensures) ∙ k2 .before .mr .given .1) (sym (k3 .before .before .before .address-at .ensures) ∙ k3 .before .da .given .1) (sym (k4 .before .before .before .octet3 .ensures) ∙ k4 .before .pid .given .1) (sym (c .before .before .before .octet4 .ensures) ∙ c .before .enum-told5 .given .1))
 
 there : tie.Need-behind-coding-requires
 there c κs =

@@ -4,7 +4,6 @@ use Prim.Native.Nat.{ℕ, _-_, _≤_}
 use mathlib.Core.Path.{_≡_, refl, _∙_}
 use mathlib.Core.Option.{none, some}
 use native.Mathlib.Omega.{arith}
-use borrow.Author.Needs.{needs}
 use lib.ListN.{getD, drop}
 use Rattle.text.specs.declared.Extension.{Extension}
 use Rattle.text.specs.Alphabet.{alphabet, extension, rowWith, character, escaped}
@@ -30,12 +29,12 @@ missed code p = rw p
 returns : tie.Need-returns Inv-loop μ-loop
 returns c =
     let l = c .before .before .before .before .loop in
-    found _ (l .inv .1 ∙ row-here (λ (e : Extension). e .code) _ extension (l .i) (c .before .before .before .loop-test .taken) (c .if1 .taken))
+    found _ (l .inv .1 ∙ row-here (λ (e : Extension). e .code) _ extension (l .i) (c .before .before .before .loop-test .taken) (c .before .before .extension-row .ensures) (c .if1 .taken))
 
 loop-again : tie.Need-loop-again Inv-loop μ-loop
 loop-again c =
     let l = c .before .before .before .before .loop in
-    (omega arith, l .inv .1 ∙ row-next (λ (e : Extension). e .code) _ extension (l .i) (c .before .before .before .loop-test .taken) (c .if1 .left))
+    (omega arith, l .inv .1 ∙ row-next (λ (e : Extension). e .code) _ extension (l .i) (c .before .before .before .loop-test .taken) (c .before .before .extension-row .ensures) (c .if1 .left))
 
 returns-2 : tie.Need-returns-2 Inv-loop μ-loop
 returns-2 c =
@@ -50,12 +49,11 @@ escaped-character-spec =
     Inv-loop
     μ-loop
     (λ c. (omega arith, refl))
-    (λ c. search needs)
-    (λ c. search needs)
+    (λ c κs. omega arith)
     returns
     (λ c. omega arith)
     (λ c. omega arith)
     loop-again
-    (λ c. search needs)
-    (λ c. search needs)
+    (λ c. omega arith)
+    (λ c. omega arith)
     returns-2)

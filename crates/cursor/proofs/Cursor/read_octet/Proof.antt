@@ -3,8 +3,8 @@
 use mathlib.Core.Path.{refl}
 use contract.Running.{givenOf}
 use denote.Enum.Laws.{lawful}
-use Rattle.octets.proofs.Octet.{the-row, the-type}
-use Rattle.octets.proofs.Octet.Laws.{mir, the-laws}
+use Rattle.cursor.proofs.OctetRead.{the-row, the-type}
+use Rattle.cursor.proofs.OctetRead.Laws.{mir, the-laws}
 use Rattle.cursor.specs.Cursor.{octetFrom}
 use Rattle.cursor.proofs.Through.{goes-through}
 use Rattle.cursor.proofs.octet_at.Symbol as callee

@@ -1,57 +1,52 @@
 -- `deliver::SmsDeliver::encode` meets its contract: the lengths are looked at first.
 -- Assumes nothing.
-use mathlib.Core.Path.{_≡_, sym}
+use Prim.Native.Nat.{_≤_}
+use mathlib.Core.Path.{_≡_, sym, _∙_}
 use native.Mathlib.Omega.{arith}
 use borrow.Author.Needs.{needs}
 use lib.ListN.{length}
 use lib.Seq.{length-take-le}
 use Rattle.octets.specs.declared.Written.{Written}
 use Rattle.octets.proofs.Laws.{lent-refused}
-use Rattle.deliver.proofs.Writing.{address-long, time-long, data-long, by-parts}
-use Rattle.deliver.proofs.SmsDeliver.encode.Statement.{statement}
-use Rattle.deliver.proofs.SmsDeliver.encode.Tie as tie
+use Rattle.deliver.specs.declared.SmsDeliver.{SmsDeliver}
+use Rattle.deliver.proofs.Writing.{too-long, by-parts, all-fit}
 use Rattle.deliver.proofs.SmsDeliver.encode.Reads as reads
 use Rattle.deliver.proofs.SmsDeliver.encode.Lts as lts
-use Rattle.deliver.proofs.encode_parts.Reads as encode-parts-reads
-use Rattle.octets.proofs.flag.Reads as flag-reads
+use Rattle.deliver.proofs.flags.Reads as flags-reads
+use Rattle.deliver_writing.proofs.encode_parts.Reads as encode-parts-reads
+use Rattle.deliver.proofs.SmsDeliver.encode.Statement.{statement}
+use Rattle.deliver.proofs.SmsDeliver.encode.Tie as tie
 
-abbrev Start : Type 0
-Start = lts.Start (flag-reads.Asked, flag-reads.Learnt, encode-parts-reads.Asked, encode-parts-reads.Learnt) reads.Pre reads.Post
+-- where the lengths pass no array
+abbrev Fits : Type 0
+Fits = lts.Else1 (flags-reads.Asked, flags-reads.Learnt, encode-parts-reads.Asked, encode-parts-reads.Learnt) reads.Pre reads.Post
 
-text-room : (c : Start) → length (c .args .self .«tp_originating_address» .address) ≡ 290
-text-room c = search needs
+module _ (c : Fits) where
+  abbrev message : SmsDeliver
+  message = c .before .before .args .self
 
-digits-room : (c : Start) → length (c .args .self .«tp_service_centre_timestamp» .digits) ≡ 14
-digits-room c = search needs depth 12
+  text-fits : message .«tp_originating_address» .«address_length» ≤ length (message .«tp_originating_address» .address)
+  text-fits = let room : length (message .«tp_originating_address» .address) ≡ 290 = search needs depth 12 in omega (arith, all-fit message (c .if1 .left) .0)
 
-octets-room : (c : Start) → length (c .args .self .«tp_user_data» .octets) ≡ 255
-octets-room c = search needs depth 12
+  timestamp-fits : message .«tp_service_centre_timestamp» .length ≤ length (message .«tp_service_centre_timestamp» .digits)
+  timestamp-fits = let room : length (message .«tp_service_centre_timestamp» .digits) ≡ 14 = search needs depth 12 in omega (arith, all-fit message (c .if1 .left) .1)
 
-returns-4 : tie.Need-returns-4
-returns-4 c = rw (by-parts (c .before .before .before .before .before .before .before .before .before .before .before .before .before .before .before .before .before .before .before .before .before .before .args .self) (c .before .before .before .before .before .before .before .before .before .before .before .before .before .before .before .before .before .if1 .left) (c .before .before .before .before .before .before .before .before .before .before .before .before .before .before .before .before .if2 .left) (c .before .before .before .before .before .before .before .before .before .before .before .before .before .before .before .if3 .left), sym (c .before .before .before .before .before .before .before .before .before .before .before .before .before .before .flag .ensures .0), sym (c .before .before .before .before .before .before .before .before .before .before .before .before .before .flag2 .ensures .0), sym (c .before .before .before .before .before .before .before .before .before .before .before .before .flag3 .ensures .0), sym (c .before .before .before .before .before .before .before .before .before .before .before .flag4 .ensures .0), sym (c .before .before .before .before .before .before .before .before .before .before .flag5 .ensures .0)) (c .before .before .encode-parts .ensures)
+  data-fits : message .«tp_user_data» .length ≤ length (message .«tp_user_data» .octets)
+  data-fits = let room : length (message .«tp_user_data» .octets) ≡ 255 = search needs depth 12 in omega (arith, all-fit message (c .if1 .left) .2)
 
 pub encode-spec : {M : Type 1} → statement M
 encode-spec =
     tie.close
     (tie.spec
-    (λ c. lent-refused Written.Refused _ _ (address-long _ (c .if1 .taken)))
-    (λ c. lent-refused Written.Refused _ _ (time-long _ (c .before .if1 .left) (c .if2 .taken)))
-    (λ c. lent-refused Written.Refused _ _ (data-long _ (c .before .before .if1 .left) (c .before .if2 .left) (c .if3 .taken)))
+    (λ c. lent-refused Written.Refused _ _ (too-long _ (c .if1 .taken)))
     (λ c κs. tt)
-    (λ c κs. tt)
-    (λ c. omega (arith, c .flag2 .ensures .1, c .before .flag .ensures .1))
-    (λ c κs. tt)
-    (λ c. omega (arith, c .flag3 .ensures .1, c .before .flag2 .ensures .1, c .before .before .flag .ensures .1))
-    (λ c κs. tt)
-    (λ c. omega (arith, c .flag4 .ensures .1, c .before .flag3 .ensures .1, c .before .before .flag2 .ensures .1, c .before .before .before .flag .ensures .1))
-    (λ c κs. tt)
-    (λ c. omega (arith, c .flag5 .ensures .1, c .before .flag4 .ensures .1, c .before .before .flag3 .ensures .1, c .before .before .before .flag2 .ensures .1, c .before .before .before .before .flag .ensures .1))
-    (λ c. omega (arith, text-room (c .before .before .before .before .before .before .before .before .before .before .before .before .before .before .before)))
-    (λ c. sym (length-take-le (c .before .before .before .before .before .before .before .before .before .before .before .before .before .before .before .before .args .self .«tp_originating_address» .«address_length») (c .before .before .before .before .before .before .before .before .before .before .before .before .before .before .before .before .args .self .«tp_originating_address» .address) (omega (arith, text-room (c .before .before .before .before .before .before .before .before .before .before .before .before .before .before .before .before)))))
-    (λ c. omega (arith, digits-room (c .before .before .before .before .before .before .before .before .before .before .before .before .before .before .before .before)))
-    (λ c. sym (length-take-le (c .before .before .before .before .before .before .before .before .before .before .before .before .before .before .before .before .before .args .self .«tp_service_centre_timestamp» .length) (c .before .before .before .before .before .before .before .before .before .before .before .before .before .before .before .before .before .args .self .«tp_service_centre_timestamp» .digits) (omega (arith, digits-room (c .before .before .before .before .before .before .before .before .before .before .before .before .before .before .before .before .before)))))
-    (λ c. omega (arith, octets-room (c .before .before .before .before .before .before .before .before .before .before .before .before .before .before .before .before .before)))
-    (λ c. sym (length-take-le (c .before .before .before .before .before .before .before .before .before .before .before .before .before .before .before .before .before .before .args .self .«tp_user_data» .length) (c .before .before .before .before .before .before .before .before .before .before .before .before .before .before .before .before .before .before .args .self .«tp_user_data» .octets) (omega (arith, octets-room (c .before .before .before .before .before .before .before .before .before .before .before .before .before .before .before .before .before .before)))))
+    (λ c. text-fits (c .before .before .before .before))
+    (λ c. sym (length-take-le _ _ (text-fits (c .before .before .before .before .before))))
+    (λ c. timestamp-fits (c .before .before .before .before .before))
+    (λ c. sym (length-take-le _ _ (timestamp-fits (c .before .before .before .before .before .before))))
+    (λ c. data-fits (c .before .before .before .before .before .before))
+    (λ c. sym (length-take-le _ _ (data-fits (c .before .before .before .before .before .before .before))))
     (λ c κs. tt)
     (λ c. search needs)
-    returns-4)
+    (λ c. let k = c .before .before .before .before .before .before .before .before .before .before .before in
+    rw (by-parts _ (k .if1 .left), ← c .before .before .before .before .before .before .before .before .before .before .flags .ensures) (c .before .before .encode-parts .ensures)))

@@ -1,67 +1,57 @@
 -- `status_report::SmsStatusReport::encode` meets its contract: the lengths are looked at first.
 -- Assumes nothing.
-use mathlib.Core.Path.{_≡_, sym}
+use Prim.Native.Nat.{_≤_}
+use mathlib.Core.Path.{_≡_, sym, _∙_}
 use native.Mathlib.Omega.{arith}
 use borrow.Author.Needs.{needs}
 use lib.ListN.{length, length-take}
 use lib.Seq.{length-take-le}
 use Rattle.octets.specs.declared.Written.{Written}
 use Rattle.octets.proofs.Laws.{lent-refused}
-use Rattle.status_report.proofs.Writing.{address-long, time-long, discharge-long, data-long, by-parts}
+use Rattle.status_report.specs.declared.SmsStatusReport.{SmsStatusReport}
+use Rattle.status_report.proofs.Writing.{too-long, by-parts, all-fit}
 use Rattle.status_report.proofs.SmsStatusReport.encode.Reads as reads
 use Rattle.status_report.proofs.SmsStatusReport.encode.Lts as lts
-use Rattle.status_report.proofs.encode_parts.Reads as encode-parts-reads
-use Rattle.octets.proofs.flag.Reads as flag-reads
+use Rattle.status_report.proofs.first_octet.Reads as first-octet-reads
+use Rattle.status_report_writing.proofs.encode_parts.Reads as encode-parts-reads
 use Rattle.status_report.proofs.SmsStatusReport.encode.Statement.{statement}
 use Rattle.status_report.proofs.SmsStatusReport.encode.Tie as tie
 
-abbrev Start : Type 0
-Start = lts.Start (flag-reads.Asked, flag-reads.Learnt, encode-parts-reads.Asked, encode-parts-reads.Learnt) reads.Pre reads.Post
+-- where the lengths pass no array
+abbrev Fits : Type 0
+Fits = lts.Else1 (first-octet-reads.Asked, first-octet-reads.Learnt, encode-parts-reads.Asked, encode-parts-reads.Learnt) reads.Pre reads.Post
 
-text-room : (c : Start) → length (c .args .self .«tp_recipient_address» .address) ≡ 290
-text-room c = search needs depth 12
+module _ (c : Fits) where
+  abbrev message : SmsStatusReport
+  message = c .before .before .args .self
 
-scts-room : (c : Start) → length (c .args .self .«tp_service_centre_timestamp» .digits) ≡ 14
-scts-room c = search needs depth 12
+  text-fits : message .«tp_recipient_address» .«address_length» ≤ length (message .«tp_recipient_address» .address)
+  text-fits = let room : length (message .«tp_recipient_address» .address) ≡ 290 = search needs depth 12 in omega (arith, all-fit message (c .if1 .left) .0)
 
-discharge-room : (c : Start) → length (c .args .self .«tp_discharge_time» .digits) ≡ 14
-discharge-room c = search needs depth 12
+  timestamp-fits : message .«tp_service_centre_timestamp» .length ≤ length (message .«tp_service_centre_timestamp» .digits)
+  timestamp-fits = let room : length (message .«tp_service_centre_timestamp» .digits) ≡ 14 = search needs depth 12 in omega (arith, all-fit message (c .if1 .left) .1)
 
-octets-room : (c : Start) → length (c .args .self .«tp_user_data» .octets) ≡ 255
-octets-room c = search needs depth 12
+  discharge-fits : message .«tp_discharge_time» .length ≤ length (message .«tp_discharge_time» .digits)
+  discharge-fits = let room : length (message .«tp_discharge_time» .digits) ≡ 14 = search needs depth 12 in omega (arith, all-fit message (c .if1 .left) .2)
 
-encode-parts-requires : tie.Need-encode-parts-requires
-encode-parts-requires c κs = simp length-take (omega (arith, c .before .before .before .before .before .before .before .before .before .before .before .before .before .if4 .left))
-
-returns-5 : tie.Need-returns-5
-returns-5 c =
-    rw (by-parts (c .before .before .before .before .before .before .before .before .before .before .before .before .before .before .before .before .before .before .before .before .before .before .before .before .before .args .self) (c .before .before .before .before .before .before .before .before .before .before .before .before .before .before .before .before .before .before .before .if1 .left) (c .before .before .before .before .before .before .before .before .before .before .before .before .before .before .before .before .before .before .if2 .left) (c .before .before .before .before .before .before .before .before .before .before .before .before .before .before .before .before .before .if3 .left) (c .before .before .before .before .before .before .before .before .before .before .before .before .before .before .before .before .if4 .left), sym (c .before .before .before .before .before .before .before .before .before .before .before .before .before .before .before .flag .ensures .0), sym (c .before .before .before .before .before .before .before .before .before .before .before .before .before .before .flag2 .ensures .0), sym (c .before .before .before .before .before .before .before .before .before .before .before .before .before .flag3 .ensures .0), sym (c .before .before .before .before .before .before .before .before .before .before .before .before .flag4 .ensures .0))
-    (c .before .before .encode-parts .ensures)
+  data-fits : message .«tp_user_data» .length ≤ length (message .«tp_user_data» .octets)
+  data-fits = let room : length (message .«tp_user_data» .octets) ≡ 255 = search needs depth 12 in omega (arith, all-fit message (c .if1 .left) .3)
 
 pub encode-spec : {M : Type 1} → statement M
 encode-spec =
     tie.close
     (tie.spec
-    (λ c. lent-refused Written.Refused _ _ (address-long _ (c .if1 .taken)))
-    (λ c. lent-refused Written.Refused _ _ (time-long _ (c .before .if1 .left) (c .if2 .taken)))
-    (λ c. lent-refused Written.Refused _ _ (discharge-long _ (c .before .before .if1 .left) (c .before .if2 .left) (c .if3 .taken)))
-    (λ c. lent-refused Written.Refused _ _ (data-long _ (c .before .before .before .if1 .left) (c .before .before .if2 .left) (c .before .if3 .left) (c .if4 .taken)))
+    (λ c. lent-refused Written.Refused _ _ (too-long _ (c .if1 .taken)))
     (λ c κs. tt)
-    (λ c. omega (arith, c .flag .ensures .1))
-    (λ c κs. tt)
-    (λ c. omega (arith, c .flag2 .ensures .1, c .before .flag .ensures .1))
-    (λ c κs. tt)
-    (λ c. omega (arith, c .flag3 .ensures .1, c .before .flag2 .ensures .1, c .before .before .flag .ensures .1))
-    (λ c κs. tt)
-    (λ c. omega (arith, c .flag4 .ensures .1, c .before .flag3 .ensures .1, c .before .before .flag2 .ensures .1, c .before .before .before .flag .ensures .1))
-    (λ c. omega (arith, text-room (c .before .before .before .before .before .before .before .before .before .before .before .before .before .before .before .before .before)))
-    (λ c. sym (length-take-le (c .before .before .before .before .before .before .before .before .before .before .before .before .before .before .before .before .before .before .args .self .«tp_recipient_address» .«address_length») (c .before .before .before .before .before .before .before .before .before .before .before .before .before .before .before .before .before .before .args .self .«tp_recipient_address» .address) (omega (arith, text-room (c .before .before .before .before .before .before .before .before .before .before .before .before .before .before .before .before .before .before)))))
-    (λ c. omega (arith, scts-room (c .before .before .before .before .before .before .before .before .before .before .before .before .before .before .before .before .before .before)))
-    (λ c. sym (length-take-le (c .before .before .before .before .before .before .before .before .before .before .before .before .before .before .before .before .before .before .before .args .self .«tp_service_centre_timestamp» .length) (c .before .before .before .before .before .before .before .before .before .before .before .before .before .before .before .before .before .before .before .args .self .«tp_service_centre_timestamp» .digits) (omega (arith, scts-room (c .before .before .before .before .before .before .before .before .before .before .before .before .before .before .before .before .before .before .before)))))
-    (λ c. omega (arith, discharge-room (c .before .before .before .before .before .before .before .before .before .before .before .before .before .before .before .before .before .before .before)))
-    (λ c. sym (length-take-le (c .before .before .before .before .before .before .before .before .before .before .before .before .before .before .before .before .before .before .before .before .args .self .«tp_discharge_time» .length) (c .before .before .before .before .before .before .before .before .before .before .before .before .before .before .before .before .before .before .before .before .args .self .«tp_discharge_time» .digits) (omega (arith, discharge-room (c .before .before .before .before .before .before .before .before .before .before .before .before .before .before .before .before .before .before .before .before)))))
-    (λ c. omega (arith, octets-room (c .before .before .before .before .before .before .before .before .before .before .before .before .before .before .before .before .before .before .before .before)))
-    (λ c. sym (length-take-le (c .before .before .before .before .before .before .before .before .before .before .before .before .before .before .before .before .before .before .before .before .before .args .self .«tp_user_data» .length) (c .before .before .before .before .before .before .before .before .before .before .before .before .before .before .before .before .before .before .before .before .before .args .self .«tp_user_data» .octets) (omega (arith, octets-room (c .before .before .before .before .before .before .before .before .before .before .before .before .before .before .before .before .before .before .before .before .before)))))
-    encode-parts-requires
+    (λ c. text-fits (c .before .before .before .before .before))
+    (λ c. sym (length-take-le _ _ (text-fits (c .before .before .before .before .before .before))))
+    (λ c. timestamp-fits (c .before .before .before .before .before .before))
+    (λ c. sym (length-take-le _ _ (timestamp-fits (c .before .before .before .before .before .before .before))))
+    (λ c. discharge-fits (c .before .before .before .before .before .before .before))
+    (λ c. sym (length-take-le _ _ (discharge-fits (c .before .before .before .before .before .before .before .before))))
+    (λ c. data-fits (c .before .before .before .before .before .before .before .before))
+    (λ c. sym (length-take-le _ _ (data-fits (c .before .before .before .before .before .before .before .before .before))))
+    (λ c κs. let k = c .before .before .before .before .before .before .before .before .before .before in simp length-take (omega (arith, all-fit (message k) (k .if1 .left) .3)))
     (λ c. search needs)
-    returns-5)
+    (λ c. let k = c .before .before .before .before .before .before .before .before .before .before .before .before .before in
+    rw (by-parts _ (k .if1 .left), ← c .before .before .before .before .before .before .before .before .before .before .before .before .first-octet .ensures) (c .before .before .encode-parts .ensures)))

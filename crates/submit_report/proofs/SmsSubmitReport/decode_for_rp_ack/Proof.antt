@@ -9,13 +9,13 @@ use Rattle.submit_report.proofs.SmsSubmitReport.decode_for_rp_ack.Tie a
 
 returns : tie.Need-returns
 unfolding answer
-returns c = c .refused .ensures ∙ ap answer (sym (outcomes _ .ack-ends (sym (c .before .before .before .octet .ensures) ∙ c .before .enum-told .given .1)))
+returns c = c .ended .ensures ∙ ap answer (sym (outcomes _ .ack-ends (sym (c .before .before .before .octet .ensures) ∙ c .before .enum-told .given .1)))
 
 returns-2 : tie.Need-returns-2
 unfolding answer
 returns-2 c =
     let k = c .before .before in
-    c .refused2 .ensures ∙ ap answer (sym (outcomes _ .ack-differs (sym (k .before .before .before .octet .ensures) ∙ k .before .first .given .1) (c .before .if1 .taken)))
+    c .refused .ensures ∙ ap answer (sym (outcomes _ .ack-differs (sym (k .before .before .before .octet .ensures) ∙ k .before .first .given .1) (c .before .if1 .taken)))
 
 returns-3 : tie.Need-returns-3
 returns-3 c =

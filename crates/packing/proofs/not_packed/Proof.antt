@@ -1,0 +1,13 @@
+-- `packing::not_packed` meets its contract.
+-- Assumes nothing.
+use mathlib.Core.Path.{refl}
+use Rattle.packing.specs.Packing.{notPacked}
+use Rattle.packing.proofs.not_packed.Statement.{statement}
+use Rattle.packing.proofs.not_packed.Tie as tie
+
+returns : tie.Need-returns
+unfolding notPacked
+returns c = refl
+
+pub not-packed-spec : {M : Type 1} → statement M
+not-packed-spec = tie.close (tie.spec returns)

@@ -1,0 +1,18 @@
+-- `scanning::add` meets its contract: a store behind the array's end would change nothing.
+-- Assumes nothing.
+use Prim.Native.Nat.{_+_}
+use mathlib.Core.Path.{refl, sym}
+use native.Mathlib.Omega.{arith}
+use lib.Seq.{set-out}
+use Rattle.scanning.proofs.add.Statement.{statement}
+use Rattle.scanning.proofs.add.Tie as tie
+
+pub add-spec : {M : Type 1} → statement M
+add-spec =
+    tie.close
+    (tie.spec
+    (λ c. omega arith)
+    (λ c. omega arith)
+    (λ c. record { place = refl; list = refl })
+    (λ c. omega arith)
+    (λ c. record { place = refl; list = sym (set-out _ _ _ (omega arith)) }))
