@@ -1,6 +1,4 @@
 // Messages shown for people: the kind, and a line for each part. A word that does not fit the page is left out.
-ghost use Prim.Native.Nat.{_≤_};
-ghost use lib.ListN.{length};
 
 mod calendar;
 mod labels;
@@ -195,24 +193,13 @@ fn header_octets(first: u8) -> usize {
     first as usize + 1
 }
 
-// How many octets the header takes that data begin with; none if it doesn't fit.
-fn octets_of_header(octets: &[u8]) -> usize
-    ensures { λ r. ⌜ r ≤ length (now (octets .entry)) ⌝ }
-{
-    if octets.len() == 0 {
-        return 0;
-    }
-    let h = header_octets(octets[0]);
-    if octets.len() < h {
-        return 0;
-    }
-    h
-}
-
 // A header of whole octets and what is behind it; data if the header doesn't fit.
 fn put_units_with_header(out: &mut [u8], at: usize, coding: UserDataCoding, data: &[u8]) -> usize {
-    let h = octets_of_header(data);
-    if h == 0 {
+    if data.len() == 0 {
+        return put_octets_line(out, at, labels::DATA, data);
+    }
+    let h = header_octets(data[0]);
+    if data.len() < h {
         return put_octets_line(out, at, labels::DATA, data);
     }
     let next = put_octets_line(out, at, labels::HEADER, first(data, h));
