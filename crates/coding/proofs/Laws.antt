@@ -8,7 +8,6 @@ use mathlib.Core.List.{List, [], _∷_, _++_}
 use borrow.Author.Tests.{eq-eqb, eqb-true, le-ltb, lt-ltb, leb-true, leb-false}
 use lib.Dec.{eqb, leb, ltb}
 use lib.ListN.{length as size}
-use Rattle.octets.specs.Arrays.{pad}
 use Rattle.octets.specs.Checks.{Check, _unless_, checked, afterChecked}
 use Rattle.octets.specs.Choice.{if_then_else_}
 use Rattle.octets.specs.Lent.{refused}
@@ -16,7 +15,6 @@ use Rattle.octets.specs.declared.Checked.{Checked}
 use Rattle.octets.specs.declared.Refusal.the-variants.{UserDataLengthDisagrees, UserDataTooLong}
 use Rattle.octets.proofs.Checks.{checked-then, holds}
 use Rattle.octets.proofs.Laws.{take-pad}
-use Rattle.coding.specs.declared.UserData.{UserData}
 use Rattle.coding.specs.declared.UserDataCoding.{UserDataCoding}
 use Rattle.coding.specs.declared.UserDataCoding.the-variants.{Gsm7Bit, EightBit, Ucs2, Compressed}
 use Rattle.coding.specs.Coding.{codingOf, dataOctets, checkedData, dataChecks, dataWith, dataOf}
@@ -25,11 +23,6 @@ use Rattle.coding.specs.Coding.{codingOf, dataOctets, checkedData, dataC
 pub data-held : (xs : List ℕ) → dataOf (dataWith xs) ≡ xs
 unfolding dataWith
 data-held xs = take-pad 255 xs
-
--- octets that were read, as the user data of a record
-pub data-stored : (os : List ℕ) {n : ℕ} → size os ≡ n → {xs : List ℕ} → xs ≡ pad 255 os → _≡_ {A = UserData} (record { octets = xs; length = n }) (dataWith os)
-unfolding dataWith
-data-stored os n e = rw (e, n)
 
 -- the number of octets of user data, as the calls tell it
 pub size-told : {n : ℕ} (dcs udl : ℕ) {k : UserDataCoding} → n ≡ dataOctets k udl → k ≡ codingOf dcs → n ≡ dataOctets (codingOf dcs) udl

@@ -9,7 +9,6 @@ use native.Mathlib.Omega.{arith}
 use lib.Dec.{eqb}
 use lib.ListN.{length, take, drop, length-drop}
 use lib.Seq.{length-take-le}
-use Rattle.octets.specs.Arrays.{pad}
 use Rattle.octets.specs.Each.{Octets}
 use Rattle.octets.specs.Places.{octetAt, spanAt}
 use Rattle.octets.specs.declared.Octet.{Octet}
@@ -190,10 +189,6 @@ parameters-told {pid} {dcs} {udl} {size} {q} s at pi o inside = go (readFrom (pa
           end = omega (arith, within-from (parameters pi) s at inside d);
         }
     go (halted why) d h = let z : _≡_ {A = ℕ} 0 1 = cc in absurd (omega arith)
-
--- as many octets as there are between two places
-pub stored : {octets : List ℕ} (size e : ℕ) (xs : List ℕ) → size ≤ e → octets ≡ pad 255 (take (e - (e - size)) xs) → octets ≡ pad 255 (take size xs)
-stored size e xs h d = let n : e - (e - size) ≡ size = omega arith in rw n at d
 
 -- an indicator that was read ends inside the string
 pub indicator-within : {x : ℕ} {q : Place} (s : List ℕ) (p : Place) → indicatorAt s p ≡ Octet.Read x q → q .at ≤ length s
