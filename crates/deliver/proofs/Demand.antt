@@ -29,7 +29,8 @@ use Rattle.layout.proofs.Demand.{Answers, Writes, demand3, answers-plain, answe
 use Rattle.layout.proofs.Rewriting.{Told}
 use Rattle.deliver.proofs.Writing.{fits, by-parts}
 use Rattle.deliver.specs.declared.SmsDeliver.{SmsDeliver}
-use Rattle.deliver.specs.Deliver.{bits, delivered, behindAddress, line, deliver, answer, unread, delivering, Parts, parts}
+use Rattle.deliver.specs.Deliver.{delivered, line, deliver, answer, unread, delivering, Parts, parts}
+use Rattle.deliver_reading.specs.Line.{bits, behindCoding, behindAddress, line as fields}
 use Rattle.deliver_writing.specs.Writing.{octetsIn, making}
 
 -- ---- the parts alone
@@ -61,7 +62,7 @@ first-octet x h m = eqb-true _ _ (rw m at (below (λ x. if eqb (messageType (kep
 module _ (x : ℕ) (hx : x < 256) (mti : eqb (messageType (kept bits x)) 0 ≡ true) (f : List ℕ) (wf : AddressField f) (pid dcs : ℕ) (t : List ℕ) (ot : Octets t) (wt : 7 ≡ length t)
     (udl : ℕ) (hu : udl < 256) (d : List ℕ) (wd : dataOctets (codingOf dcs) udl ≡ length d) where
   abbrev r : SmsDeliver
-  r = delivered (kept bits x) (canonicalAddress f) pid dcs t udl d
+  r = delivered (record { first = kept bits x; oa = canonicalAddress f; pid = pid; dcs = dcs; scts = t; udl = udl; ud = d })
 
   abbrev octets : List ℕ
   octets = kept bits x ∷ canonicalAddress f ++ pid ∷ dcs ∷ t ++ udl ∷ d
@@ -94,7 +95,7 @@ module _ (x : ℕ) (hx : x < 256) (mti : eqb (messageType (kept bits x)) 0 ≡ t
       ∙ its-checks (octetsOf (parts r)) ∙ ap answered its-octets
 
 delivered-makes : Makes (Writes parts delivering octetsOf) line
-unfolding line behindAddress
+unfolding line fields behindAddress behindCoding
 delivered-makes x hx mti f wf pid hp dcs hd t ot wt udl hu d od wd = record {
   octets = its-octets x hx mti f wf pid dcs t ot wt udl hu d wd ∙ rw (append-nil, append-assoc);
   answer = rw (its-making x hx mti f wf pid dcs t ot wt udl hu d wd) (answers-two (ltb 12 (length (canonicalAddress f))) (ltb 140 (length d)) AddressTooLong UserDataTooLong _ _ (rw (append-nil, append-assoc)));

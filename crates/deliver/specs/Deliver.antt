@@ -10,10 +10,11 @@ use Rattle.octets.specs.declared.Outcome.{Outcome}
 use Rattle.octets.specs.declared.Refusal.{Refusal}
 use Rattle.octets.specs.declared.Refusal.the-variants.{LengthTooLarge}
 use Rattle.octets.specs.declared.Written.{Written}
-use Rattle.coding.specs.Coding.{codingOf, dataOctets, dataWith, dataOf}
+use Rattle.coding.specs.Coding.{dataWith, dataOf}
 use Rattle.time.specs.Time.{timeIn, digitsOf, capitals}
 use Rattle.address.specs.Address.{addressIn, addressWith, textHeld}
-use Rattle.layout.specs.Layout.{Format, Layout, plain, Reached, reached, halted, message, field, one, time, done, address, userData, isSet, messageType}
+use Rattle.layout.specs.Layout.{Format, Layout, plain, Reached, reached, halted, done, _then_, isSet, messageType}
+use Rattle.deliver_reading.specs.Line.{Fields, line as fields}
 use Rattle.deliver_writing.specs.Writing.{making}
 use Rattle.deliver.specs.declared.SmsDeliver.{SmsDeliver}
 use Rattle.deliver.specs.declared.DeliverRead.{DeliverRead}
@@ -21,32 +22,25 @@ use Rattle.deliver.specs.declared.DeliverRead.{DeliverRead}
 -- ---- reading
 
 -- the record that the fields make
-unfoldable pub delivered : ℕ → List ℕ → ℕ → ℕ → List ℕ → ℕ → List ℕ → SmsDeliver
-delivered f oa pid dcs scts udl ud = record {
-  «tp_rp» = isSet 7 f;
-  «tp_udhi» = isSet 6 f;
-  «tp_sri» = isSet 5 f;
-  «tp_lp» = isSet 3 f;
-  «tp_mms» = isSet 2 f;
-  «tp_mti» = messageType f;
-  «tp_originating_address» = addressIn oa;
-  «tp_pid» = pid;
-  «tp_dcs» = dcs;
-  «tp_service_centre_timestamp» = timeIn scts;
-  «tp_user_data_length» = udl;
-  «tp_user_data» = dataWith ud;
+unfoldable pub delivered : Fields → SmsDeliver
+delivered x = record {
+  «tp_rp» = isSet 7 (x .first);
+  «tp_udhi» = isSet 6 (x .first);
+  «tp_sri» = isSet 5 (x .first);
+  «tp_lp» = isSet 3 (x .first);
+  «tp_mms» = isSet 2 (x .first);
+  «tp_mti» = messageType (x .first);
+  «tp_originating_address» = addressIn (x .oa);
+  «tp_pid» = x .pid;
+  «tp_dcs» = x .dcs;
+  «tp_service_centre_timestamp» = timeIn (x .scts);
+  «tp_user_data_length» = x .udl;
+  «tp_user_data» = dataWith (x .ud);
 }
 
--- RP 7, UDHI 6, SRI 5, LP 3, MMS 2
-abbrev pub bits : List ℕ
-bits = 7 ∷ 6 ∷ 5 ∷ 3 ∷ 2 ∷ []
-
--- the line: MTI 0 and those bits; address, PID, DCS, time, UDL, data
-unfoldable pub behindAddress : ℕ → List ℕ → Format SmsDeliver
-behindAddress f oa = one λ pid. one λ dcs. time λ scts. one λ udl. field (userData (dataOctets (codingOf dcs) udl)) λ ud. done (delivered f oa pid dcs scts udl ud)
-
+-- the line of fields (deliver_reading/specs/Line.antt), and the record
 unfoldable pub line : Format SmsDeliver
-line = message 0 bits λ f. field address λ oa. behindAddress f oa
+line = fields then λ x. done (delivered x)
 
 abbrev pub deliver : Layout SmsDeliver
 deliver = plain line

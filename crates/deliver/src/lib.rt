@@ -1,21 +1,17 @@
 // SMS-DELIVER (TS 23.040 §9.2.2.1).
 ghost use mathlib.Core.Path.{_≡_};
-ghost use mathlib.Core.Bool.{false};
-ghost use Prim.Native.Nat.{_+_, _/_, _%_, _≤_, _<_};
-ghost use lib.ListN.{length, take, drop};
+ghost use Prim.Native.Nat.{_+_};
 ghost use Rattle.octets.specs.Choice.{flag};
 ghost use Rattle.octets.specs.Lent.{lend};
-ghost use Rattle.layout.specs.Layout.{read, readFrom, kept, cut, address as addressKind};
-ghost use Rattle.address.specs.Address.{addressSize, canonicalAddress};
-ghost use Rattle.deliver.specs.Deliver.{bits, delivered, behindAddress, deliver, blank as blankMessage, answer, unread, delivering};
+ghost use Rattle.layout.specs.Layout.{read};
+ghost use Rattle.deliver_reading.specs.Line.{fieldsAt, Inside};
+ghost use Rattle.deliver.specs.Deliver.{delivered, deliver, blank as blankMessage, answer, unread, delivering};
 use address::SMSAddress;
 use coding::UserData;
-use deliver_writing::MTI_DELIVER;
-use octets::Octet;
+use deliver_reading::DeliverFields;
+use deliver_reading::DeliverFound;
 use octets::Outcome;
-use octets::Place;
 use octets::Refusal;
-use octets::Span;
 use octets::Written;
 use time::Time;
 
@@ -69,32 +65,17 @@ fn refused(r: Refusal) -> DeliverRead
     }
 }
 
-// The octets end inside a field.
-fn ended() -> DeliverRead
-    ensures { λ u. ⌜ u ≡ unread Refusal.OctetsEnd ⌝ }
+// The message of fields that are there.
+fn message(data: &[u8], f: DeliverFields) -> SmsDeliver
+    requires { ⌜ Inside (now «data») (DeliverFound.Whole f) ⌝ }
+    ensures { λ r. ⌜ r ≡ delivered (fieldsAt (now («data» .entry)) f) ⌝ }
 {
-    refused(Refusal::OctetsEnd)
-}
-
-// The message of fields that are there: the first octet's flags, the address, PID, DCS, the time, UDL, and n octets of user data.
-fn message(
-    first: u8,
-    data: &[u8],
-    oa: usize,
-    pid: u8,
-    dcs: u8,
-    scts: usize,
-    udl: u8,
-    ud: usize,
-    n: usize,
-) -> SmsDeliver
-    requires { ⌜ (oa + addressSize (drop oa (now «data»)) ≤ length (now «data»)) × (scts + 7 ≤ length (now «data»)) × (ud + n ≤ length (now «data»)) × (n ≤ 255) ⌝ }
-    ensures { λ r. ⌜ r ≡ delivered (kept bits first) (canonicalAddress (cut addressKind (drop oa (now («data» .entry))))) pid dcs (take 7 (drop scts (now («data» .entry)))) udl (take n (drop ud (now («data» .entry)))) ⌝ }
-{
-    let originator = SMSAddress::decode(data, oa);
-    let timestamp = time::time_at(data, scts);
-    let end = ud + n;
-    let user_data = coding::data_with(&data[ud..end]);
+    let start = f.data;
+    let end = start + f.octets;
+    let first = f.first;
+    let originator = SMSAddress::decode(data, f.address);
+    let timestamp = time::time_at(data, f.timestamp);
+    let user_data = coding::data_with(&data[start..end]);
     SmsDeliver {
         tp_rp: first / 128 % 2 == 1,
         tp_udhi: first / 64 % 2 == 1,
@@ -103,38 +84,11 @@ fn message(
         tp_mms: first / 4 % 2 == 1,
         tp_mti: first % 4,
         tp_originating_address: originator,
-        tp_pid: pid,
-        tp_dcs: dcs,
+        tp_pid: f.pid,
+        tp_dcs: f.dcs,
         tp_service_centre_timestamp: timestamp,
-        tp_user_data_length: udl,
+        tp_user_data_length: f.udl,
         tp_user_data: user_data,
-    }
-}
-
-// What follows the address.
-fn behind_address(data: &[u8], first: u8, oa: usize, place: Place) -> DeliverRead
-    requires { ⌜ oa + addressSize (drop oa (now «data»)) ≤ length (now «data») ⌝ }
-    ensures { λ r. ⌜ r ≡ answer (readFrom (behindAddress (kept bits first) (canonicalAddress (cut addressKind (drop oa (now («data» .entry)))))) (now («data» .entry)) (place .at)) ⌝ }
-{
-    let Octet::Read(pid, place2) = place.octet(data) else {
-        return ended();
-    };
-    let Octet::Read(dcs, place3) = place2.octet(data) else {
-        return ended();
-    };
-    let Span::There(scts, place4) = place3.span(data, 7) else {
-        return ended();
-    };
-    let Octet::Read(udl, place5) = place4.octet(data) else {
-        return ended();
-    };
-    let n = coding::user_data_octets(coding::user_data_coding(dcs), udl);
-    let Span::There(ud, _) = place5.span(data, n) else {
-        return ended();
-    };
-    DeliverRead {
-        outcome: Outcome::Done,
-        message: message(first, data, oa, pid, dcs, scts, udl, ud, n),
     }
 }
 
@@ -189,16 +143,12 @@ impl SmsDeliver {
     pub fn decode(data: &[u8]) -> DeliverRead
         ensures { λ r. ⌜ r ≡ answer (read deliver (now («data» .entry))) ⌝ }
     {
-        let start = Place { at: 0 };
-        let Octet::Read(first, place) = start.octet(data) else {
-            return ended();
-        };
-        if first % 4 != MTI_DELIVER {
-            return refused(Refusal::WrongMessageType);
+        match deliver_reading::fields_of(data) {
+            DeliverFound::Refused(r) => refused(r),
+            DeliverFound::Whole(f) => DeliverRead {
+                outcome: Outcome::Done,
+                message: message(data, f),
+            },
         }
-        let Span::There(oa, place2) = address::address_at(data, place) else {
-            return ended();
-        };
-        behind_address(data, first, oa, place2)
     }
 }

@@ -23,10 +23,12 @@ use Rattle.time.specs.Time.{isTime, timeDigits, timeOctets, timeIn, digitsOf, c
 use Rattle.time.proofs.Laws.{digits-back, length-digits, time-means, time-held, time-size}
 use Rattle.address.specs.Address.{addressIn, addressWith, addressOctets, addressSize, canonicalAddress, octetsOr, textHeld, addressChecks}
 use Rattle.address.proofs.Laws.{Spelled, address-passed}
-use Rattle.layout.specs.Layout.{first, octet, octets, any, address, userData, isSet, messageType, kept, Format, field, reached, reading, readFrom, read}
+use Rattle.layout.specs.Layout.{first, octet, octets, any, address, userData, isSet, messageType, kept, Format, field, done, reached, reading, readFrom, read}
+use Rattle.layout.proofs.Steps.{done-reached, then-goes-on}
 use Rattle.demands.proofs.LayoutBack.{field-read, field-last, message-read, done-read}
 use Rattle.deliver.specs.declared.SmsDeliver.{SmsDeliver}
-use Rattle.deliver.specs.Deliver.{bits, delivered, behindAddress, line, deliver, flagsOf, delivering, parts, capitalised, tooLong}
+use Rattle.deliver.specs.Deliver.{delivered, line, deliver, flagsOf, delivering, parts, capitalised, tooLong}
+use Rattle.deliver_reading.specs.Line.{Fields, bits, behindCoding, behindAddress, line as fields}
 use Rattle.deliver_writing.specs.Writing.{octetsIn, making}
 
 -- ---- the checks that a written record passed
@@ -81,25 +83,31 @@ first-tells rp udhi sri lp mms =
 
 module _ (f : ℕ) (whole : kept bits f ≡ f) (mti : messageType f ≡ 0) (oa : List ℕ) (size : addressSize oa ≡ length oa) (again : canonicalAddress oa ≡ oa) (pid dcs : ℕ)
     (scts : List ℕ) (seven : 7 ≡ length scts) (udl : ℕ) (ud : List ℕ) (size-is : dataOctets (codingOf dcs) udl ≡ length ud) where
-  abbrev behindFirst : ℕ → Format SmsDeliver
+  abbrev behindFirst : ℕ → Format Fields
   behindFirst f = field address λ oa. behindAddress f oa
 
-  to-first : (rest : List ℕ) → read deliver (f ∷ rest) ≡ reading (behindFirst f) rest 1
-  unfolding read readFrom line
+  to-first : (rest : List ℕ) → readFrom fields (f ∷ rest) 0 ≡ reading (behindFirst f) rest 1
+  unfolding readFrom fields
   to-first rest = message-read 0 bits behindFirst f whole mti rest 0
 
   to-pid : (rest : List ℕ) → reading (behindFirst f) (oa ++ rest) 1 ≡ reading (behindAddress f oa) rest (1 + length oa)
   to-pid rest = field-read address (λ oa. behindAddress f oa) oa rest 1 size ∙ rw again
 
-  to-end : (at : ℕ) → reading (behindAddress f oa) (pid ∷ dcs ∷ (scts ++ (udl ∷ ud))) at ≡ reached (delivered f oa pid dcs scts udl ud) (at + 1 + 1 + length scts + 1 + length ud)
-  unfolding behindAddress
+  abbrev its-fields : Fields
+  its-fields = record { first = f; oa = oa; pid = pid; dcs = dcs; scts = scts; udl = udl; ud = ud }
+
+  to-end : (at : ℕ) → reading (behindAddress f oa) (pid ∷ dcs ∷ (scts ++ (udl ∷ ud))) at ≡ reached its-fields (at + 1 + 1 + length scts + 1 + length ud)
+  unfolding behindAddress behindCoding
   to-end at =
       field-read octet _ (pid ∷ []) (dcs ∷ (scts ++ (udl ∷ ud))) at refl ∙ field-read octet _ (dcs ∷ []) (scts ++ (udl ∷ ud)) (at + 1) refl
       ∙ field-read (octets any 7) _ scts (udl ∷ ud) (at + 1 + 1) seven ∙ field-read octet _ (udl ∷ []) ud (at + 1 + 1 + length scts) refl
       ∙ field-last (userData (dataOctets (codingOf dcs) udl)) _ ud (at + 1 + 1 + length scts + 1) size-is ∙ done-read [] _ _
 
-  written-read : read deliver (f ∷ oa ++ pid ∷ dcs ∷ scts ++ udl ∷ ud) ≡ reached (delivered f oa pid dcs scts udl ud) (1 + length oa + 1 + 1 + length scts + 1 + length ud)
-  written-read = ap (read deliver) (append-assoc (f ∷ oa) (pid ∷ dcs ∷ scts) (udl ∷ ud)) ∙ to-first _ ∙ to-pid _ ∙ to-end _
+  written-read : read deliver (f ∷ oa ++ pid ∷ dcs ∷ scts ++ udl ∷ ud) ≡ reached (delivered its-fields) (1 + length oa + 1 + 1 + length scts + 1 + length ud)
+  unfolding read line
+  written-read =
+      let s = (f ∷ oa) ++ (pid ∷ dcs ∷ scts) ++ (udl ∷ ud) in
+      then-goes-on s fields 0 (ap (λ s. readFrom fields s 0) (append-assoc (f ∷ oa) (pid ∷ dcs ∷ scts) (udl ∷ ud)) ∙ to-first _ ∙ to-pid _ ∙ to-end _) (λ x. done (delivered x)) ∙ done-reached s _ _
 
 -- ---- the parts
 
@@ -108,7 +116,7 @@ same-parts : (r : SmsDeliver) (f : ℕ) → Tells (r .«tp_rp») (r .«tp_udhi»
     → length (textHeld (r .«tp_originating_address»)) ≡ r .«tp_originating_address» .«address_length»
     → (scts : List ℕ) → timeDigits scts ≡ capitals (digitsOf (r .«tp_service_centre_timestamp»)) → length (timeDigits scts) ≡ r .«tp_service_centre_timestamp» .length
     → length (dataOf (r .«tp_user_data»)) ≡ r .«tp_user_data» .length
-    → parts (delivered f oa (r .«tp_pid») (r .«tp_dcs») scts (r .«tp_user_data_length») (dataOf (r .«tp_user_data»))) ≡ capitalised (parts r)
+    → parts (delivered (record { first = f; oa = oa; pid = r .«tp_pid»; dcs = r .«tp_dcs»; scts = scts; udl = r .«tp_user_data_length»; ud = dataOf (r .«tp_user_data») })) ≡ capitalised (parts r)
 unfolding delivered addressWith timeIn dataWith
 same-parts r f t mti oa back text scts digits count size =
     let a : take (length (textHeld (r .«tp_originating_address»))) (addressWith 0 0 (textHeld (r .«tp_originating_address»)) .address) ≡ textHeld (r .«tp_originating_address») = take-pad 290 _ in
@@ -171,7 +179,7 @@ module _ {octets : List ℕ} {answer : Written} (r : SmsDeliver) (e : delivering
       let lt : length digits ≡ r .«tp_service_centre_timestamp» .length = length-take-le (r .«tp_service_centre_timestamp» .length) (r .«tp_service_centre_timestamp» .digits) (omega (arith, ht, p .time-fits)) in
       let ld : length ud ≡ r .«tp_user_data» .length = length-take-le (r .«tp_user_data» .length) (r .«tp_user_data» .octets) (omega (arith, hd, p .data-fits)) in
       let lq : length (timeDigits scts) ≡ r .«tp_service_centre_timestamp» .length = omega (arith, length-digits scts, n, m, lt) in (
-        delivered f oa (r .«tp_pid») (r .«tp_dcs») scts (r .«tp_user_data_length») ud,
+        delivered (record { first = f; oa = oa; pid = r .«tp_pid»; dcs = r .«tp_dcs»; scts = scts; udl = r .«tp_user_data_length»; ud = ud }),
         1 + length oa + 1 + 1 + length scts + 1 + length ud,
         ap (read deliver) (sym (p .is)) ∙ written-read f (t .whole) (t .mti-is) oa (p .address .whole) (p .address .again) (r .«tp_pid») (r .«tp_dcs») scts (sym n) (r .«tp_user_data_length») ud (sym (p .size-is)),
         same-parts r f t (p .mti-is) oa (p .address .back) la scts (digits-back digits (p .time-is)) lq ld,

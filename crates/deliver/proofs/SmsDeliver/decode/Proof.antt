@@ -1,17 +1,19 @@
 -- `deliver::SmsDeliver::decode` meets its contract: it is the reader that the line describes.
 -- Assumes nothing.
-use mathlib.Core.Path.{_≡_, sym, ap, _∙_}
+use mathlib.Core.Path.{_∙_}
 use borrow.Author.Needs.{needs}
-use Rattle.deliver.specs.Deliver.{answer}
-use Rattle.deliver.proofs.Reading.{answer-ends, no-first, other-type, no-address, to-address}
+use Rattle.deliver.proofs.Reading.{answer-refused, answer-done}
 use Rattle.deliver.proofs.SmsDeliver.decode.Statement.{statement}
 use Rattle.deliver.proofs.SmsDeliver.decode.Tie as tie
 
-behind-address-requires : tie.Need-behind-address-requires
-behind-address-requires c κs = to-address _ (sym (c .before .before .before .before .before .before .before .before .octet .ensures) ∙ c .before .before .before .before .before .before .first .given .1) (c .before .before .before .before .if1 .left) (sym (c .before .before .before .address-at .ensures) ∙ c .before .oa .given .1) .0
+message-requires : tie.Need-message-requires
+message-requires c κs = rw (c .before .f .given .1) at (c .before .before .before .fields-of .ensures .1)
 
-returns-4 : tie.Need-returns-4
-returns-4 c = c .behind-address .ensures ∙ ap answer (sym (to-address _ (sym (c .before .before .before .before .before .before .before .before .before .octet .ensures) ∙ c .before .before .before .before .before .before .before .first .given .1) (c .before .before .before .before .before .if1 .left) (sym (c .before .before .before .before .address-at .ensures) ∙ c .before .before .oa .given .1) .1))
+returns : tie.Need-returns
+returns c = c .refused .ensures ∙ answer-refused _ _ (rw (c .before .before .r .given .1) at (c .before .before .before .before .fields-of .ensures .0))
+
+returns-2 : tie.Need-returns-2
+returns-2 c = answer-done _ _ _ (rw (c .before .before .f .given .1) at (c .before .before .before .before .fields-of .ensures .0)) (c .message .ensures)
 
 pub decode-spec : {M : Type 1} → statement M
 decode-spec =
@@ -19,15 +21,8 @@ decode-spec =
     (tie.spec
     (λ c κs. tt)
     (λ c. search needs)
-    (λ c. search needs)
-    (λ c κs. tt)
-    (λ c. c .ended .ensures ∙ answer-ends (no-first _ (sym (c .before .before .before .octet .ensures) ∙ c .before .enum-told .given .1)))
-    (λ c κs. tt)
-    (λ c. c .refused .ensures ∙ answer-ends (other-type _ (sym (c .before .before .before .before .before .octet .ensures) ∙ c .before .before .before .first .given .1) (c .before .if1 .taken)))
     (λ c κs. tt)
     (λ c. search needs)
-    (λ c. search needs)
-    (λ c κs. tt)
-    (λ c. c .ended2 .ensures ∙ answer-ends (no-address _ (sym (c .before .before .before .before .before .before .before .before .octet .ensures) ∙ c .before .before .before .before .before .before .first .given .1) (c .before .before .before .before .if1 .left) (sym (c .before .before .before .address-at .ensures) ∙ c .before .enum-told2 .given .1)))
-    behind-address-requires
-    returns-4)
+    message-requires
+    returns
+    returns-2)
