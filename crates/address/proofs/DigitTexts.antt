@@ -16,7 +16,8 @@ use Rattle.octets.proofs.Table.{below}
 use Rattle.octets.proofs.Each.{Below, below-cons}
 use Rattle.text.specs.Alphabet.{indexOf}
 use Rattle.text.proofs.Rows.{index-found}
-use Rattle.address.specs.Address.{digitCharacters, digitCharacter, digitValue, isDigit, withoutF}
+use Rattle.address_writing.specs.Writing.{digitCharacters, digitValue, isDigit}
+use Rattle.address.specs.Address.{digitCharacter, withoutF}
 
 -- ---- one digit
 

@@ -2,30 +2,31 @@
 -- Assumes nothing.
 use Prim.Native.Nat.{ℕ, _+_, _≤_}
 use mathlib.Core.Path.{_≡_, refl, sym, ap, _∙_}
-use mathlib.Core.Bool.{Bool, true, false, _&&_, _||_, false≢true}
-use mathlib.Core.List.{List, [], _∷_, _++_}
-use mathlib.Core.Option.{Option, none, some}
+use mathlib.Core.Bool.{Bool, true, false}
+use mathlib.Core.List.{List, [], _++_}
+use mathlib.Core.Option.{some}
 use mathlib.Core.Logic.{_↔_}
 use native.Mathlib.Omega.{arith}
-use borrow.Author.Tests.{ltb-false, le-ltb, leb-true}
-use lib.Dec.{leb, ltb}
+use borrow.Author.Tests.{le-ltb}
+use lib.Dec.{ltb}
 use lib.ListN.{length, getD, take, drop}
 use lib.Seq.{getD-drop}
-use Rattle.octets.specs.Checks.{Check, _unless_, found, checked}
+use Rattle.octets.specs.Checks.{Check, found, checked}
 use Rattle.octets.specs.Choice.{if_then_else_}
 use Rattle.octets.specs.Each.{Octets}
 use Rattle.octets.specs.Lent.{refused, made}
 use Rattle.octets.specs.declared.Checked.{Checked}
-use Rattle.octets.specs.declared.Refusal.the-variants.{LengthTooLarge, NumberTypeOrPlanTooLarge, NotInAlphabet, AddressTooLong}
+use Rattle.octets.specs.declared.Refusal.the-variants.{LengthTooLarge, AddressTooLong}
 use Rattle.octets.specs.declared.Written.{Written}
-use Rattle.octets.proofs.Checks.{holds, made-unless}
-use Rattle.octets.proofs.Choice.{and-true, or-false}
+use Rattle.octets.proofs.Checks.{made-unless}
 use Rattle.octets.proofs.Laws.{take-pad}
+use Rattle.address_writing.specs.Writing.{addressOctets, octetsOr, addressMaking, addressChecks}
+use Rattle.address_writing.specs.Parts.{checkOf}
+use Rattle.address_writing.proofs.Checks.{afterCheck, address-checked, octets-made, checks-passed}
 use Rattle.address.specs.declared.SMSAddress.{SMSAddress}
-use Rattle.address.specs.Address.{typeOfNumber, planOf, addressWith, textIn, addressIn, addressSize, addressOctets, canonicalAddress, octetsOr, limited, addressMaking, addressChecks, isSome, textHeld, encoding}
-use Rattle.address.specs.Parts.{checkOf}
-use Rattle.address.proofs.Checks.{afterCheck, address-checked, encoding-parts}
+use Rattle.address.specs.Address.{typeOfNumber, planOf, addressWith, textIn, addressIn, addressSize, canonicalAddress, textHeld, encoding}
 use Rattle.address.proofs.Shapes.{octets-read, octets-octets, read-fits}
+use Rattle.address.proofs.Writing.{encoding-parts}
 
 -- a whole field: octets, as many as the first of them tells
 pub record Field (f : List ℕ) : Type 0 where
@@ -114,20 +115,14 @@ address-equal f g p q = (
 
 -- ---- what was written
 
-limited-made : (o : Option (List ℕ)) (xs : List ℕ) (w : Written) → limited o ≡ made xs w → o ≡ some xs
-limited-made none xs w e = let z : _≡_ {A = ℕ} 0 1 = cc in absurd (omega arith)
-limited-made (some ys) xs w e = let (few, m) = made-unless AddressTooLong (ltb 12 (length ys)) e in cc
-
 -- what was written is a whole field, and reads back as the same record
 pub written-reads : (a : SMSAddress) (xs : List ℕ) (w : Written) → encoding a ≡ made xs w
     → (addressSize xs ≡ length xs) × (addressIn xs ≡ addressWith (a .ton) (a .npi) (take (a .«address_length») (a .address)))
-unfolding encoding addressMaking
+unfolding encoding
 written-reads a xs w e =
     let (short, m) = made-unless LengthTooLarge (ltb 290 (a .«address_length»)) e in
-    let (small, o) = made-unless NumberTypeOrPlanTooLarge (ltb 7 (a .ton) || ltb 15 (a .npi)) m in
-    let (t, p) = or-false (ltb 7 (a .ton)) (ltb 15 (a .npi)) small in
-    octets-read (a .ton) (a .npi) (take (a .«address_length») (a .address)) xs (omega (arith, ltb-false 7 (a .ton) t)) (omega (arith, ltb-false 15 (a .npi) p))
-    (limited-made _ xs w o)
+    let (t, p, o) = octets-made (a .ton) (a .npi) (textHeld a) xs w m in
+    octets-read (a .ton) (a .npi) (textHeld a) xs (omega arith) (omega arith) o
 
 -- an address that passed the checks of a writer of several fields: its octets are few, tell their own end, are canonical, and read as what was written
 pub record Spelled (ton npi : ℕ) (text f : List ℕ) : Type 0 where
@@ -136,23 +131,13 @@ pub record Spelled (ton npi : ℕ) (text f : List ℕ) : Type 0 where
   pub again : canonicalAddress f ≡ f
   pub back : addressIn f ≡ addressWith ton npi text
 
-some-is : (o : Option (List ℕ)) → isSome o ≡ true → o ≡ some (octetsOr [] o)
-some-is none e = absurd (false≢true e)
-some-is (some xs) e = refl
-
 pub address-passed : (ton npi : ℕ) (text : List ℕ) → found (addressChecks ton npi text) ≡ Checked.Fine → Spelled ton npi text (octetsOr [] (addressOctets ton npi text))
 unfolding addressIn addressWith canonicalAddress
 address-passed ton npi text e =
-    let o = addressOctets ton npi text in
-    let f = octetsOr [] o in
-    let few = (AddressTooLong unless leb (length f) 12) ∷ [] in
-    let (range, e1) = holds NumberTypeOrPlanTooLarge (leb ton 7 && leb npi 15) ((NotInAlphabet unless isSome o) ∷ few) e in
-    let (there, e2) = holds NotInAlphabet (isSome o) few e1 in
-    let (short, e3) = holds AddressTooLong (leb (length f) 12) [] e2 in
-    let (t, p) = and-true (leb ton 7) (leb npi 15) range in
-    let is = some-is o there in
-    let (whole, back) = octets-read ton npi text f (omega (arith, leb-true ton 7 t)) (omega (arith, leb-true npi 15 p)) is in
+    let f = octetsOr [] (addressOctets ton npi text) in
+    let (t, p, is, short) = checks-passed ton npi text e in
+    let (whole, back) = octets-read ton npi text f (omega arith) (omega arith) is in
     let n = ap (λ (a : SMSAddress). a .ton) back in
     let m = ap (λ (a : SMSAddress). a .npi) back in
     let x : textIn f ≡ text = sym (take-pad 290 (textIn f)) ∙ ap textHeld back ∙ take-pad 290 text in
-    record { short = leb-true _ _ short; whole = whole; again = rw (n, m, x); back = back }
+    record { short = short; whole = whole; again = rw (n, m, x); back = back }

@@ -1,5 +1,5 @@
 pub mod Characters
-pub mod Checks
 pub mod DigitTexts
 pub mod Shapes
+pub mod Writing
 pub mod Laws

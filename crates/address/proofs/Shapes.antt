@@ -19,7 +19,8 @@ use Rattle.scanning.specs.Writing.{septetsOf}
 use Rattle.scanning.proofs.Adequate.{text-packed-text}
 use Rattle.scanning.proofs.Laws.{read-writable}
 use Rattle.text.proofs.Laws.{text-short}
-use Rattle.address.specs.Address.{digitCharacter, digitValue, isDigit, withoutF, typeOfNumber, planOf, valueText, addressWith, textIn, addressIn, addressSize, fieldOf, textField, addressOctets}
+use Rattle.address_writing.specs.Writing.{digitValue, isDigit, fieldOf, textField, addressOctets}
+use Rattle.address.specs.Address.{digitCharacter, withoutF, typeOfNumber, planOf, valueText, addressWith, textIn, addressIn, addressSize}
 use Rattle.address.proofs.DigitTexts.{values-digits, characters-back, without-digits, without-none}
 
 -- ---- what is written

@@ -20,7 +20,8 @@ use Rattle.coding.specs.Coding.{codingOf, dataOctets, dataChecks, dataWith}
 use Rattle.coding.proofs.Laws.{data-held, data-at-most, data-limit}
 use Rattle.time.specs.Time.{isTime, timeDigits, timeIn, digitsOf}
 use Rattle.time.proofs.Laws.{octets-back, digits-time, length-digits, time-held}
-use Rattle.address.specs.Address.{canonicalAddress, addressChecks}
+use Rattle.address_writing.specs.Writing.{addressChecks}
+use Rattle.address.specs.Address.{canonicalAddress}
 use Rattle.address.proofs.Laws.{canonical-reads, octets-again, length-short, read-checked, Field as AddressField}
 use Rattle.layout.specs.Demand.{Demand3}
 use Rattle.layout.specs.Layout.{messageType, kept, isSet, reached, read, canonicalOf, unwritable}

@@ -17,10 +17,10 @@ use Rattle.coding.specs.Coding.{checkedData}
 use Rattle.coding.proofs.Laws.{data-checked}
 use Rattle.time.specs.Time.{isTime, timeOctets}
 use Rattle.time.proofs.Laws.{length-octets, time-means}
-use Rattle.address.specs.declared.AddressCheck.{AddressCheck}
-use Rattle.address.specs.Address.{addressChecks, addressMaking}
-use Rattle.address.specs.Parts.{checkOf}
-use Rattle.address.proofs.Checks.{afterCheck, address-checked, fine-size}
+use Rattle.address_writing.specs.declared.AddressCheck.{AddressCheck}
+use Rattle.address_writing.specs.Writing.{addressChecks, addressMaking}
+use Rattle.address_writing.specs.Parts.{checkOf}
+use Rattle.address_writing.proofs.Checks.{afterCheck, address-checked, fine-size}
 use Rattle.deliver_writing.specs.Writing.{octetsIn, making}
 
 module _ (flags mti ton npi : ℕ) (text : List ℕ) (pid dcs : ℕ) (digits : List ℕ) (udl : ℕ) (ud : List ℕ) where

@@ -9,7 +9,7 @@ use Rattle.octets.specs.declared.Refusal.the-variants.{WrongMessageType, NotATi
 use Rattle.octets.specs.declared.Written.{Written}
 use Rattle.coding.specs.Coding.{dataChecks}
 use Rattle.time.specs.Time.{isTime, timeOctets}
-use Rattle.address.specs.Address.{addressOctets, octetsOr, addressChecks}
+use Rattle.address_writing.specs.Writing.{addressOctets, octetsOr, addressChecks}
 
 -- the octets of the parts, in the line's order
 abbrev pub octetsIn : ℕ → ℕ → ℕ → List ℕ → ℕ → ℕ → List ℕ → ℕ → List ℕ → List ℕ

@@ -5,10 +5,10 @@ ghost use Prim.Native.Nat.{_+_, _/_, _≤_, _<_};
 ghost use lib.ListN.{length};
 ghost use Rattle.octets.specs.Lent.{Wrote, lend};
 ghost use Rattle.time.specs.Time.{isTime};
-ghost use Rattle.address.specs.Address.{addressMaking};
-ghost use Rattle.address.specs.Parts.{checkOf};
+ghost use Rattle.address_writing.specs.Writing.{addressMaking};
+ghost use Rattle.address_writing.specs.Parts.{checkOf};
 ghost use Rattle.deliver_writing.specs.Writing.{octetsIn, making};
-use address::AddressCheck;
+use address_writing::AddressCheck;
 use octets::Checked;
 use octets::Refusal;
 use octets::Written;
@@ -33,7 +33,7 @@ fn put_parts(
     ensures { λ r. ⌜ Wrote 0 (octetsIn flags ton npi (now (text .entry)) pid dcs (now (digits .entry)) udl (now («data» .entry))) (now (out .entry)) r (now (out .exit)) ⌝ }
 {
     let p1 = octets::put_octet(out, 0, flags);
-    let p2 = address::put_address(ton, npi, text, count, out, p1);
+    let p2 = address_writing::put_address(ton, npi, text, count, out, p1);
     let p3 = octets::put_octet(out, p2, pid);
     let p4 = octets::put_octet(out, p3, dcs);
     let p5 = time::encode_time(digits, out, p4);
@@ -63,7 +63,7 @@ pub fn encode_parts(
     if let Checked::Against(r) = coding::check_user_data(dcs, udl, data.len()) {
         return Written::Refused(r);
     }
-    match address::check_address(ton, npi, text) {
+    match address_writing::check_address(ton, npi, text) {
         AddressCheck::Refused(r) => Written::Refused(r),
         AddressCheck::Fine(count) => {
             if !time::is_time(digits) {

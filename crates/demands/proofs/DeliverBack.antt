@@ -21,7 +21,8 @@ use Rattle.coding.specs.Coding.{codingOf, dataOctets, dataWith, dataOf, dataChe
 use Rattle.coding.proofs.Laws.{data-held, data-passed}
 use Rattle.time.specs.Time.{isTime, timeDigits, timeOctets, timeIn, digitsOf, capitals}
 use Rattle.time.proofs.Laws.{digits-back, length-digits, time-means, time-held, time-size}
-use Rattle.address.specs.Address.{addressIn, addressWith, addressOctets, addressSize, canonicalAddress, octetsOr, textHeld, addressChecks}
+use Rattle.address_writing.specs.Writing.{addressOctets, octetsOr, addressChecks}
+use Rattle.address.specs.Address.{addressIn, addressWith, addressSize, canonicalAddress, textHeld}
 use Rattle.address.proofs.Laws.{Spelled, address-passed}
 use Rattle.layout.specs.Layout.{first, octet, octets, any, address, userData, isSet, messageType, kept, Format, field, done, reached, reading, readFrom, read}
 use Rattle.layout.proofs.Steps.{done-reached, then-goes-on}

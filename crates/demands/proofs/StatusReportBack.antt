@@ -22,7 +22,8 @@ use Rattle.coding.specs.Coding.{dataWith, dataOf}
 use Rattle.coding.proofs.Laws.{data-held}
 use Rattle.time.specs.Time.{isTime, timeDigits, timeOctets, timeIn, digitsOf, capitals}
 use Rattle.time.proofs.Laws.{digits-back, length-digits, time-means, time-held, time-size}
-use Rattle.address.specs.Address.{addressIn, addressWith, addressOctets, addressSize, addressChecks, canonicalAddress, octetsOr, textHeld}
+use Rattle.address_writing.specs.Writing.{addressOctets, addressChecks, octetsOr}
+use Rattle.address.specs.Address.{addressIn, addressWith, addressSize, canonicalAddress, textHeld}
 use Rattle.address.proofs.Laws.{Spelled, address-passed}
 use Rattle.layout.specs.Layout.{octet, octets, any, address, isSet, messageType, kept, Format, field, one, reached, reading, readFrom, read}
 use Rattle.layout.proofs.Steps.{done-reached, end-not-reached}

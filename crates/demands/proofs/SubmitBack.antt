@@ -15,7 +15,9 @@ use Rattle.octets.proofs.Table.{allBelow, below}
 use Rattle.octets.specs.Choice.{if_then_else_, flag}
 use Rattle.time.specs.Time.{timeIn, timeDigits, timeOctets, capitals}
 use Rattle.time.proofs.Laws.{digits-back}
-use Rattle.address.specs.Address.{addressIn, addressWith, addressOctets, octetsOr}
+use Rattle.address_writing.specs.Writing.{addressOctets, octetsOr}
+use Rattle.address.specs.Address.{addressIn, addressWith}
+use Rattle.address.proofs.Laws.{address-passed}
 use Rattle.layout.specs.Layout.{isSet, messageType, reached, halted, read}
 use Rattle.coding.specs.Coding.{codingOf, dataOf}
 use Rattle.coding.proofs.Laws.{data-held}
@@ -143,6 +145,7 @@ read-back r seven xs w e =
     let p = all-passed _ _ _ _ _ _ _ _ _ _ _ _ _ _ _ xs w (made-if LengthTooLarge (lengthsFit r) e .1) in
     let a = r .«tp_destination_address» in
     let text = take (addressLength r) (a .address) in
+    let spelled = address-passed (a .ton) (a .npi) text (p .address) in
     let da = octetsOr [] (addressOctets (a .ton) (a .npi) text) in
     let period = r .«tp_validity_period» in
     let digits = take (digitsLength r) (r .«validity_period_digits» .digits) in
@@ -153,6 +156,6 @@ read-back r seven xs w e =
     let format : formatIn f ≡ formatOf period = t .vpf-is ∙ p .format-is in
     let size : periodSize (formatIn f) ≡ length vp = rw format (sym (period-size period digits (r .«validity_period_octets») (p .time) seven)) in (
       submitted f (r .«tp_mr») da (r .«tp_pid») (r .«tp_dcs») vp (r .«tp_user_data_length») d (headerSize (r .«tp_udhi») d),
-      same-parts r f t (p .mti-is) format da (p .address .back) (p .there-is) (p .time) seven _,
-      rw (← p .octets-are) (rw (t .udhi-is) at (written-read f (t .small) (t .mti-is) (r .«tp_mr») da (p .address .whole) (p .address .again) (r .«tp_pid») (r .«tp_dcs») vp size (r .«tp_user_data_length») d (sym (p .size-is)))),
+      same-parts r f t (p .mti-is) format da (spelled .back) (p .there-is) (p .time) seven _,
+      rw (← p .octets-are) (rw (t .udhi-is) at (written-read f (t .small) (t .mti-is) (r .«tp_mr») da (spelled .whole) (spelled .again) (r .«tp_pid») (r .«tp_dcs») vp size (r .«tp_user_data_length») d (sym (p .size-is)))),
     )

@@ -15,11 +15,12 @@ use Rattle.octets.specs.declared.Written.{Written}
 use Rattle.octets.specs.Each.{Octets}
 use Rattle.octets.proofs.Checks.{made-if}
 use Rattle.coding.specs.Coding.{codingOf}
+use Rattle.address_writing.proofs.Checks.{checks-passed}
 use Rattle.layout.specs.Layout.{isSet, kept, Field, reached, read, readFrom}
 use Rattle.layout.proofs.Laws.{within-read}
 use Rattle.layout.proofs.Makes.{Makes, makes}
 use Rattle.submit.specs.declared.SmsSubmit.{SmsSubmit}
-use Rattle.submit.specs.Submit.{digitsLength, lengthsFit, submitting, headerSize, textWith, submitted, bits, behindCoding, behindFirst, line, submit}
+use Rattle.submit.specs.Submit.{addressLength, digitsLength, lengthsFit, submitting, headerSize, textWith, submitted, bits, behindCoding, behindFirst, line, submit}
 use Rattle.validity.specs.Validity.{formatOf, periodSize}
 use Rattle.validity.proofs.Period.{period-size}
 use Rattle.submit_writing.proofs.Writing.{all-passed}
@@ -55,5 +56,6 @@ pub written-at-most : (r : SmsSubmit) → length (r .«validity_period_octets»)
 unfolding submitting
 written-at-most r seven xs w e =
     let p = all-passed _ _ _ _ _ _ _ _ _ _ _ _ _ _ _ xs w (made-if LengthTooLarge (lengthsFit r) e .1) in
+    let a = r .«tp_destination_address» in
     let vp = period-size (r .«tp_validity_period») (take (digitsLength r) (r .«validity_period_digits» .digits)) (r .«validity_period_octets») (p .time) seven in
-    rw (← p .octets-are) (simp length-append (omega (arith, p .few, p .address .short, vp, at-most-seven (formatOf (r .«tp_validity_period»)))))
+    rw (← p .octets-are) (simp length-append (omega (arith, p .few, checks-passed (a .ton) (a .npi) (take (addressLength r) (a .address)) (p .address), vp, at-most-seven (formatOf (r .«tp_validity_period»)))))

@@ -13,7 +13,8 @@ use Rattle.octets.specs.SemiOctets.{semiOctets, inPairs}
 use Rattle.octets.specs.Texts.{codes}
 use Rattle.time.specs.Time.{timeOctets, timeDigits, hexDigit, hexValue}
 use Rattle.timestamp.specs.Timestamp.{timestamp, inCalendar}
-use Rattle.address.specs.Address.{digitCharacters, digitCharacter, digitValue, isDigit, withoutF, valueText, textIn, addressIn, addressWith, addressOctets, canonicalAddress, addressMaking, encoding}
+use Rattle.address_writing.specs.Writing.{digitCharacters, digitValue, isDigit, addressOctets, addressMaking}
+use Rattle.address.specs.Address.{digitCharacter, withoutF, valueText, textIn, addressIn, addressWith, canonicalAddress, encoding}
 use Rattle.header.specs.Header.{unpackedWithHeader, packingWithHeader, shown}
 use Rattle.coding.specs.Coding.{dataWith}
 use Rattle.layout.specs.Layout.{read, readFrom, reading, after, stops, kept, indicatorSize}

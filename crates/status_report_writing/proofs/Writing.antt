@@ -17,10 +17,10 @@ use Rattle.octets.proofs.Laws.{lent-refused, lent-short, lent-written}
 use Rattle.octets.proofs.Checks.{holds, passed, against, all-passed, one-against}
 use Rattle.time.specs.Time.{isTime}
 use Rattle.time.proofs.Laws.{time-size}
-use Rattle.address.specs.declared.AddressCheck.{AddressCheck}
-use Rattle.address.specs.Address.{addressMaking}
-use Rattle.address.specs.Parts.{checkOf}
-use Rattle.address.proofs.Checks.{afterCheck, address-checked, fine-size}
+use Rattle.address_writing.specs.declared.AddressCheck.{AddressCheck}
+use Rattle.address_writing.specs.Writing.{addressMaking}
+use Rattle.address_writing.specs.Parts.{checkOf}
+use Rattle.address_writing.proofs.Checks.{afterCheck, address-checked, fine-size}
 use Rattle.parameters.specs.Checking.{indicatorChecks, dataChecks}
 use Rattle.parameters.specs.Line.{Parameters, parametersOctets}
 use Rattle.parameters.specs.Optional.{held}

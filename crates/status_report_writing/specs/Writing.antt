@@ -8,7 +8,7 @@ use Rattle.octets.specs.Lent.{Making}
 use Rattle.octets.specs.declared.Refusal.the-variants.{NotATime, ParametersWithoutIndicator}
 use Rattle.octets.specs.declared.Written.{Written}
 use Rattle.time.specs.Time.{isTime, timeOctets}
-use Rattle.address.specs.Address.{addressOctets, octetsOr, addressChecks}
+use Rattle.address_writing.specs.Writing.{addressOctets, octetsOr, addressChecks}
 use Rattle.parameters.specs.Checking.{indicatorChecks, dataChecks}
 use Rattle.parameters.specs.Line.{Parameters, parametersOctets}
 use Rattle.parameters.specs.Optional.{octetsHeld}

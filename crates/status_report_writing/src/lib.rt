@@ -6,11 +6,11 @@ ghost use lib.ListN.{length};
 ghost use Rattle.octets.specs.Lent.{Wrote, lend};
 ghost use Rattle.octets.specs.Checks.{found};
 ghost use Rattle.time.specs.Time.{isTime};
-ghost use Rattle.address.specs.Address.{addressMaking};
-ghost use Rattle.address.specs.Parts.{checkOf};
+ghost use Rattle.address_writing.specs.Writing.{addressMaking};
+ghost use Rattle.address_writing.specs.Parts.{checkOf};
 ghost use Rattle.parameters.specs.Optional.{held};
 ghost use Rattle.status_report_writing.specs.Writing.{octetsBehind, octetsIn, optionalChecks, checksBehind, making};
-use address::AddressCheck;
+use address_writing::AddressCheck;
 use octets::Checked;
 use octets::Refusal;
 use octets::Written;
@@ -107,7 +107,7 @@ fn put_parts(
 {
     let p1 = octets::put_octet(out, 0, first);
     let p2 = octets::put_octet(out, p1, mr);
-    let p3 = address::put_address(ton, npi, text, count, out, p2);
+    let p3 = address_writing::put_address(ton, npi, text, count, out, p2);
     put_behind_address(scts, dt, status, indicator, pid, dcs, udl, data, out, p3)
 }
 
@@ -131,7 +131,7 @@ pub fn encode_parts(
     requires { ⌜ length (now «data») ≤ 255 ⌝ }
     ensures { λ r. ⌜ (r, now (out .exit)) ≡ lend Written.Refused (making first mr ton npi (now (text .entry)) (now (scts .entry)) (now (dt .entry)) status indicator (record { pid = pid; dcs = dcs; udl = udl; ud = now («data» .entry) })) (now (out .entry)) ⌝ }
 {
-    match address::check_address(ton, npi, text) {
+    match address_writing::check_address(ton, npi, text) {
         AddressCheck::Refused(r) => Written::Refused(r),
         AddressCheck::Fine(count) => {
             if let Checked::Against(r) = check_behind_address(

@@ -22,7 +22,8 @@ use Rattle.octets.proofs.Checks.{check-holds, no-checks}
 use Rattle.coding.specs.Coding.{codingOf, dataOctets, dataWith, dataChecks}
 use Rattle.coding.proofs.Laws.{data-held, data-at-most, data-limit}
 use Rattle.time.specs.Time.{timeIn}
-use Rattle.address.specs.Address.{typeOfNumber, planOf, textIn, addressIn, addressWith, addressOctets, octetsOr, canonicalAddress, addressChecks}
+use Rattle.address_writing.specs.Writing.{addressOctets, octetsOr, addressChecks}
+use Rattle.address.specs.Address.{typeOfNumber, planOf, textIn, addressIn, addressWith, canonicalAddress}
 use Rattle.address.proofs.Laws.{Field as AddressField, canonical-reads, canonical-field, text-short, address-equal, read-checked}
 use Rattle.layout.specs.Demand.{Demand3}
 use Rattle.layout.specs.Layout.{octets, isSet, messageType, kept, reached, read, canonicalOf, unwritable}

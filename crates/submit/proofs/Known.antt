@@ -9,7 +9,8 @@ use Rattle.octets.specs.Texts.{codes}
 use Rattle.octets.specs.declared.Refusal.the-variants.{OctetsEnd, WrongMessageType, HeaderNotWhole, HeaderPassesCount}
 use Rattle.coding.specs.Coding.{codingOf, characterSet, dataOctets}
 use Rattle.text.specs.Alphabet.{indexOf}
-use Rattle.address.specs.Address.{digitCharacters, digitCharacter, digitValue, isDigit, withoutF, valueText, textIn, addressOctets, canonicalAddress}
+use Rattle.address_writing.specs.Writing.{digitCharacters, digitValue, isDigit, addressOctets}
+use Rattle.address.specs.Address.{digitCharacter, withoutF, valueText, textIn, canonicalAddress}
 use Rattle.layout.specs.Layout.{kept, halted, after, reading, readFrom, fieldsOf, read, canonicalOf}
 use Rattle.submit.specs.Submit.{headerSize, inCount, behindCoding, behindFirst, line, submit}
 use Rattle.validity.specs.Validity.{periodSize}

@@ -9,7 +9,7 @@ use borrow.Author.Tests.{eqb-true, eq-eqb, ne-eqb}
 use lib.Dec.{eqb}
 use lib.ListN.{length, length-append}
 use Rattle.octets.proofs.Checks.{holds, both-hold, made-told}
-use Rattle.octets.specs.Checks.{_unless_, checked, afterChecked}
+use Rattle.octets.specs.Checks.{_unless_, found, checked, afterChecked}
 use Rattle.octets.specs.Lent.{Making, refused, made}
 use Rattle.octets.specs.declared.Checked.{Checked}
 use Rattle.octets.specs.declared.Refusal.{Refusal}
@@ -17,11 +17,10 @@ use Rattle.octets.specs.declared.Refusal.the-variants.{WrongMessageType, Validi
 use Rattle.octets.specs.declared.Written.{Written}
 use Rattle.coding.specs.Coding.{codingOf, dataOctets, checkedData, dataChecks}
 use Rattle.coding.proofs.Laws.{data-checked, data-passed}
-use Rattle.address.specs.declared.AddressCheck.{AddressCheck}
-use Rattle.address.specs.Address.{addressOctets, octetsOr, addressChecks, addressMaking}
-use Rattle.address.specs.Parts.{checkOf}
-use Rattle.address.proofs.Checks.{afterCheck, address-checked, fine-size}
-use Rattle.address.proofs.Laws.{Spelled, address-passed}
+use Rattle.address_writing.specs.declared.AddressCheck.{AddressCheck}
+use Rattle.address_writing.specs.Writing.{addressChecks, addressMaking}
+use Rattle.address_writing.specs.Parts.{checkOf}
+use Rattle.address_writing.proofs.Checks.{afterCheck, address-checked, fine-size}
 use Rattle.validity.specs.declared.ValidityPeriod.{ValidityPeriod}
 use Rattle.submit_writing.specs.Writing.{octetsIn, making}
 use Rattle.validity.specs.Validity.{formatOf, periodSize, periodOctets, timeHolds}
@@ -88,7 +87,7 @@ pub record Passed (flags mti vpf mr : ℕ) (there : Bool) (ton npi : ℕ) (text 
   pub there-is : there ≡ true
   pub size-is : length ud ≡ dataOctets (codingOf dcs) udl
   pub few : length ud ≤ 140
-  pub address : Spelled ton npi text (octetsOr [] (addressOctets ton npi text))
+  pub address : found (addressChecks ton npi text) ≡ Checked.Fine
   pub time : timeHolds period digits ≡ true
   pub octets-are : octetsIn (flags + 8 * vpf + 1) mr ton npi text pid dcs (periodOctets period digits enhanced) udl ud ≡ xs
 
@@ -112,7 +111,7 @@ all-passed flags mti vpf mr there ton npi text pid dcs period digits enhanced ud
       there-is = d;
       size-is = size;
       few = few;
-      address = address-passed _ _ _ a;
+      address = a;
       time = holds NotATime (timeHolds period digits) [] f5 .0;
       octets-are = x;
     }

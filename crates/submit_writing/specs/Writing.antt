@@ -9,7 +9,7 @@ use Rattle.octets.specs.Lent.{Making}
 use Rattle.octets.specs.declared.Refusal.the-variants.{WrongMessageType, ValidityFormatDisagrees, NoDestination, NotATime}
 use Rattle.octets.specs.declared.Written.{Written}
 use Rattle.coding.specs.Coding.{dataChecks}
-use Rattle.address.specs.Address.{addressOctets, octetsOr, addressChecks}
+use Rattle.address_writing.specs.Writing.{addressOctets, octetsOr, addressChecks}
 use Rattle.validity.specs.Validity.{formatOf, periodOctets, timeHolds}
 use Rattle.validity.specs.declared.ValidityPeriod.{ValidityPeriod}
 

@@ -4,11 +4,11 @@ ghost use mathlib.Core.Bool.{true};
 ghost use Prim.Native.Nat.{_+_, _/_, _≤_};
 ghost use lib.ListN.{length};
 ghost use Rattle.octets.specs.Lent.{Wrote, lend};
-ghost use Rattle.address.specs.Address.{addressMaking};
-ghost use Rattle.address.specs.Parts.{checkOf};
+ghost use Rattle.address_writing.specs.Writing.{addressMaking};
+ghost use Rattle.address_writing.specs.Parts.{checkOf};
 ghost use Rattle.submit_writing.specs.Writing.{octetsIn, making};
 ghost use Rattle.validity.specs.Validity.{formatOf, periodSize, periodOctets, timeHolds};
-use address::AddressCheck;
+use address_writing::AddressCheck;
 use octets::Checked;
 use octets::Refusal;
 use octets::Written;
@@ -38,7 +38,7 @@ fn put_parts(
 {
     let p1 = octets::put_octet(out, 0, first);
     let p2 = octets::put_octet(out, p1, mr);
-    let p3 = address::put_address(ton, npi, text, count, out, p2);
+    let p3 = address_writing::put_address(ton, npi, text, count, out, p2);
     let p4 = octets::put_octet(out, p3, pid);
     let p5 = octets::put_octet(out, p4, dcs);
     let p6 = validity::put_period(period, digits, enhanced, out, p5);
@@ -80,7 +80,7 @@ pub fn encode_parts(
     if let Checked::Against(r) = coding::check_user_data(dcs, udl, data.len()) {
         return Written::Refused(r);
     }
-    match address::check_address(ton, npi, text) {
+    match address_writing::check_address(ton, npi, text) {
         AddressCheck::Refused(r) => Written::Refused(r),
         AddressCheck::Fine(count) => {
             if !validity::check_period(period, digits) {

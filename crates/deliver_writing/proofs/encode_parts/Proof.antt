@@ -11,13 +11,13 @@ use Rattle.octets.specs.declared.Written.{Written}
 use Rattle.octets.specs.declared.Checked.{Checked}
 use Rattle.octets.proofs.Laws.{lent-refused, lent-short, lent-done}
 use Rattle.coding.specs.Coding.{checkedData}
-use Rattle.address.specs.declared.AddressCheck.{AddressCheck}
-use Rattle.address.specs.Address.{addressMaking}
-use Rattle.address.specs.Parts.{checkOf}
-use Rattle.address.proofs.Checks.{fine-small}
+use Rattle.address_writing.specs.declared.AddressCheck.{AddressCheck}
+use Rattle.address_writing.specs.Writing.{addressMaking}
+use Rattle.address_writing.specs.Parts.{checkOf}
+use Rattle.address_writing.proofs.Checks.{fine-small}
 use Rattle.deliver_writing.proofs.Writing.{another-type, data-against, address-against, no-time, all-made, all-size}
 use Rattle.coding.proofs.check_user_data.Reads as check-user-data-reads
-use Rattle.address.proofs.check_address.Reads as check-address-reads
+use Rattle.address_writing.proofs.check_address.Reads as check-address-reads
 use Rattle.time.proofs.is_time.Reads as is-time-reads
 use Rattle.deliver_writing.proofs.put_parts.Reads as put-parts-reads
 use Rattle.deliver_writing.proofs.encode_parts.Reads as reads

@@ -10,11 +10,11 @@ use lib.ListN.{length}
 use Rattle.octets.proofs.Laws.{Chain, chain-start, chain-step}
 use Rattle.time.specs.Time.{timeOctets}
 use Rattle.time.proofs.Laws.{length-octets, time-means}
-use Rattle.address.specs.Address.{addressOctets, octetsOr}
-use Rattle.address.proofs.Checks.{fine-size}
+use Rattle.address_writing.specs.Writing.{addressOctets, octetsOr}
+use Rattle.address_writing.proofs.Checks.{fine-size}
 use Rattle.octets.proofs.put_octet.Reads as put-octet-reads
 use Rattle.octets.proofs.put_octets.Reads as put-octets-reads
-use Rattle.address.proofs.put_address.Reads as put-address-reads
+use Rattle.address_writing.proofs.put_address.Reads as put-address-reads
 use Rattle.time.proofs.encode_time.Reads as encode-time-reads
 use Rattle.deliver_writing.proofs.put_parts.Reads as reads
 use Rattle.deliver_writing.proofs.put_parts.Lts as lts

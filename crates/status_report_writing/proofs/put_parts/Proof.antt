@@ -3,7 +3,7 @@
 use native.Mathlib.Omega.{arith}
 use borrow.Author.Needs.{needs}
 use Rattle.octets.proofs.Laws.{wrote-then, kept-by}
-use Rattle.address.proofs.Checks.{fine-size}
+use Rattle.address_writing.proofs.Checks.{fine-size}
 use Rattle.status_report_writing.proofs.put_parts.Statement.{statement}
 use Rattle.status_report_writing.proofs.put_parts.Tie as tie
 

@@ -15,16 +15,16 @@ use Rattle.octets.specs.declared.Written.{Written}
 use Rattle.octets.specs.declared.Checked.{Checked}
 use Rattle.octets.proofs.Laws.{lent-refused, lent-short, lent-done}
 use Rattle.coding.specs.Coding.{checkedData}
-use Rattle.address.specs.declared.AddressCheck.{AddressCheck}
-use Rattle.address.specs.Address.{addressMaking}
-use Rattle.address.specs.Parts.{checkOf}
-use Rattle.address.proofs.Checks.{fine-small}
+use Rattle.address_writing.specs.declared.AddressCheck.{AddressCheck}
+use Rattle.address_writing.specs.Writing.{addressMaking}
+use Rattle.address_writing.specs.Parts.{checkOf}
+use Rattle.address_writing.proofs.Checks.{fine-small}
 use Rattle.submit_writing.specs.Writing.{making}
 use Rattle.validity.specs.Validity.{formatOf, periodSize, timeHolds}
 use Rattle.submit_writing.proofs.Writing.{octets, another-type, another-format, no-destination, data-against, address-against, no-time, all-made, all-size}
 use Rattle.coding.proofs.check_user_data.Reads as check-user-data-reads
 use Rattle.coding.proofs.Laws.{data-passed}
-use Rattle.address.proofs.check_address.Reads as check-address-reads
+use Rattle.address_writing.proofs.check_address.Reads as check-address-reads
 use Rattle.validity.proofs.ValidityPeriod.format.Reads as format-reads
 use Rattle.validity.proofs.check_period.Reads as check-period-reads
 use Rattle.validity.proofs.validity_octets.Reads as validity-octets-reads

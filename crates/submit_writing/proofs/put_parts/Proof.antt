@@ -7,8 +7,8 @@ use native.Mathlib.Omega.{arith}
 use borrow.Author.Needs.{needs}
 use denote.Ref.{now}
 use Rattle.octets.proofs.Laws.{chain-start, chain-step}
-use Rattle.address.specs.Address.{addressOctets, octetsOr}
-use Rattle.address.proofs.Checks.{fine-size}
+use Rattle.address_writing.specs.Writing.{addressOctets, octetsOr}
+use Rattle.address_writing.proofs.Checks.{fine-size}
 use Rattle.validity.specs.Validity.{periodOctets}
 use Rattle.validity.proofs.Period.{period-size}
 use Rattle.submit_writing.proofs.put_parts.Statement.{statement}

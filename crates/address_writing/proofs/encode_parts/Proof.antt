@@ -1,4 +1,4 @@
--- `address::encode_parts` meets its contract: check, measure, write.
+-- `address_writing::encode_parts` meets its contract: check, measure, write.
 -- Assumes nothing.
 use mathlib.Core.Path.{_≡_, sym, _∙_}
 use native.Mathlib.Omega.{arith}
@@ -6,16 +6,16 @@ use borrow.Author.Needs.{needs}
 use denote.Ref.{now}
 use Rattle.octets.specs.declared.Written.{Written}
 use Rattle.octets.proofs.Laws.{lent-refused, lent-short, lent-written}
-use Rattle.address.specs.declared.AddressCheck.{AddressCheck}
-use Rattle.address.specs.Address.{addressMaking}
-use Rattle.address.specs.Parts.{checkOf}
-use Rattle.address.proofs.Checks.{fine-small, fine-size, fine-made, refused-made}
-use Rattle.address.proofs.encode_parts.Reads as reads
-use Rattle.address.proofs.encode_parts.Lts as lts
-use Rattle.address.proofs.check_address.Reads as check-address-reads
-use Rattle.address.proofs.put_address.Reads as put-address-reads
-use Rattle.address.proofs.encode_parts.Statement.{statement}
-use Rattle.address.proofs.encode_parts.Tie as tie
+use Rattle.address_writing.specs.declared.AddressCheck.{AddressCheck}
+use Rattle.address_writing.specs.Writing.{addressMaking}
+use Rattle.address_writing.specs.Parts.{checkOf}
+use Rattle.address_writing.proofs.Checks.{fine-small, fine-size, fine-made, refused-made}
+use Rattle.address_writing.proofs.encode_parts.Reads as reads
+use Rattle.address_writing.proofs.encode_parts.Lts as lts
+use Rattle.address_writing.proofs.check_address.Reads as check-address-reads
+use Rattle.address_writing.proofs.put_address.Reads as put-address-reads
+use Rattle.address_writing.proofs.encode_parts.Statement.{statement}
+use Rattle.address_writing.proofs.encode_parts.Tie as tie
 
 -- where the check has passed
 abbrev Passed : Type 0

@@ -1,4 +1,4 @@
--- `address::check_text` meets its contract: eleven septets take ten octets, twelve take eleven.
+-- `address_writing::check_text` meets its contract: eleven septets take ten octets, twelve take eleven.
 -- Assumes nothing.
 use Prim.Native.Nat.{ℕ, _+_, _*_, _/_, _≤_, _<_}
 use mathlib.Core.Path.{_≡_, sym}
@@ -11,12 +11,12 @@ use lib.ListN.{length, replicate}
 use lib.Seq.{sets}
 use Rattle.scanning.specs.Writing.{septetsOf}
 use Rattle.scanning.proofs.Scanning.{scanned-some, scanned-not}
-use Rattle.address.proofs.Checks.{text-none, text-long, text-fine}
-use Rattle.address.proofs.check_text.Reads as reads
-use Rattle.address.proofs.check_text.Lts as lts
+use Rattle.address_writing.proofs.Checks.{text-none, text-long, text-fine}
+use Rattle.address_writing.proofs.check_text.Reads as reads
+use Rattle.address_writing.proofs.check_text.Lts as lts
 use Rattle.scanning.proofs.scan_text.Reads as scan-text-reads
-use Rattle.address.proofs.check_text.Statement.{statement}
-use Rattle.address.proofs.check_text.Tie as tie
+use Rattle.address_writing.proofs.check_text.Statement.{statement}
+use Rattle.address_writing.proofs.check_text.Tie as tie
 
 returns : tie.Need-returns
 returns c =

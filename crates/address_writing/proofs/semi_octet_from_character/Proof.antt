@@ -1,13 +1,13 @@
--- `address::semi_octet_from_character` meets its contract: each arm is a case of the ranges.
+-- `address_writing::semi_octet_from_character` meets its contract: each arm is a case of the ranges.
 -- Assumes nothing.
 use Prim.Native.Nat.{ℕ, _≤_, _<_}
 use mathlib.Core.Path.{_≡_, sym}
 use native.Mathlib.Omega.{arith}
 use borrow.Author.Needs.{needs}
 use borrow.Author.Tests.{le-leb, lt-leb, eq-eqb, ne-eqb}
-use Rattle.address.proofs.Characters.{value-by-range}
-use Rattle.address.proofs.semi_octet_from_character.Statement.{statement}
-use Rattle.address.proofs.semi_octet_from_character.Tie as tie
+use Rattle.address_writing.proofs.Characters.{value-by-range}
+use Rattle.address_writing.proofs.semi_octet_from_character.Statement.{statement}
+use Rattle.address_writing.proofs.semi_octet_from_character.Tie as tie
 
 star : tie.Need-returns
 star c = rw (c .match .keys1) (sym (value-by-range 42 (omega arith)))

@@ -1,4 +1,4 @@
--- `address::put_digits` meets its contract: the octets that are left, stored too, still give the whole.
+-- `address_writing::put_digits` meets its contract: the octets that are left, stored too, still give the whole.
 -- Assumes nothing.
 use Prim.Native.Nat.{ℕ, _+_, _*_, _/_, _-_, _≤_, _<_}
 use mathlib.Core.Path.{_≡_, refl, sym, _∙_}
@@ -10,18 +10,14 @@ use denote.Ref.{now}
 use lib.ListN.{length, drop, length-map, length-set, drop-of-length-le}
 use lib.Seq.{sets}
 use Rattle.octets.specs.SemiOctets.{inPairs}
-use Rattle.octets.proofs.SemiOctets.{length-pairs}
 use Rattle.octets.proofs.Laws.{Left, left-start, left-step, left-end, wrote-one}
-use Rattle.address.specs.Address.{digitValue}
-use Rattle.address.proofs.Characters.{pairs-next}
-use Rattle.address.proofs.put_digits.Statement.{statement}
-use Rattle.address.proofs.put_digits.Tie as tie
+use Rattle.address_writing.specs.Writing.{digitValue}
+use Rattle.address_writing.proofs.Characters.{pairs-next, digits-size}
+use Rattle.address_writing.proofs.put_digits.Statement.{statement}
+use Rattle.address_writing.proofs.put_digits.Tie as tie
 
 abbrev octetsOf : List ℕ → List ℕ
 octetsOf text = inPairs (map digitValue text)
-
-size : (text : List ℕ) → length (octetsOf text) ≡ (length text + 1) / 2
-size text = length-pairs (map digitValue text) ∙ rw length-map
 
 abbrev Inv-loop : tie.InvT-loop
 Inv-loop text out₀ at octets j₀ out j =
@@ -45,7 +41,7 @@ returns : tie.Need-returns Inv-loop μ-loop
 returns c =
     let a = c .before .before .before .before .args in
     let l = c .before .loop in
-    let s = size (now (a .text)) in
+    let s = digits-size (now (a .text)) in
     let h : length (octetsOf (now (a .text))) ≤ l .j = rw s (omega arith) in
     record { place = rw s (omega arith); list = left-end (l .inv .3) (drop-of-length-le _ h) .1 }
 

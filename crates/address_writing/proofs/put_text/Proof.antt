@@ -1,4 +1,4 @@
--- `address::put_text` meets its contract: the text has septets, and they are packed.
+-- `address_writing::put_text` meets its contract: the text has septets, and they are packed.
 -- Assumes nothing.
 use Prim.Native.Nat.{ℕ, _+_, _≤_, _<_}
 use mathlib.Core.Path.{_≡_, refl, sym, ap, subst, _∙_}
@@ -13,13 +13,14 @@ use Rattle.septets.specs.Septets.{Digits, octetCount}
 use Rattle.scanning.specs.Writing.{septetsOf}
 use Rattle.scanning.proofs.Adequate.{septets-digits}
 use Rattle.scanning.proofs.Scanning.{scanned-some, scanned-not, codes-are}
-use Rattle.address.specs.Parts.{Spells, septetsOr}
-use Rattle.address.proofs.put_text.Reads as reads
-use Rattle.address.proofs.put_text.Lts as lts
+use Rattle.address_writing.specs.Parts.{Spells}
+use Rattle.address_writing.proofs.Checks.{septets-are}
+use Rattle.address_writing.proofs.put_text.Reads as reads
+use Rattle.address_writing.proofs.put_text.Lts as lts
 use Rattle.scanning.proofs.scan_text.Reads as scan-text-reads
 use Rattle.septets.proofs.pack_octets.Reads as pack-octets-reads
-use Rattle.address.proofs.put_text.Statement.{statement}
-use Rattle.address.proofs.put_text.Tie as tie
+use Rattle.address_writing.proofs.put_text.Statement.{statement}
+use Rattle.address_writing.proofs.put_text.Tie as tie
 
 -- where the septets are counted
 abbrev Counted : Type 0
@@ -34,8 +35,8 @@ few o ss e h = rw e at h
 codes-long : (c : Counted) → length (c .before .before .before .scan-text .last .1 .0) ≡ 255
 codes-long c = ap length (scanned c .3) ∙ length-sets (replicate 255 0) 0 (scanned c .0)
 
-septets-are : (c : Counted) → take (c .before .count .given .0 .0) (c .before .before .before .scan-text .last .1 .0) ≡ scanned c .0
-septets-are c =
+codes-septets : (c : Counted) → take (c .before .count .given .0 .0) (c .before .before .before .scan-text .last .1 .0) ≡ scanned c .0
+codes-septets c =
     let s = scanned c in
     let f = few _ (s .0) (s .1) (c .before .before .before .before .before .before .before .pre .0) in
     codes-are (s .0) (s .2) (s .3) (omega (arith, s .2))
@@ -47,18 +48,15 @@ returns : tie.Need-returns
 returns c =
     absurd (none-spelled _ (scanned-not (septetsOf (now (c .before .before .before .before .before .before .args .text))) (replicate 255 0) (c .before .before .scan-text .last .1 .0) (c .before .before .scan-text .ensures) (c .enum-told .given .1)) (c .before .before .before .before .before .before .pre .0))
 
-or-is : (o : Option (List ℕ)) (ss : List ℕ) → o ≡ some ss → septetsOr o ≡ ss
-or-is o ss e = rw e
-
 pack-octets-requires : tie.Need-pack-octets-requires
 pack-octets-requires c κs =
     let k = c .before .before in
     let s = scanned k in
     let f = few _ (s .0) (s .1) (k .before .before .before .before .before .before .before .pre .0) in (
       omega arith,
-      rw (septets-are k) (omega arith),
-      subst (Digits 7) (sym (septets-are k)) (septets-digits _ (s .0) (s .1)),
-      rw (septets-are k, ← or-is _ (s .0) (s .1)) (k .before .before .before .before .before .before .before .pre .1),
+      rw (codes-septets k) (omega arith),
+      subst (Digits 7) (sym (codes-septets k)) (septets-digits _ (s .0) (s .1)),
+      rw (codes-septets k, ← septets-are _ (s .0) (s .1)) (k .before .before .before .before .before .before .before .pre .1),
     )
 
 pub put-text-spec : {M : Type 1} → statement M
@@ -73,4 +71,4 @@ put-text-spec =
     (λ c. let s = scanned (c .before) in let f = few _ (s .0) (s .1) (c .before .before .before .before .before .before .before .before .pre .0) in sym (length-take-le (c .before .before .count .given .0 .0) (c .before .before .before .before .scan-text .last .1 .0) (omega (arith, s .2, codes-long (c .before)))))
     pack-octets-requires
     (λ c. search needs)
-    (λ c. let k = c .before .before .before .before .before in let s = scanned k in rw (or-is _ (s .0) (s .1), ← septets-are k) (c .before .before .pack-octets .ensures)))
+    (λ c. let k = c .before .before .before .before .before in let s = scanned k in rw (septets-are _ (s .0) (s .1), ← codes-septets k) (c .before .before .pack-octets .ensures)))

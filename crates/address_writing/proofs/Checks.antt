@@ -2,29 +2,31 @@
 -- Assumes nothing.
 use Prim.Native.Nat.{ℕ, suc, _+_, _*_, _/_, _≤_, _<_}
 use mathlib.Core.Path.{_≡_, refl, sym, _∙_, ap}
-use mathlib.Core.Bool.{Bool, true, false, _||_}
+use mathlib.Core.Bool.{Bool, true, false, _&&_, _||_, false≢true}
 use mathlib.Core.List.{List, [], _∷_, _++_, map}
 use mathlib.Core.Option.{Option, none, some}
 use native.Mathlib.Omega.{arith}
 use native.Mathlib.Numerals.{add-one, add-two}
 use borrow.Author.Tests.{lt-ltb, le-ltb, eq-eqb, ne-eqb, ltb-true, ltb-false, eqb-true, eqb-false, leb-true, leb-false}
 use lib.Dec.{eqb, leb, ltb}
-use lib.ListN.{length, take, set, length-map}
-use Rattle.octets.specs.Checks.{Check, checked}
+use lib.ListN.{length, set}
+use Rattle.octets.specs.Checks.{Check, _unless_, found, checked}
 use Rattle.octets.specs.Each.{each}
 use Rattle.octets.specs.Lent.{Making, refused, made, Wrote}
 use Rattle.octets.specs.SemiOctets.{inPairs}
+use Rattle.octets.specs.declared.Checked.{Checked}
 use Rattle.octets.specs.declared.Refusal.{Refusal}
-use Rattle.octets.specs.declared.Refusal.the-variants.{LengthTooLarge, NumberTypeOrPlanTooLarge, NotInAlphabet, AddressTooLong}
+use Rattle.octets.specs.declared.Refusal.the-variants.{NumberTypeOrPlanTooLarge, NotInAlphabet, AddressTooLong}
 use Rattle.octets.specs.declared.Written.{Written}
-use Rattle.octets.proofs.SemiOctets.{length-pairs}
+use Rattle.octets.proofs.Checks.{holds, made-unless}
+use Rattle.octets.proofs.Choice.{and-true, or-false}
 use Rattle.septets.specs.Septets.{packedSeptets}
 use Rattle.septets.proofs.Inverse.{length-packed}
 use Rattle.scanning.specs.Writing.{septetsOf}
-use Rattle.address.specs.declared.AddressCheck.{AddressCheck}
-use Rattle.address.specs.declared.SMSAddress.{SMSAddress}
-use Rattle.address.specs.Address.{digitValue, isDigit, fieldOf, textField, addressOctets, octetsOr, limited, addressMaking, addressChecks, encoding}
-use Rattle.address.specs.Parts.{checkOf}
+use Rattle.address_writing.specs.declared.AddressCheck.{AddressCheck}
+use Rattle.address_writing.specs.Writing.{digitValue, isDigit, fieldOf, textField, addressOctets, octetsOr, limited, addressMaking, addressChecks, isSome}
+use Rattle.address_writing.specs.Parts.{checkOf, septetsOr}
+use Rattle.address_writing.proofs.Characters.{digits-size}
 
 -- a value of at most ten octets is written, a longer one is refused
 module _ (ton npi l : ℕ) (value : List ℕ) where
@@ -45,9 +47,6 @@ module _ (ton npi : ℕ) {o : Option (List ℕ)} where
 
     pub text-fine : length ss ≤ 11 → checkOf (limited (textField ton npi o)) ≡ AddressCheck.Fine ((length ss * 7 + 3) / 4)
     text-fine h = rw (e, limited-fine ton npi ((length ss * 7 + 3) / 4) (packedSeptets 0 ss) (rw length-packed (omega arith)))
-
-size : (text : List ℕ) → length (inPairs (map digitValue text)) ≡ (length text + 1) / 2
-size text = length-pairs (map digitValue text) ∙ rw length-map
 
 -- type, plan and text
 module _ (ton npi : ℕ) (text : List ℕ) where
@@ -80,11 +79,11 @@ module _ (ton npi : ℕ) (text : List ℕ) where
           digits-octets = making-limited ∙ rw (ne-eqb ton 5 digits, e)
 
           pub digits-long : 20 < length text → addressMaking ton npi text ≡ refused AddressTooLong
-          digits-long h = digits-octets ∙ limited-long ton npi (length text) (inPairs (map digitValue text)) (rw (size text) (omega arith))
+          digits-long h = digits-octets ∙ limited-long ton npi (length text) (inPairs (map digitValue text)) (rw (digits-size text) (omega arith))
 
           pub digits-fine : length text ≤ 20 → addressMaking ton npi text
               ≡ made (fieldOf ton npi (length text) (inPairs (map digitValue text))) (Written.Done (length (fieldOf ton npi (length text) (inPairs (map digitValue text)))))
-          digits-fine h = digits-octets ∙ limited-fine ton npi (length text) (inPairs (map digitValue text)) (rw (size text) (omega arith))
+          digits-fine h = digits-octets ∙ limited-fine ton npi (length text) (inPairs (map digitValue text)) (rw (digits-size text) (omega arith))
 
 -- ---- an address that a check passed
 
@@ -154,7 +153,7 @@ module _ (ton npi : ℕ) (text : List ℕ) (l : ℕ) (fine : checkOf (addressMak
     where
       by : (t : Bool) → eqb ton 5 ≡ t → length octets ≡ 2 + (l + 1) / 2
       by true e = let f = fine-text (eqb-true _ _ e) in omega (arith, ap (λ (o : Option (List ℕ)). length (octetsOr [] o)) (f .4), f .3, length-packed 0 (f .0))
-      by false e = let f = fine-digits (eqb-false _ _ e) in omega (arith, ap (λ (o : Option (List ℕ)). length (octetsOr [] o)) (f .2), f .1, size text)
+      by false e = let f = fine-digits (eqb-false _ _ e) in omega (arith, ap (λ (o : Option (List ℕ)). length (octetsOr [] o)) (f .2), f .1, digits-size text)
 
   pub fine-made : addressMaking ton npi text ≡ made octets (Written.Done (length octets))
   fine-made = making ∙ by (addressOctets ton npi text) refl
@@ -173,15 +172,9 @@ pub refused-made : {m : Making Written} {r : Refusal} → checkOf m ≡ AddressC
 refused-made {m = refused k} e = cc
 refused-made {m = made xs w} e = let z : _≡_ {A = ℕ} 0 1 = cc in absurd (omega arith)
 
--- a record: its length first
-module _ (a : SMSAddress) where
-  pub encoding-long : 290 < a .«address_length» → encoding a ≡ refused LengthTooLarge
-  unfolding encoding
-  encoding-long h = rw (lt-ltb 290 (a .«address_length») h)
-
-  pub encoding-parts : a .«address_length» ≤ 290 → encoding a ≡ addressMaking (a .ton) (a .npi) (take (a .«address_length») (a .address))
-  unfolding encoding
-  encoding-parts h = rw (le-ltb 290 (a .«address_length») h)
+-- the septets of a text, where it has some
+pub septets-are : (o : Option (List ℕ)) (ss : List ℕ) → o ≡ some ss → septetsOr o ≡ ss
+septets-are o ss e = rw e
 
 -- a field written octet by octet: L, type, and the value behind them
 pub wrote-field : (at l t : ℕ) (value out : List ℕ) {next : ℕ} {after : List ℕ} → Wrote (at + 2) value (set (set out at l) (at + 1) t) next after → Wrote at (l ∷ t ∷ value) out next after
@@ -209,3 +202,32 @@ address-checked ton npi text checks xs = by-type (leb ton 7) refl (leb npi 15) r
     by-type false p b q = rw (p, wrong-type ton npi text (leb-false _ _ p))
     by-type true p false q = rw (p, q, wrong-plan ton npi text (leb-true _ _ p) (leb-false _ _ q))
     by-type true p true q = by-size p q (addressOctets ton npi text) refl (leb (length (octetsOr [] (addressOctets ton npi text))) 12) refl
+
+-- ---- what was written
+
+limited-made : (o : Option (List ℕ)) (xs : List ℕ) (w : Written) → limited o ≡ made xs w → o ≡ some xs
+limited-made none xs w e = let z : _≡_ {A = ℕ} 0 1 = cc in absurd (omega arith)
+limited-made (some ys) xs w e = let (few, m) = made-unless AddressTooLong (ltb 12 (length ys)) e in cc
+
+-- where octets are made, they are those of the address, and type and plan are small
+pub octets-made : (ton npi : ℕ) (text xs : List ℕ) (w : Written) → addressMaking ton npi text ≡ made xs w → (ton ≤ 7) × (npi ≤ 15) × (addressOctets ton npi text ≡ some xs)
+unfolding addressMaking
+octets-made ton npi text xs w e =
+    let (small, o) = made-unless NumberTypeOrPlanTooLarge (ltb 7 ton || ltb 15 npi) e in
+    let (t, p) = or-false (ltb 7 ton) (ltb 15 npi) small in
+    (ltb-false _ _ t, ltb-false _ _ p, limited-made _ xs w o)
+
+some-is : (o : Option (List ℕ)) → isSome o ≡ true → o ≡ some (octetsOr [] o)
+some-is none e = absurd (false≢true e)
+some-is (some xs) e = refl
+
+-- the same where the checks of a writer of several fields have passed; and the octets are few
+pub checks-passed : (ton npi : ℕ) (text : List ℕ) → found (addressChecks ton npi text) ≡ Checked.Fine
+    → (let f = octetsOr [] (addressOctets ton npi text) in (ton ≤ 7) × (npi ≤ 15) × (addressOctets ton npi text ≡ some f) × (length f ≤ 12))
+checks-passed ton npi text e =
+    let o = addressOctets ton npi text in
+    let few = (AddressTooLong unless leb (length (octetsOr [] o)) 12) ∷ [] in
+    let (range, e1) = holds NumberTypeOrPlanTooLarge (leb ton 7 && leb npi 15) ((NotInAlphabet unless isSome o) ∷ few) e in
+    let (there, e2) = holds NotInAlphabet (isSome o) few e1 in
+    let (t, p) = and-true (leb ton 7) (leb npi 15) range in
+    (leb-true _ _ t, leb-true _ _ p, some-is o there, leb-true _ _ (holds AddressTooLong (leb (length (octetsOr [] o)) 12) [] e2 .0))

@@ -1,4 +1,4 @@
--- `address::all_digits` meets its contract: the characters that are left decide.
+-- `address_writing::all_digits` meets its contract: the characters that are left decide.
 -- Assumes nothing.
 use Prim.Native.Nat.{ℕ, _-_, _≤_, _<_}
 use mathlib.Core.Path.{_≡_, refl, sym, _∙_}
@@ -10,10 +10,10 @@ use denote.Ref.{now}
 use lib.ListN.{length, getD, drop}
 use Rattle.octets.specs.Each.{each}
 use Rattle.octets.proofs.Each.{each-next, each-fails, each-end}
-use Rattle.address.specs.Address.{digitValue, isDigit}
-use Rattle.address.proofs.Characters.{value-small}
-use Rattle.address.proofs.all_digits.Statement.{statement}
-use Rattle.address.proofs.all_digits.Tie as tie
+use Rattle.address_writing.specs.Writing.{digitValue, isDigit}
+use Rattle.address_writing.proofs.Characters.{value-small}
+use Rattle.address_writing.proofs.all_digits.Statement.{statement}
+use Rattle.address_writing.proofs.all_digits.Tie as tie
 
 abbrev Inv-loop : tie.InvT-loop
 Inv-loop text i₀ i = (i ≤ length text) × (each isDigit text ≡ each isDigit (drop i text))

@@ -1,13 +1,13 @@
--- `address::check_address` meets its contract: each answer is a case of the definition.
+-- `address_writing::check_address` meets its contract: each answer is a case of the definition.
 -- Assumes nothing.
 use mathlib.Core.Path.{_≡_, sym, ap, _∙_}
 use native.Mathlib.Omega.{arith}
 use borrow.Author.Needs.{needs}
 use borrow.Author.Tests.{not-true, not-false}
-use Rattle.address.specs.Parts.{checkOf}
-use Rattle.address.proofs.Checks.{wrong-type, wrong-plan, text-making, digits-none, digits-long, digits-fine}
-use Rattle.address.proofs.check_address.Statement.{statement}
-use Rattle.address.proofs.check_address.Tie as tie
+use Rattle.address_writing.specs.Parts.{checkOf}
+use Rattle.address_writing.proofs.Checks.{wrong-type, wrong-plan, text-making, digits-none, digits-long, digits-fine}
+use Rattle.address_writing.proofs.check_address.Statement.{statement}
+use Rattle.address_writing.proofs.check_address.Tie as tie
 
 in-septets : tie.Need-returns-3
 in-septets c = c .check-text .ensures ∙ sym (ap checkOf (text-making _ _ _ (c .before .before .before .if1 .left) (c .before .before .if2 .left) (c .before .if3 .taken)))

@@ -1,4 +1,4 @@
--- `address::semi_octet_or_f` meets its contract.
+-- `address_writing::semi_octet_or_f` meets its contract.
 -- Assumes nothing.
 use Prim.Native.Nat.{_≤_}
 use mathlib.Core.Path.{_≡_, sym, _∙_}
@@ -7,10 +7,10 @@ use native.Mathlib.Omega.{arith}
 use borrow.Author.Needs.{needs}
 use denote.Ref.{now}
 use lib.ListN.{length, getD, length-map, List·getD-eq-default}
-use Rattle.address.specs.Address.{digitValue}
-use Rattle.address.proofs.Characters.{value-small, value-at}
-use Rattle.address.proofs.semi_octet_or_f.Statement.{statement}
-use Rattle.address.proofs.semi_octet_or_f.Tie as tie
+use Rattle.address_writing.specs.Writing.{digitValue}
+use Rattle.address_writing.proofs.Characters.{value-small, value-at}
+use Rattle.address_writing.proofs.semi_octet_or_f.Statement.{statement}
+use Rattle.address_writing.proofs.semi_octet_or_f.Tie as tie
 
 inside : tie.Need-returns
 inside c =

@@ -1,4 +1,4 @@
--- `address::put_address` meets its contract: L and type octet, and behind them septets or digits.
+-- `address_writing::put_address` meets its contract: L and type octet, and behind them septets or digits.
 -- Assumes nothing.
 use Prim.Native.Nat.{ℕ, _+_, _*_, _/_, _≤_, _<_}
 use mathlib.Core.Path.{_≡_, refl, sym, ap, _∙_}
@@ -8,28 +8,21 @@ use native.Mathlib.Omega.{arith}
 use borrow.Author.Needs.{needs}
 use denote.Ref.{now}
 use lib.ListN.{length, set, length-set}
-use lib.Seq.{length-sets}
 use Rattle.octets.specs.Lent.{Wrote}
+use Rattle.octets.proofs.Laws.{kept-by}
 use Rattle.scanning.specs.Writing.{septetsOf}
-use Rattle.address.specs.Address.{octetsOr}
-use Rattle.address.specs.Parts.{Spells, septetsOr}
-use Rattle.address.proofs.Checks.{fine-range, fine-text, fine-digits, fine-small, wrote-field}
-use Rattle.address.proofs.put_address.Statement.{statement}
-use Rattle.address.proofs.put_address.Tie as tie
+use Rattle.address_writing.specs.Writing.{octetsOr}
+use Rattle.address_writing.specs.Parts.{Spells}
+use Rattle.address_writing.proofs.Checks.{fine-range, fine-text, fine-digits, fine-small, septets-are, wrote-field}
+use Rattle.address_writing.proofs.put_address.Statement.{statement}
+use Rattle.address_writing.proofs.put_address.Tie as tie
 
 -- the octets that are written, once the address is known
 octets-are : {o : Option (List ℕ)} {xs : List ℕ} {at : ℕ} {out : List ℕ} {next : ℕ} {after : List ℕ} → o ≡ some xs → Wrote at xs out next after → Wrote at (octetsOr [] o) out next after
 octets-are e w = rw e w
 
-septets-are : (o : Option (List ℕ)) (ss : List ℕ) → o ≡ some ss → septetsOr o ≡ ss
-septets-are o ss e = rw e
-
 spells : (o : Option (List ℕ)) (ss : List ℕ) → o ≡ some ss → length ss ≤ 11 → Spells o 11
 spells o ss e h = rw e h
-
--- the lent output keeps its length
-kept : {at : ℕ} {value out : List ℕ} {next : ℕ} {after : List ℕ} → Wrote at value out next after → length after ≡ length out
-kept {at} {value} {out} w = ap length (w .list) ∙ length-sets out at value
 
 in-septets : tie.Need-returns
 in-septets c =
@@ -66,9 +59,9 @@ put-address-spec =
     (λ c. simp length-set (omega arith))
     (λ c. search needs)
     put-text-requires
-    (λ c. kept (c .before .before .put-text .ensures) ∙ simp length-set)
+    (λ c. kept-by (c .before .before .put-text .ensures) ∙ simp length-set)
     in-septets
     (λ c. search needs)
     put-digits-requires
-    (λ c. kept (c .before .before .put-digits .ensures) ∙ simp length-set)
+    (λ c. kept-by (c .before .before .put-digits .ensures) ∙ simp length-set)
     in-digits)
