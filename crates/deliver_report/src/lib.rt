@@ -5,7 +5,7 @@ ghost use Prim.Native.Nat.{_-_, _≤_};
 ghost use lib.ListN.{length, take, drop};
 ghost use Rattle.octets.specs.Lent.{lend};
 ghost use Rattle.layout.specs.Layout.{read, readFrom};
-ghost use Rattle.parameters.specs.Line.{noParameters};
+ghost use Rattle.optional.specs.Parameters.{noParameters};
 ghost use Rattle.deliver_report.specs.DeliverReport.{reported, stopped as stoppedReport, rest, ack, error, answer, reporting};
 use coding::UserData;
 use octets::Octet;
@@ -13,7 +13,7 @@ use octets::Outcome;
 use octets::Place;
 use octets::Refusal;
 use octets::Written;
-use parameters::OptionalOctet;
+use optional::OptionalOctet;
 use parameters::ParametersRead;
 
 const MTI_DELIVER: u8 = 0;

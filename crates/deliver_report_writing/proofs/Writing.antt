@@ -14,10 +14,10 @@ use Rattle.octets.specs.declared.Refusal.the-variants.{OutputTooShort}
 use Rattle.octets.specs.declared.Written.{Written}
 use Rattle.octets.proofs.Laws.{lent-refused, lent-short, lent-written}
 use Rattle.octets.proofs.Checks.{passed, against, all-passed, one-against}
+use Rattle.optional.specs.Optional.{held}
+use Rattle.optional.specs.Parameters.{Parameters}
+use Rattle.optional.specs.declared.OptionalOctet.{OptionalOctet}
 use Rattle.parameters.specs.Checking.{indicatorChecks, dataChecks}
-use Rattle.parameters.specs.Line.{Parameters}
-use Rattle.parameters.specs.Optional.{held}
-use Rattle.parameters.specs.declared.OptionalOctet.{OptionalOctet}
 use Rattle.deliver_report_writing.specs.Writing.{octetsIn, making}
 
 -- how many octets the parts take

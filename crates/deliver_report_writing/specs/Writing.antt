@@ -6,10 +6,10 @@ use lib.ListN.{length}
 use Rattle.octets.specs.Checks.{Check, checked}
 use Rattle.octets.specs.Lent.{Making}
 use Rattle.octets.specs.declared.Written.{Written}
+use Rattle.optional.specs.Optional.{octetsHeld}
+use Rattle.optional.specs.Parameters.{Parameters, parametersOctets}
+use Rattle.optional.specs.declared.OptionalOctet.{OptionalOctet}
 use Rattle.parameters.specs.Checking.{indicatorChecks, dataChecks}
-use Rattle.parameters.specs.Line.{Parameters, parametersOctets}
-use Rattle.parameters.specs.Optional.{octetsHeld}
-use Rattle.parameters.specs.declared.OptionalOctet.{OptionalOctet}
 
 -- UDHI in bit 6, MTI 0
 abbrev pub firstOctet : Bool → ℕ

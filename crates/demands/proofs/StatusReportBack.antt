@@ -28,11 +28,11 @@ use Rattle.address.proofs.Laws.{Spelled, address-passed}
 use Rattle.layout.specs.Layout.{octet, octets, any, address, isSet, messageType, kept, Format, field, one, reached, reading, readFrom, read}
 use Rattle.layout.proofs.Steps.{done-reached, end-not-reached}
 use Rattle.demands.proofs.LayoutBack.{field-read, message-read}
+use Rattle.optional.specs.Optional.{octetsHeld, held}
+use Rattle.optional.specs.Parameters.{Parameters, parametersOctets}
+use Rattle.optional.specs.declared.OptionalOctet.{OptionalOctet}
+use Rattle.optional.specs.declared.OptionalOctet.the-variants.{Absent, Present}
 use Rattle.parameters.specs.Checking.{indicatorChecks, dataChecks}
-use Rattle.parameters.specs.Line.{Parameters, parametersOctets}
-use Rattle.parameters.specs.Optional.{octetsHeld, held}
-use Rattle.parameters.specs.declared.OptionalOctet.{OptionalOctet}
-use Rattle.parameters.specs.declared.OptionalOctet.the-variants.{Absent, Present}
 use Rattle.demands.proofs.ParametersBack.{indicator-here, not-extended, parameters-here, parameters-limit}
 use Rattle.status_report.specs.StatusReport.{bits, reported, behindStatus, behindAddress, line, statusReport, firstOf, parametersOf, reporting, parts, capitalised, tooLong}
 use Rattle.status_report_writing.specs.Writing.{octetsIn, optionalChecks, checksBehind, making}

@@ -5,8 +5,8 @@ use crate::fields::behind;
 use crate::fields::part;
 use crate::fields::same;
 use coding::UserData;
+use optional::OptionalOctet;
 use page::HexRead;
-use parameters::OptionalOctet;
 use time::Time;
 use validity::ValidityPeriod;
 

@@ -3,7 +3,7 @@ use crate::fields::part;
 use coding::UserData;
 use octets::Refusal;
 use octets::Written;
-use parameters::OptionalOctet;
+use optional::OptionalOctet;
 use time::Time;
 
 // ---- fields

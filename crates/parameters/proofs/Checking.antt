@@ -14,8 +14,8 @@ use Rattle.octets.specs.declared.Refusal.the-variants.{IndicatorExtended, UserD
 use Rattle.octets.proofs.Checks.{passed, against, all-passed, one-against}
 use Rattle.layout.specs.Layout.{isSet, Field, anyPastLimit}
 use Rattle.layout.proofs.Demand.{Answers}
+use Rattle.optional.specs.Parameters.{Parameters}
 use Rattle.parameters.specs.Checking.{indicatorChecks, dataChecks}
-use Rattle.parameters.specs.Line.{Parameters}
 use Rattle.parameters.proofs.Made.{Held}
 
 -- ---- what was read passes the checks, but for bit 7 and more than 140 octets

@@ -17,15 +17,12 @@ use Rattle.coding.specs.Coding.{codingOf}
 use Rattle.coding.proofs.Laws.{data-at-most}
 use Rattle.layout.specs.Layout.{bit, isSet, Field, joined, pastLimit, anyPastLimit, _then_}
 use Rattle.layout.proofs.Makes.{Makes, makes-then}
+use Rattle.optional.specs.Optional.{octetsHeld, held, orZero}
+use Rattle.optional.specs.Parameters.{Parameters, parametersOctets}
+use Rattle.optional.specs.declared.OptionalOctet.{OptionalOctet}
+use Rattle.optional.specs.declared.OptionalOctet.the-variants.{Absent, Present}
 use Rattle.parameters.specs.Checking.{dataChecks}
-use Rattle.parameters.specs.Line.{Parameters, announced, dataFor, parameters, parametersOctets}
-use Rattle.parameters.specs.Optional.{octetsHeld, held, orZero}
-use Rattle.parameters.specs.declared.OptionalOctet.{OptionalOctet}
-use Rattle.parameters.specs.declared.OptionalOctet.the-variants.{Absent, Present}
-
-pub one-at-most : (o : OptionalOctet) → held o ≤ 1
-one-at-most Absent = omega arith
-one-at-most (Present x) = omega arith
+use Rattle.parameters.specs.Line.{announced, dataFor, parameters}
 
 -- fields one after the other
 pub joined-append : (a b : List Field) → joined (a ++ b) ≡ joined a ++ joined b

@@ -24,10 +24,11 @@ use Rattle.layout.proofs.Makes.{makes}
 use Rattle.layout.proofs.Fields.{indicator-positive}
 use Rattle.layout.proofs.Steps.{goOn, part-by-part, octet-goes-on, octet-ends, span-goes-on, span-ends, done-reached}
 use Rattle.layout.proofs.Laws.{within-from}
-use Rattle.parameters.specs.Line.{Parameters, announced, dataFor, parameters, optionalAnswer, parametersAnswer}
-use Rattle.parameters.specs.Optional.{orZero}
-use Rattle.parameters.specs.declared.OptionalOctet.{OptionalOctet}
-use Rattle.parameters.specs.declared.OptionalOctet.the-variants.{Absent, Present}
+use Rattle.optional.specs.Optional.{orZero}
+use Rattle.optional.specs.Parameters.{Parameters}
+use Rattle.optional.specs.declared.OptionalOctet.{OptionalOctet}
+use Rattle.optional.specs.declared.OptionalOctet.the-variants.{Absent, Present}
+use Rattle.parameters.specs.Line.{announced, dataFor, parameters, optionalAnswer, parametersAnswer}
 use Rattle.parameters.specs.declared.OptionalRead.{OptionalRead}
 use Rattle.parameters.specs.declared.ParametersRead.{ParametersRead}
 use Rattle.parameters.proofs.Made.{Held, parameters-make}

@@ -7,9 +7,9 @@ use Rattle.octets.specs.Checks.{Check, _unless_}
 use Rattle.octets.specs.declared.Refusal.the-variants.{IndicatorDisagrees, IndicatorExtended, UserDataWithoutLength}
 use Rattle.coding.specs.Coding.{dataChecks as checksOf}
 use Rattle.layout.specs.Layout.{isSet}
-use Rattle.parameters.specs.Optional.{held, orZero}
-use Rattle.parameters.specs.declared.OptionalOctet.{OptionalOctet}
-use Rattle.parameters.specs.declared.OptionalOctet.the-variants.{Absent, Present}
+use Rattle.optional.specs.Optional.{held, orZero}
+use Rattle.optional.specs.declared.OptionalOctet.{OptionalOctet}
+use Rattle.optional.specs.declared.OptionalOctet.the-variants.{Absent, Present}
 
 -- indicator bits 0, 1, 2 say exactly which of PID, DCS and UDL are held; bit 7 is not set
 unfoldable pub indicatorChecks : ℕ → OptionalOctet → OptionalOctet → OptionalOctet → List Check

@@ -1,3 +1,2 @@
-pub mod Optional
 pub mod Line
 pub mod Checking

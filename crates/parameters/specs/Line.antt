@@ -1,24 +1,16 @@
 -- The parameters that follow a TP-Parameter-Indicator (TS 23.040 §9.2.3.27), and the answers of their readers.
 use Prim.Native.Nat.{ℕ}
 use mathlib.Core.Bool.{Bool, true, false}
-use mathlib.Core.List.{List, [], _++_}
+use mathlib.Core.List.{List, []}
 use lib.ListN.{length}
 use Rattle.coding.specs.Coding.{codingOf, dataOctets}
 use Rattle.layout.specs.Layout.{userData, isSet, Format, field, done, _then_, one, Reached, reached, halted}
-use Rattle.parameters.specs.Optional.{octetsHeld, orZero}
-use Rattle.parameters.specs.declared.OptionalOctet.{OptionalOctet}
-use Rattle.parameters.specs.declared.OptionalOctet.the-variants.{Absent, Present}
+use Rattle.optional.specs.Optional.{orZero}
+use Rattle.optional.specs.Parameters.{Parameters}
+use Rattle.optional.specs.declared.OptionalOctet.{OptionalOctet}
+use Rattle.optional.specs.declared.OptionalOctet.the-variants.{Absent, Present}
 use Rattle.parameters.specs.declared.OptionalRead.{OptionalRead}
 use Rattle.parameters.specs.declared.ParametersRead.{ParametersRead}
-
-pub record Parameters : Type 0 where
-  pub pid : OptionalOctet
-  pub dcs : OptionalOctet
-  pub udl : OptionalOctet
-  pub ud : List ℕ
-
-abbrev pub noParameters : Parameters
-noParameters = record { pid = Absent; dcs = Absent; udl = Absent; ud = [] }
 
 -- an octet that is there where its indicator bit announces it
 abbrev pub announced : Bool → Format OptionalOctet
@@ -35,10 +27,6 @@ unfoldable pub parameters : ℕ → Format Parameters
 parameters pi =
     announced (isSet 0 pi) then λ pid. announced (isSet 1 pi) then λ dcs. announced (isSet 2 pi) then λ udl.
     dataFor dcs udl then λ ud. done (record { pid = pid; dcs = dcs; udl = udl; ud = ud })
-
--- their octets
-abbrev pub parametersOctets : Parameters → List ℕ
-parametersOctets p = octetsHeld (p .pid) ++ octetsHeld (p .dcs) ++ octetsHeld (p .udl) ++ p .ud
 
 -- what the readers answer: the octet, or the three octets and how many octets the data have, with the place behind
 abbrev pub optionalAnswer : Reached OptionalOctet → OptionalRead

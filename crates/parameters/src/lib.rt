@@ -5,19 +5,16 @@ ghost use lib.ListN.{length};
 ghost use Rattle.octets.specs.Lent.{Wrote};
 ghost use Rattle.octets.specs.Checks.{found};
 ghost use Rattle.layout.specs.Layout.{indicatorAt, readFrom};
-ghost use Rattle.parameters.specs.Optional.{octetsHeld, held, orZero};
-ghost use Rattle.parameters.specs.Line.{announced, parameters, parametersOctets, optionalAnswer, parametersAnswer};
+ghost use Rattle.optional.specs.Optional.{octetsHeld, held, orZero};
+ghost use Rattle.optional.specs.Parameters.{parametersOctets};
+ghost use Rattle.parameters.specs.Line.{announced, parameters, optionalAnswer, parametersAnswer};
 ghost use Rattle.parameters.specs.Checking.{indicatorChecks, dataChecks};
 use octets::Checked;
 use octets::Octet;
 use octets::Place;
 use octets::Refusal;
 use octets::Span;
-
-pub enum OptionalOctet {
-    Absent,
-    Present(u8),
-}
+use optional::OptionalOctet;
 
 // A parameter that was announced or not, and the place behind it.
 pub enum OptionalRead {
@@ -29,26 +26,6 @@ pub enum OptionalRead {
 pub enum ParametersRead {
     Read(OptionalOctet, OptionalOctet, OptionalOctet, usize, Place),
     Refused(Refusal),
-}
-
-// How many octets an optional octet takes.
-pub fn octets_held(octet: OptionalOctet) -> usize
-    ensures { λ r. ⌜ r ≡ held octet ⌝ }
-{
-    match octet {
-        OptionalOctet::Absent => 0,
-        OptionalOctet::Present(_) => 1,
-    }
-}
-
-// An absent octet means 0.
-pub fn or_zero(octet: OptionalOctet) -> u8
-    ensures { λ r. ⌜ r ≡ orZero octet ⌝ }
-{
-    match octet {
-        OptionalOctet::Absent => 0,
-        OptionalOctet::Present(x) => x,
-    }
 }
 
 // An indicator's first octet, and the place behind its extension octets.
@@ -108,7 +85,7 @@ pub fn read_parameters(data: &[u8], place: Place, indicator: u8) -> ParametersRe
     let OptionalOctet::Present(length) = udl else {
         return ParametersRead::Read(pid, dcs, udl, 0, p3);
     };
-    let size = coding::user_data_octets(coding::user_data_coding(or_zero(dcs)), length);
+    let size = coding::user_data_octets(coding::user_data_coding(optional::or_zero(dcs)), length);
     let Span::There(_, p4) = p3.span(data, size) else {
         return ended();
     };
@@ -124,7 +101,9 @@ pub fn check_parameter_indicator(
 ) -> Checked
     ensures { λ r. ⌜ r ≡ found (indicatorChecks indicator pid dcs udl) ⌝ }
 {
-    let supplied = octets_held(pid) + 2 * octets_held(dcs) + 4 * octets_held(udl);
+    let supplied = optional::octets_held(pid)
+        + 2 * optional::octets_held(dcs)
+        + 4 * optional::octets_held(udl);
     if indicator as usize % 8 != supplied {
         return Checked::Against(Refusal::IndicatorDisagrees);
     }
@@ -144,18 +123,7 @@ pub fn check_data(dcs: OptionalOctet, udl: OptionalOctet, octets: usize) -> Chec
         }
         return Checked::Fine;
     };
-    coding::check_user_data(or_zero(dcs), length, octets)
-}
-
-// Writes an optional octet at `at`; the place behind it.
-pub fn put_optional(out: &mut [u8], at: usize, octet: OptionalOctet) -> usize
-    requires { ⌜ at + held octet ≤ length (now out) ⌝ }
-    ensures { λ r. ⌜ Wrote at (octetsHeld octet) (now (out .entry)) r (now (out .exit)) ⌝ }
-{
-    match octet {
-        OptionalOctet::Absent => at,
-        OptionalOctet::Present(x) => octets::put_octet(out, at, x),
-    }
+    coding::check_user_data(optional::or_zero(dcs), length, octets)
 }
 
 // How many octets the parameters take.
@@ -168,7 +136,7 @@ pub fn parameters_size(
     requires { ⌜ octets ≤ 255 ⌝ }
     ensures { λ r. ⌜ r ≡ held pid + held dcs + held udl + octets ⌝ }
 {
-    octets_held(pid) + octets_held(dcs) + octets_held(udl) + octets
+    optional::octets_held(pid) + optional::octets_held(dcs) + optional::octets_held(udl) + octets
 }
 
 // Writes the parameters from `at` on; the place behind them.
@@ -183,8 +151,8 @@ pub fn put_parameters(
     requires { ⌜ at + held pid + held dcs + held udl + length (now «data») ≤ length (now out) ⌝ }
     ensures { λ r. ⌜ Wrote at (parametersOctets (record { pid = pid; dcs = dcs; udl = udl; ud = now («data» .entry) })) (now (out .entry)) r (now (out .exit)) ⌝ }
 {
-    let p1 = put_optional(out, at, pid);
-    let p2 = put_optional(out, p1, dcs);
-    let p3 = put_optional(out, p2, udl);
+    let p1 = optional::put_optional(out, at, pid);
+    let p2 = optional::put_optional(out, p1, dcs);
+    let p3 = optional::put_optional(out, p2, udl);
     octets::put_octets(out, p3, data)
 }

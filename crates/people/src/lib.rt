@@ -12,7 +12,7 @@ use coding::UserDataCoding;
 use deliver::SmsDeliver;
 use deliver_report::SmsDeliverReport;
 use header::unpack_gsm7_with_header;
-use parameters::OptionalOctet;
+use optional::OptionalOctet;
 use refusals::number_of;
 use refusals::put_words_of;
 use status_report::SmsStatusReport;
@@ -252,7 +252,7 @@ fn put_parameters(
 ) -> usize {
     match udl {
         OptionalOctet::Present(n) => {
-            put_user_data(out, at, udhi, parameters::or_zero(dcs), n, data)
+            put_user_data(out, at, udhi, optional::or_zero(dcs), n, data)
         }
         OptionalOctet::Absent => match dcs {
             OptionalOctet::Present(coding) => put_coding_line(out, at, coding),

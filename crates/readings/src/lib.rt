@@ -7,7 +7,7 @@ use lines::fields::part;
 use lines::fields::word_number;
 use lines::writing;
 use octets::Written;
-use parameters::OptionalOctet;
+use optional::OptionalOctet;
 use refusals::number_of;
 use status_report::SmsStatusReport;
 use submit::SmsSubmit;

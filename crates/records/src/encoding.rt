@@ -10,7 +10,7 @@ use deliver_report::SmsDeliverReport;
 use lines::values;
 use lines::writing;
 use octets::Written;
-use parameters::OptionalOctet;
+use optional::OptionalOctet;
 use status_report::SmsStatusReport;
 use submit::SmsSubmit;
 use submit::SubmitText;

@@ -27,9 +27,10 @@ use Rattle.layout.specs.Layout.{Format, any, address, field, one, cut, kept, me
 use Rattle.layout.proofs.Fields.{address-there}
 use Rattle.layout.proofs.FirstOctet.{kept-bit}
 use Rattle.layout.proofs.Steps.{message-goes-on, message-differs, message-ends, octet-goes-on, octet-ends, span-goes-on, span-ends, address-goes-on, address-ends, indicator-goes-on, indicator-ends, end-reached, end-not-reached, then-goes-on, then-ends, done-reached, address-inside}
-use Rattle.parameters.specs.Line.{Parameters, parameters, parametersAnswer, noParameters}
-use Rattle.parameters.specs.declared.OptionalOctet.{OptionalOctet}
-use Rattle.parameters.specs.declared.OptionalOctet.the-variants.{Absent, Present}
+use Rattle.optional.specs.Parameters.{Parameters, noParameters}
+use Rattle.optional.specs.declared.OptionalOctet.{OptionalOctet}
+use Rattle.optional.specs.declared.OptionalOctet.the-variants.{Absent, Present}
+use Rattle.parameters.specs.Line.{parameters, parametersAnswer}
 use Rattle.parameters.specs.declared.ParametersRead.{ParametersRead}
 use Rattle.parameters.proofs.Reading.{Told, parameters-halted}
 use Rattle.status_report.specs.declared.SmsStatusReport.{SmsStatusReport}

@@ -14,9 +14,10 @@ use Rattle.coding.specs.Coding.{dataWith, dataOf}
 use Rattle.time.specs.Time.{timeIn, digitsOf, capitals}
 use Rattle.address.specs.Address.{addressIn, addressWith, textHeld}
 use Rattle.layout.specs.Layout.{isSet, leading, Format, field, endOr, done, _then_, message, one, time, address, Reached, reached, halted, Layout, plain}
-use Rattle.parameters.specs.Line.{Parameters, parameters, noParameters}
-use Rattle.parameters.specs.declared.OptionalOctet.{OptionalOctet}
-use Rattle.parameters.specs.declared.OptionalOctet.the-variants.{Absent, Present}
+use Rattle.optional.specs.Parameters.{Parameters, noParameters}
+use Rattle.optional.specs.declared.OptionalOctet.{OptionalOctet}
+use Rattle.optional.specs.declared.OptionalOctet.the-variants.{Absent, Present}
+use Rattle.parameters.specs.Line.{parameters}
 use Rattle.status_report_writing.specs.Writing.{making}
 use Rattle.status_report.specs.declared.SmsStatusReport.{SmsStatusReport}
 use Rattle.status_report.specs.declared.StatusReportRead.{StatusReportRead}

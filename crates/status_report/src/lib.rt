@@ -16,7 +16,7 @@ use octets::Place;
 use octets::Refusal;
 use octets::Span;
 use octets::Written;
-use parameters::OptionalOctet;
+use optional::OptionalOctet;
 use parameters::ParametersRead;
 use time::Time;
 

@@ -21,11 +21,11 @@ use Rattle.address_writing.specs.declared.AddressCheck.{AddressCheck}
 use Rattle.address_writing.specs.Writing.{addressMaking}
 use Rattle.address_writing.specs.Parts.{checkOf}
 use Rattle.address_writing.proofs.Checks.{afterCheck, address-checked, fine-size}
-use Rattle.parameters.specs.Checking.{indicatorChecks, dataChecks}
-use Rattle.parameters.specs.Line.{Parameters, parametersOctets}
-use Rattle.parameters.specs.Optional.{held}
-use Rattle.parameters.specs.declared.OptionalOctet.{OptionalOctet}
-use Rattle.parameters.specs.declared.OptionalOctet.the-variants.{Absent, Present}
+use Rattle.optional.specs.Optional.{held}
+use Rattle.optional.specs.Parameters.{Parameters, parametersOctets}
+use Rattle.optional.specs.declared.OptionalOctet.{OptionalOctet}
+use Rattle.optional.specs.declared.OptionalOctet.the-variants.{Absent, Present}
+use Rattle.parameters_writing.specs.Checking.{indicatorChecks, dataChecks}
 use Rattle.status_report_writing.specs.Writing.{octetsIn, optionalChecks, checksBehind, making}
 
 -- ---- indicator, parameters and user data

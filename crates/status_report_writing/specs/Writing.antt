@@ -9,11 +9,11 @@ use Rattle.octets.specs.declared.Refusal.the-variants.{NotATime, ParametersWith
 use Rattle.octets.specs.declared.Written.{Written}
 use Rattle.time.specs.Time.{isTime, timeOctets}
 use Rattle.address_writing.specs.Writing.{addressOctets, octetsOr, addressChecks}
-use Rattle.parameters.specs.Checking.{indicatorChecks, dataChecks}
-use Rattle.parameters.specs.Line.{Parameters, parametersOctets}
-use Rattle.parameters.specs.Optional.{octetsHeld}
-use Rattle.parameters.specs.declared.OptionalOctet.{OptionalOctet}
-use Rattle.parameters.specs.declared.OptionalOctet.the-variants.{Absent, Present}
+use Rattle.optional.specs.Optional.{octetsHeld}
+use Rattle.optional.specs.Parameters.{Parameters, parametersOctets}
+use Rattle.optional.specs.declared.OptionalOctet.{OptionalOctet}
+use Rattle.optional.specs.declared.OptionalOctet.the-variants.{Absent, Present}
+use Rattle.parameters_writing.specs.Checking.{indicatorChecks, dataChecks}
 
 -- the octets of the parts, in the line's order
 abbrev pub octetsBehind : List ℕ → List ℕ → ℕ → OptionalOctet → Parameters → List ℕ

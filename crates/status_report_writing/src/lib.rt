@@ -8,13 +8,13 @@ ghost use Rattle.octets.specs.Checks.{found};
 ghost use Rattle.time.specs.Time.{isTime};
 ghost use Rattle.address_writing.specs.Writing.{addressMaking};
 ghost use Rattle.address_writing.specs.Parts.{checkOf};
-ghost use Rattle.parameters.specs.Optional.{held};
+ghost use Rattle.optional.specs.Optional.{held};
 ghost use Rattle.status_report_writing.specs.Writing.{octetsBehind, octetsIn, optionalChecks, checksBehind, making};
 use address_writing::AddressCheck;
 use octets::Checked;
 use octets::Refusal;
 use octets::Written;
-use parameters::OptionalOctet;
+use optional::OptionalOctet;
 
 // Whether indicator, parameters and user data go together.
 fn check_optional(
@@ -28,15 +28,15 @@ fn check_optional(
     ensures { λ r. ⌜ r ≡ found (optionalChecks indicator (record { pid = pid; dcs = dcs; udl = udl; ud = now («data» .entry) })) ⌝ }
 {
     let OptionalOctet::Present(i) = indicator else {
-        if parameters::parameters_size(pid, dcs, udl, data.len()) != 0 {
+        if parameters_writing::parameters_size(pid, dcs, udl, data.len()) != 0 {
             return Checked::Against(Refusal::ParametersWithoutIndicator);
         }
         return Checked::Fine;
     };
-    if let Checked::Against(r) = parameters::check_parameter_indicator(i, pid, dcs, udl) {
+    if let Checked::Against(r) = parameters_writing::check_parameter_indicator(i, pid, dcs, udl) {
         return Checked::Against(r);
     }
-    parameters::check_data(dcs, udl, data.len())
+    parameters_writing::check_data(dcs, udl, data.len())
 }
 
 // Whether what follows the address can be written.
@@ -80,8 +80,8 @@ fn put_behind_address(
     let p1 = time::encode_time(scts, out, at);
     let p2 = time::encode_time(dt, out, p1);
     let p3 = octets::put_octet(out, p2, status);
-    let p4 = parameters::put_optional(out, p3, indicator);
-    parameters::put_parameters(out, p4, pid, dcs, udl, data)
+    let p4 = optional::put_optional(out, p3, indicator);
+    parameters_writing::put_parameters(out, p4, pid, dcs, udl, data)
 }
 
 // Writes parts that were checked; how many octets they take.
@@ -145,8 +145,8 @@ pub fn encode_parts(
             ) {
                 return Written::Refused(r);
             }
-            let size = parameters::parameters_size(pid, dcs, udl, data.len());
-            if out.len() < 19 + (count + 1) / 2 + parameters::octets_held(indicator) + size {
+            let size = parameters_writing::parameters_size(pid, dcs, udl, data.len());
+            if out.len() < 19 + (count + 1) / 2 + optional::octets_held(indicator) + size {
                 return Written::Refused(Refusal::OutputTooShort);
             }
             Written::Done(put_parts(

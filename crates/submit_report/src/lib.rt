@@ -12,7 +12,7 @@ use octets::Place;
 use octets::Refusal;
 use octets::Span;
 use octets::Written;
-use parameters::OptionalOctet;
+use optional::OptionalOctet;
 use parameters::ParametersRead;
 use submit_report_writing::MTI_SUBMIT;
 use time::Time;

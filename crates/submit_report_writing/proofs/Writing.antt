@@ -18,10 +18,10 @@ use Rattle.octets.proofs.Laws.{lent-refused, lent-short, lent-written}
 use Rattle.octets.proofs.Checks.{passed, against, all-passed, one-against}
 use Rattle.time.specs.Time.{isTime}
 use Rattle.time.proofs.Laws.{time-size}
+use Rattle.optional.specs.Optional.{held}
+use Rattle.optional.specs.Parameters.{Parameters}
+use Rattle.optional.specs.declared.OptionalOctet.{OptionalOctet}
 use Rattle.parameters.specs.Checking.{indicatorChecks, dataChecks}
-use Rattle.parameters.specs.Line.{Parameters}
-use Rattle.parameters.specs.Optional.{held}
-use Rattle.parameters.specs.declared.OptionalOctet.{OptionalOctet}
 use Rattle.submit_report_writing.specs.Writing.{octetsIn, making}
 
 module _ (udhi : ℕ) (cause : OptionalOctet) (pi : ℕ) (digits : List ℕ) (p : Parameters) where

@@ -8,10 +8,10 @@ use Rattle.octets.specs.Lent.{Making}
 use Rattle.octets.specs.declared.Refusal.the-variants.{UdhiTooLarge, NotATime}
 use Rattle.octets.specs.declared.Written.{Written}
 use Rattle.time.specs.Time.{isTime, timeOctets}
+use Rattle.optional.specs.Optional.{octetsHeld}
+use Rattle.optional.specs.Parameters.{Parameters, parametersOctets}
+use Rattle.optional.specs.declared.OptionalOctet.{OptionalOctet}
 use Rattle.parameters.specs.Checking.{indicatorChecks, dataChecks}
-use Rattle.parameters.specs.Line.{Parameters, parametersOctets}
-use Rattle.parameters.specs.Optional.{octetsHeld}
-use Rattle.parameters.specs.declared.OptionalOctet.{OptionalOctet}
 
 -- UDHI in bit 6, MTI 1; cause, indicator, time, parameters
 abbrev pub octetsIn : ℕ → OptionalOctet → ℕ → List ℕ → Parameters → List ℕ

@@ -6,13 +6,13 @@ ghost use lib.ListN.{length};
 ghost use Rattle.octets.specs.Lent.{Wrote, lend};
 ghost use mathlib.Core.List.{_∷_, _++_};
 ghost use Rattle.time.specs.Time.{isTime, timeOctets};
-ghost use Rattle.parameters.specs.Optional.{held, octetsHeld};
-ghost use Rattle.parameters.specs.Line.{parametersOctets};
+ghost use Rattle.optional.specs.Optional.{held, octetsHeld};
+ghost use Rattle.optional.specs.Parameters.{parametersOctets};
 ghost use Rattle.submit_report_writing.specs.Writing.{making};
 use octets::Checked;
 use octets::Refusal;
 use octets::Written;
-use parameters::OptionalOctet;
+use optional::OptionalOctet;
 
 pub const MTI_SUBMIT: u8 = 1;
 
@@ -32,7 +32,7 @@ fn put_parts(
     ensures { λ r. ⌜ Wrote 0 (first ∷ (octetsHeld cause ++ (indicator ∷ (timeOctets (now (digits .entry)) ++ parametersOctets (record { pid = pid; dcs = dcs; udl = udl; ud = now («data» .entry) }))))) (now (out .entry)) r (now (out .exit)) ⌝ }
 {
     let p1 = octets::put_octet(out, 0, first);
-    let p2 = parameters::put_optional(out, p1, cause);
+    let p2 = optional::put_optional(out, p1, cause);
     let p3 = octets::put_octet(out, p2, indicator);
     let p4 = time::encode_time(digits, out, p3);
     parameters::put_parameters(out, p4, pid, dcs, udl, data)
@@ -66,7 +66,7 @@ pub fn encode_parts(
         return Written::Refused(r);
     }
     let size = parameters::parameters_size(pid, dcs, udl, data.len());
-    if out.len() < 9 + parameters::octets_held(cause) + size {
+    if out.len() < 9 + optional::octets_held(cause) + size {
         return Written::Refused(Refusal::OutputTooShort);
     }
     Written::Done(put_parts(

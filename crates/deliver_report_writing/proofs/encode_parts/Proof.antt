@@ -3,7 +3,7 @@
 use mathlib.Core.Path.{sym, _∙_}
 use native.Mathlib.Omega.{arith}
 use borrow.Author.Needs.{needs}
-use Rattle.parameters.proofs.Made.{one-at-most}
+use Rattle.optional.proofs.Laws.{one-at-most}
 use Rattle.deliver_report_writing.proofs.Writing.{size-is, indicator-against, data-against, short, written}
 use Rattle.deliver_report_writing.proofs.encode_parts.Statement.{statement}
 use Rattle.deliver_report_writing.proofs.encode_parts.Tie as tie

@@ -8,10 +8,10 @@ use Rattle.octets.specs.declared.Checked.{Checked}
 use Rattle.octets.specs.declared.Refusal.the-variants.{IndicatorDisagrees, IndicatorExtended}
 use Rattle.octets.specs.Checks.{found}
 use Rattle.layout.specs.Layout.{bit}
+use Rattle.optional.specs.Optional.{held}
+use Rattle.optional.specs.declared.OptionalOctet.{OptionalOctet}
+use Rattle.optional.proofs.Laws.{one-at-most}
 use Rattle.parameters.specs.Checking.{indicatorChecks}
-use Rattle.parameters.specs.Optional.{held}
-use Rattle.parameters.specs.declared.OptionalOctet.{OptionalOctet}
-use Rattle.parameters.proofs.Made.{one-at-most}
 use Rattle.parameters.proofs.check_parameter_indicator.Statement.{statement}
 use Rattle.parameters.proofs.check_parameter_indicator.Tie as tie
 

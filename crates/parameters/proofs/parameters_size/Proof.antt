@@ -2,7 +2,7 @@
 -- Assumes nothing.
 use borrow.Author.Needs.{needs}
 use native.Mathlib.Omega.{arith}
-use Rattle.parameters.proofs.Made.{one-at-most}
+use Rattle.optional.proofs.Laws.{one-at-most}
 use Rattle.parameters.proofs.parameters_size.Statement.{statement}
 use Rattle.parameters.proofs.parameters_size.Tie as tie
 

@@ -4,7 +4,7 @@ use mathlib.Core.Path.{sym, _∙_}
 use native.Mathlib.Omega.{arith}
 use borrow.Author.Needs.{needs}
 use Rattle.address_writing.proofs.Checks.{fine-small}
-use Rattle.parameters.proofs.Made.{one-at-most}
+use Rattle.optional.proofs.Laws.{one-at-most}
 use Rattle.status_report_writing.proofs.Writing.{address-against, rest-against, times-are, short, written}
 use Rattle.status_report_writing.proofs.encode_parts.Statement.{statement}
 use Rattle.status_report_writing.proofs.encode_parts.Tie as tie

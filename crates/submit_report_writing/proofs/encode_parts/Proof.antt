@@ -5,7 +5,7 @@ use native.Mathlib.Omega.{arith}
 use borrow.Author.Needs.{needs}
 use denote.Ref.{now}
 use borrow.Author.Tests.{not-true, not-false}
-use Rattle.parameters.proofs.Made.{one-at-most}
+use Rattle.optional.proofs.Laws.{one-at-most}
 use Rattle.submit_report_writing.proofs.Writing.{size-is, udhi-large, indicator-against, no-time, data-against, short, written}
 use Rattle.submit_report_writing.proofs.encode_parts.Statement.{statement}
 use Rattle.submit_report_writing.proofs.encode_parts.Tie as tie

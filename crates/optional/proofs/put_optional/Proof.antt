@@ -1,12 +1,12 @@
--- `parameters::put_optional` meets its contract: one octet, or none.
+-- `optional::put_optional` meets its contract: one octet, or none.
 -- Assumes nothing.
 use mathlib.Core.Path.{refl, sym, ap}
 use borrow.Author.Needs.{needs}
 use native.Mathlib.Nat.{add-zero}
 use native.Mathlib.Omega.{arith}
-use Rattle.parameters.specs.Optional.{held}
-use Rattle.parameters.proofs.put_optional.Statement.{statement}
-use Rattle.parameters.proofs.put_optional.Tie as tie
+use Rattle.optional.specs.Optional.{held}
+use Rattle.optional.proofs.put_optional.Statement.{statement}
+use Rattle.optional.proofs.put_optional.Tie as tie
 
 pub put-optional-spec : {M : Type 1} → statement M
 put-optional-spec =
