@@ -23,7 +23,7 @@ use Rattle.optional.specs.Parameters.{Parameters}
 use Rattle.optional.specs.declared.OptionalOctet.{OptionalOctet}
 use Rattle.optional.specs.declared.OptionalOctet.the-variants.{Absent, Present}
 use Rattle.parameters.specs.Line.{parameters}
-use Rattle.parameters.proofs.Checking.{answers}
+use Rattle.parameters_writing.proofs.Checking.{answers}
 use Rattle.parameters.proofs.Made.{Held, parameters-make, joined-append, past-append}
 use Rattle.deliver_report.specs.DeliverReport.{reported, rest, ackLine, errorLine, stopped, ack, error, answer, reporting, parts, partsOctets}
 use Rattle.deliver_report_writing.specs.Writing.{firstOctet, octetsIn, making}
@@ -67,7 +67,7 @@ module _ (udhi : Bool) (cause : OptionalOctet) (pi : ℕ) (p : Parameters) where
     unfolding making
     written = record {
       octets = parts-octets ∙ octets-are;
-      answer = rw (reporting-is (h .few), limits-are, ← octets-are) (answers h (octetsIn udhi cause pi p));
+      answer = rw (reporting-is (h .few), limits-are, ← octets-are) (answers (h .agrees) (h .limit) (octetsIn udhi cause pi p));
     }
 
 rest-makes : (udhi : Bool) (cause : OptionalOctet) (front : List Field) → joined front ≡ firstOctet udhi ∷ octetsHeld cause → anyPastLimit front ≡ false → Makes (λ r cs. Canonical r (front ++ cs)) (rest udhi cause)

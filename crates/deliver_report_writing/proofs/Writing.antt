@@ -17,7 +17,7 @@ use Rattle.octets.proofs.Checks.{passed, against, all-passed, one-against}
 use Rattle.optional.specs.Optional.{held}
 use Rattle.optional.specs.Parameters.{Parameters}
 use Rattle.optional.specs.declared.OptionalOctet.{OptionalOctet}
-use Rattle.parameters.specs.Checking.{indicatorChecks, dataChecks}
+use Rattle.parameters_writing.specs.Checking.{indicatorChecks, dataChecks}
 use Rattle.deliver_report_writing.specs.Writing.{octetsIn, making}
 
 -- how many octets the parts take

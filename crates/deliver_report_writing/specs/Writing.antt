@@ -9,7 +9,7 @@ use Rattle.octets.specs.declared.Written.{Written}
 use Rattle.optional.specs.Optional.{octetsHeld}
 use Rattle.optional.specs.Parameters.{Parameters, parametersOctets}
 use Rattle.optional.specs.declared.OptionalOctet.{OptionalOctet}
-use Rattle.parameters.specs.Checking.{indicatorChecks, dataChecks}
+use Rattle.parameters_writing.specs.Checking.{indicatorChecks, dataChecks}
 
 -- UDHI in bit 6, MTI 0
 abbrev pub firstOctet : Bool → ℕ

@@ -35,7 +35,7 @@ fn put_parts(
     let p1 = octets::put_octet(out, 0, first);
     let p2 = optional::put_optional(out, p1, cause);
     let p3 = octets::put_octet(out, p2, indicator);
-    parameters::put_parameters(out, p3, pid, dcs, udl, data)
+    parameters_writing::put_parameters(out, p3, pid, dcs, udl, data)
 }
 
 // Writes the parts to the start of a lent output: checks in order, then the size, then the octets.
@@ -52,13 +52,18 @@ pub fn encode_parts(
     requires { ⌜ length (now «data») ≤ 255 ⌝ }
     ensures { λ r. ⌜ (r, now (out .exit)) ≡ lend Written.Refused (making udhi cause indicator (record { pid = pid; dcs = dcs; udl = udl; ud = now («data» .entry) })) (now (out .entry)) ⌝ }
 {
-    if let Checked::Against(r) = parameters::check_parameter_indicator(indicator, pid, dcs, udl) {
+    if let Checked::Against(r) = parameters_writing::check_parameter_indicator(
+        indicator,
+        pid,
+        dcs,
+        udl,
+    ) {
         return Written::Refused(r);
     }
-    if let Checked::Against(r) = parameters::check_data(dcs, udl, data.len()) {
+    if let Checked::Against(r) = parameters_writing::check_data(dcs, udl, data.len()) {
         return Written::Refused(r);
     }
-    let size = parameters::parameters_size(pid, dcs, udl, data.len());
+    let size = parameters_writing::parameters_size(pid, dcs, udl, data.len());
     if out.len() < 2 + optional::octets_held(cause) + size {
         return Written::Refused(Refusal::OutputTooShort);
     }

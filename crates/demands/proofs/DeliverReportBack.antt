@@ -24,7 +24,7 @@ use Rattle.optional.specs.Parameters.{Parameters, parametersOctets}
 use Rattle.optional.specs.declared.OptionalOctet.{OptionalOctet}
 use Rattle.optional.specs.declared.OptionalOctet.the-variants.{Absent, Present}
 use Rattle.optional.proofs.Laws.{one-at-most}
-use Rattle.parameters.specs.Checking.{indicatorChecks, dataChecks}
+use Rattle.parameters_writing.specs.Checking.{indicatorChecks, dataChecks}
 use Rattle.parameters.specs.Line.{parameters}
 use Rattle.demands.proofs.ParametersBack.{octet-here, indicator-here, not-extended, parameters-here, parameters-limit}
 use Rattle.deliver_report.specs.DeliverReport.{reported, rest, outcomeOf, parametersOf, reporting, Parts, parts, partsOctets}

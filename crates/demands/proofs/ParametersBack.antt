@@ -26,7 +26,7 @@ use Rattle.optional.specs.Parameters.{Parameters, parametersOctets}
 use Rattle.optional.specs.declared.OptionalOctet.{OptionalOctet}
 use Rattle.optional.specs.declared.OptionalOctet.the-variants.{Absent, Present}
 use Rattle.optional.proofs.Laws.{one-at-most}
-use Rattle.parameters.specs.Checking.{indicatorChecks, dataChecks}
+use Rattle.parameters_writing.specs.Checking.{indicatorChecks, dataChecks}
 use Rattle.parameters.specs.Line.{announced, dataFor, parameters}
 use Rattle.parameters.proofs.Made.{three-bits}
 

@@ -32,7 +32,7 @@ use Rattle.optional.specs.Optional.{octetsHeld, held}
 use Rattle.optional.specs.Parameters.{Parameters, parametersOctets}
 use Rattle.optional.specs.declared.OptionalOctet.{OptionalOctet}
 use Rattle.optional.specs.declared.OptionalOctet.the-variants.{Absent, Present}
-use Rattle.parameters.specs.Checking.{indicatorChecks, dataChecks}
+use Rattle.parameters_writing.specs.Checking.{indicatorChecks, dataChecks}
 use Rattle.demands.proofs.ParametersBack.{indicator-here, not-extended, parameters-here, parameters-limit}
 use Rattle.status_report.specs.StatusReport.{bits, reported, behindStatus, behindAddress, line, statusReport, firstOf, parametersOf, reporting, parts, capitalised, tooLong}
 use Rattle.status_report_writing.specs.Writing.{octetsIn, optionalChecks, checksBehind, making}

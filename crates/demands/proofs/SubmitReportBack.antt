@@ -29,7 +29,7 @@ use Rattle.optional.specs.Parameters.{Parameters, parametersOctets}
 use Rattle.optional.specs.declared.OptionalOctet.{OptionalOctet}
 use Rattle.optional.specs.declared.OptionalOctet.the-variants.{Absent, Present}
 use Rattle.optional.proofs.Laws.{one-at-most}
-use Rattle.parameters.specs.Checking.{indicatorChecks, dataChecks}
+use Rattle.parameters_writing.specs.Checking.{indicatorChecks, dataChecks}
 use Rattle.parameters.specs.Line.{parameters}
 use Rattle.demands.proofs.ParametersBack.{octet-here, indicator-here, not-extended, parameters-here, parameters-limit}
 use Rattle.submit_report.specs.SubmitReport.{reported, rest, outcomeOf, parametersOf, reporting, Parts, parts, capitalised}

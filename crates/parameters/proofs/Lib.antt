@@ -2,4 +2,3 @@ pub mod Indicator
 pub mod Reading
 pub mod Outcomes
 pub mod Made
-pub mod Checking

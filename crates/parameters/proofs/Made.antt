@@ -6,13 +6,9 @@ use mathlib.Core.Bool.{Bool, true, false, _||_, or-assoc, or-false}
 use mathlib.Core.List.{List, [], _∷_, _++_, append-nil, append-assoc}
 use native.Mathlib.Omega.{arith}
 use native.Mathlib.Nat.{div-one, div-div-eq-div-mul}
-use borrow.Author.Tests.{eq-eqb, eqb-true, eqb-false}
-use lib.Dec.{leb, ltb}
+use borrow.Author.Tests.{eqb-true, eqb-false}
+use lib.Dec.{ltb}
 use lib.ListN.{length}
-use Rattle.octets.specs.Choice.{if_then_else_}
-use Rattle.octets.specs.Checks.{found}
-use Rattle.octets.specs.declared.Checked.{Checked}
-use Rattle.octets.specs.declared.Refusal.the-variants.{UserDataTooLong}
 use Rattle.coding.specs.Coding.{codingOf}
 use Rattle.coding.proofs.Laws.{data-at-most}
 use Rattle.layout.specs.Layout.{bit, isSet, Field, joined, pastLimit, anyPastLimit, _then_}
@@ -21,7 +17,7 @@ use Rattle.optional.specs.Optional.{octetsHeld, held, orZero}
 use Rattle.optional.specs.Parameters.{Parameters, parametersOctets}
 use Rattle.optional.specs.declared.OptionalOctet.{OptionalOctet}
 use Rattle.optional.specs.declared.OptionalOctet.the-variants.{Absent, Present}
-use Rattle.parameters.specs.Checking.{dataChecks}
+use Rattle.optional.proofs.Agreeing.{dataCount, Agreeing}
 use Rattle.parameters.specs.Line.{announced, dataFor, parameters}
 
 -- fields one after the other
@@ -40,15 +36,11 @@ pub record Announced (b pi : ℕ) (o : OptionalOctet) (cs : List Field) : Type 0
   pub holds : held o ≡ bit b pi
   pub low : orZero o < 256
 
--- past 140 octets they are refused
-abbrev limited : ℕ → Checked
-limited n = if leb n 140 then Checked.Fine else Checked.Against UserDataTooLong
-
 -- the user data's octets
 pub record DataHeld (dcs udl : OptionalOctet) (ud : List ℕ) (cs : List Field) : Type 0 where
   pub octets : ud ≡ joined cs
   pub limit : anyPastLimit cs ≡ ltb 140 (length ud)
-  pub checks : found (dataChecks dcs udl (length ud)) ≡ limited (length ud)
+  pub counted : length ud ≡ dataCount dcs udl
   pub few : length ud ≤ 255
 
 announced-makes : (b pi : ℕ) → Makes (Announced b pi) (announced (isSet b pi))
@@ -59,12 +51,11 @@ announced-makes b pi = by (isSet b pi) refl
     by false e = record { octets = refl; within = refl; holds = omega (arith, eqb-false (bit b pi) 1 e); low = omega arith }
 
 data-makes : (dcs udl : OptionalOctet) → orZero udl < 256 → Makes (DataHeld dcs udl) (dataFor dcs udl)
-unfolding dataChecks
-data-makes dcs Absent l = record { octets = refl; limit = refl; checks = refl; few = omega arith }
+data-makes dcs Absent l = record { octets = refl; limit = refl; counted = refl; few = omega arith }
 data-makes dcs (Present udl) l = λ f o w. record {
   octets = sym (append-nil f);
   limit = or-false (ltb 140 (length f));
-  checks = rw (eq-eqb (length f) _ (sym w));
+  counted = sym w;
   few = omega (arith, data-at-most (codingOf (orZero dcs)) udl);
 }
 
@@ -80,8 +71,7 @@ three-bits n =
 pub record Held (pi : ℕ) (p : Parameters) (cs : List Field) : Type 0 where
   pub octets : parametersOctets p ≡ joined cs
   pub limit : anyPastLimit cs ≡ ltb 140 (length (p .ud))
-  pub agrees : pi % 8 ≡ held (p .pid) + 2 * held (p .dcs) + 4 * held (p .udl)
-  pub checks : found (dataChecks (p .dcs) (p .udl) (length (p .ud))) ≡ limited (length (p .ud))
+  pub agrees : Agreeing pi p
   pub few : length (p .ud) ≤ 255
 
 module _ (pi : ℕ) {pid dcs udl : OptionalOctet} {ud : List ℕ} {c1 c2 c3 c4 : List Field} (a1 : Announced 0 pi pid c1) (a2 : Announced 1 pi dcs c2) (a3 : Announced 2 pi udl c3) (a4 : DataHeld dcs udl ud c4) where
@@ -89,8 +79,7 @@ module _ (pi : ℕ) {pid dcs udl : OptionalOctet} {ud : List ℕ} {c1 c2 c3 c4 :
   all-held = record {
     octets = simp (joined-append, append-assoc, append-nil) (cc (a1 .octets, a2 .octets, a3 .octets, a4 .octets));
     limit = simp (past-append, a1 .within, a2 .within, a3 .within, append-nil) (a4 .limit);
-    agrees = omega (arith, three-bits pi, a1 .holds, a2 .holds, a3 .holds);
-    checks = a4 .checks;
+    agrees = record { bits = omega (arith, three-bits pi, a1 .holds, a2 .holds, a3 .holds); counted = a4 .counted };
     few = a4 .few;
   }
 

@@ -32,7 +32,7 @@ use Rattle.optional.specs.Parameters.{Parameters, parametersOctets, noParameter
 use Rattle.optional.specs.declared.OptionalOctet.{OptionalOctet}
 use Rattle.optional.specs.declared.OptionalOctet.the-variants.{Absent, Present}
 use Rattle.parameters.specs.Line.{parameters}
-use Rattle.parameters.proofs.Checking.{answers}
+use Rattle.parameters_writing.proofs.Checking.{answers}
 use Rattle.parameters.proofs.Made.{Held, parameters-make}
 use Rattle.status_report.proofs.Writing.{fits, by-parts}
 use Rattle.status_report.specs.declared.SmsStatusReport.{SmsStatusReport}
@@ -109,7 +109,7 @@ module _ (x : ℕ) (hx : x < 256) (mti : eqb (messageType (kept bits x)) 2 ≡ t
   with-indicator : (i : ℕ) (p : Parameters) (ds : List Field) → Held i p ds
       → Writes parts reporting octetsOf (make (Present i) p) (standsAs (first bits) (kept bits x ∷ []) ∷ standsAs octet (mr ∷ []) ∷ standsAs address (canonicalAddress f) ∷ standsAs (octets any 7) t ∷ standsAs (octets any 7) u ∷ standsAs octet (st ∷ []) ∷ standsAs indicator (i ∷ []) ∷ ds)
   unfolding optionalChecks
-  with-indicator i p ds h = written (Present i) p (h .few) (standsAs indicator (i ∷ []) ∷ ds) (ap (λ (xs : List ℕ). i ∷ xs) (h .octets)) (λ xs. answers h xs)
+  with-indicator i p ds h = written (Present i) p (h .few) (standsAs indicator (i ∷ []) ∷ ds) (ap (λ (xs : List ℕ). i ∷ xs) (h .octets)) (λ xs. answers (h .agrees) (h .limit) xs)
 
 reported-makes : Makes (Writes parts reporting octetsOf) line
 unfolding line behindAddress behindStatus

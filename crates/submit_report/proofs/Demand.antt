@@ -27,9 +27,9 @@ use Rattle.optional.specs.Optional.{octetsHeld}
 use Rattle.optional.specs.Parameters.{Parameters}
 use Rattle.optional.specs.declared.OptionalOctet.{OptionalOctet}
 use Rattle.optional.specs.declared.OptionalOctet.the-variants.{Absent, Present}
-use Rattle.parameters.specs.Checking.{indicatorChecks, dataChecks}
+use Rattle.parameters_writing.specs.Checking.{indicatorChecks, dataChecks}
 use Rattle.parameters.specs.Line.{parameters}
-use Rattle.parameters.proofs.Checking.{answers}
+use Rattle.parameters_writing.proofs.Checking.{answers}
 use Rattle.parameters.proofs.Made.{Held, parameters-make, joined-append, past-append}
 use Rattle.submit_report.specs.SubmitReport.{reported, rest, ackLine, errorLine, stopped, ack, error, answer, reporting, Parts, parts, partsOctets}
 use Rattle.submit_report_writing.specs.Writing.{octetsIn, making}
@@ -87,7 +87,7 @@ module _ (udhi : ℕ) (u : udhi ≤ 1) (cause : OptionalOctet) (pi : ℕ) (t : L
     written : Canonical (reported udhi cause pi t p) fields
     written = record {
       octets = parts-octets ∙ octets-are;
-      answer = rw (reporting-is (h .few), making-is, limits-are, ← octets-are) (answers h its-octets);
+      answer = rw (reporting-is (h .few), making-is, limits-are, ← octets-are) (answers (h .agrees) (h .limit) its-octets);
     }
 
 module _ (udhi : ℕ) (u : udhi ≤ 1) (cause : OptionalOctet) (front : List Field) (j : joined front ≡ (64 * udhi + 1) ∷ octetsHeld cause) (n : anyPastLimit front ≡ false) where

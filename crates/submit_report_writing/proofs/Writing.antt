@@ -21,7 +21,7 @@ use Rattle.time.proofs.Laws.{time-size}
 use Rattle.optional.specs.Optional.{held}
 use Rattle.optional.specs.Parameters.{Parameters}
 use Rattle.optional.specs.declared.OptionalOctet.{OptionalOctet}
-use Rattle.parameters.specs.Checking.{indicatorChecks, dataChecks}
+use Rattle.parameters_writing.specs.Checking.{indicatorChecks, dataChecks}
 use Rattle.submit_report_writing.specs.Writing.{octetsIn, making}
 
 module _ (udhi : ℕ) (cause : OptionalOctet) (pi : ℕ) (digits : List ℕ) (p : Parameters) where

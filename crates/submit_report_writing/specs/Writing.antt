@@ -11,7 +11,7 @@ use Rattle.time.specs.Time.{isTime, timeOctets}
 use Rattle.optional.specs.Optional.{octetsHeld}
 use Rattle.optional.specs.Parameters.{Parameters, parametersOctets}
 use Rattle.optional.specs.declared.OptionalOctet.{OptionalOctet}
-use Rattle.parameters.specs.Checking.{indicatorChecks, dataChecks}
+use Rattle.parameters_writing.specs.Checking.{indicatorChecks, dataChecks}
 
 -- UDHI in bit 6, MTI 1; cause, indicator, time, parameters
 abbrev pub octetsIn : ℕ → OptionalOctet → ℕ → List ℕ → Parameters → List ℕ

@@ -35,7 +35,7 @@ fn put_parts(
     let p2 = optional::put_optional(out, p1, cause);
     let p3 = octets::put_octet(out, p2, indicator);
     let p4 = time::encode_time(digits, out, p3);
-    parameters::put_parameters(out, p4, pid, dcs, udl, data)
+    parameters_writing::put_parameters(out, p4, pid, dcs, udl, data)
 }
 
 // Writes the parts to the start of a lent output: checks in order, then the size, then the octets.
@@ -56,16 +56,21 @@ pub fn encode_parts(
     if udhi > 1 {
         return Written::Refused(Refusal::UdhiTooLarge);
     }
-    if let Checked::Against(r) = parameters::check_parameter_indicator(indicator, pid, dcs, udl) {
+    if let Checked::Against(r) = parameters_writing::check_parameter_indicator(
+        indicator,
+        pid,
+        dcs,
+        udl,
+    ) {
         return Written::Refused(r);
     }
     if !time::is_time(digits) {
         return Written::Refused(Refusal::NotATime);
     }
-    if let Checked::Against(r) = parameters::check_data(dcs, udl, data.len()) {
+    if let Checked::Against(r) = parameters_writing::check_data(dcs, udl, data.len()) {
         return Written::Refused(r);
     }
-    let size = parameters::parameters_size(pid, dcs, udl, data.len());
+    let size = parameters_writing::parameters_size(pid, dcs, udl, data.len());
     if out.len() < 9 + optional::octets_held(cause) + size {
         return Written::Refused(Refusal::OutputTooShort);
     }

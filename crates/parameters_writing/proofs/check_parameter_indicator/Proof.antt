@@ -1,4 +1,4 @@
--- `parameters::check_parameter_indicator` meets its contract: the tests are the definition's.
+-- `parameters_writing::check_parameter_indicator` meets its contract: the tests are the definition's.
 -- Assumes nothing.
 use Prim.Native.Nat.{ℕ, _+_, _*_, _%_}
 use mathlib.Core.Path.{_≡_}
@@ -11,9 +11,9 @@ use Rattle.layout.specs.Layout.{bit}
 use Rattle.optional.specs.Optional.{held}
 use Rattle.optional.specs.declared.OptionalOctet.{OptionalOctet}
 use Rattle.optional.proofs.Laws.{one-at-most}
-use Rattle.parameters.specs.Checking.{indicatorChecks}
-use Rattle.parameters.proofs.check_parameter_indicator.Statement.{statement}
-use Rattle.parameters.proofs.check_parameter_indicator.Tie as tie
+use Rattle.parameters_writing.specs.Checking.{indicatorChecks}
+use Rattle.parameters_writing.proofs.check_parameter_indicator.Statement.{statement}
+use Rattle.parameters_writing.proofs.check_parameter_indicator.Tie as tie
 
 -- what the calls tell is held
 module _ (pi : ℕ) (pid dcs udl : OptionalOctet) {a b c : ℕ} (p : a ≡ held pid) (d : b ≡ held dcs) (u : c ≡ held udl) where

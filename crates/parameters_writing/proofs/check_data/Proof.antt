@@ -1,11 +1,11 @@
--- `parameters::check_data` meets its contract: the tests are the definition's.
+-- `parameters_writing::check_data` meets its contract: the tests are the definition's.
 -- Assumes nothing.
 use borrow.Author.Needs.{needs}
 use borrow.Author.Tests.{eq-eqb, ne-eqb}
 use Rattle.coding.specs.Coding.{checkedData}
-use Rattle.parameters.specs.Checking.{dataChecks}
-use Rattle.parameters.proofs.check_data.Statement.{statement}
-use Rattle.parameters.proofs.check_data.Tie as tie
+use Rattle.parameters_writing.specs.Checking.{dataChecks}
+use Rattle.parameters_writing.proofs.check_data.Statement.{statement}
+use Rattle.parameters_writing.proofs.check_data.Tie as tie
 
 without-length : tie.Need-returns
 unfolding dataChecks

@@ -1,10 +1,10 @@
--- `parameters::parameters_size` meets its contract: a sum.
+-- `parameters_writing::parameters_size` meets its contract: a sum.
 -- Assumes nothing.
 use borrow.Author.Needs.{needs}
 use native.Mathlib.Omega.{arith}
 use Rattle.optional.proofs.Laws.{one-at-most}
-use Rattle.parameters.proofs.parameters_size.Statement.{statement}
-use Rattle.parameters.proofs.parameters_size.Tie as tie
+use Rattle.parameters_writing.proofs.parameters_size.Statement.{statement}
+use Rattle.parameters_writing.proofs.parameters_size.Tie as tie
 
 pub parameters-size-spec : {M : Type 1} → statement M
 parameters-size-spec =

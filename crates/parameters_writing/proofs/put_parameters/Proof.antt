@@ -1,9 +1,9 @@
--- `parameters::put_parameters` meets its contract: one part behind the other.
+-- `parameters_writing::put_parameters` meets its contract: one part behind the other.
 -- Assumes nothing.
 use borrow.Author.Needs.{needs}
 use Rattle.octets.proofs.Laws.{wrote-then}
-use Rattle.parameters.proofs.put_parameters.Statement.{statement}
-use Rattle.parameters.proofs.put_parameters.Tie as tie
+use Rattle.parameters_writing.proofs.put_parameters.Statement.{statement}
+use Rattle.parameters_writing.proofs.put_parameters.Tie as tie
 
 returns : tie.Need-returns
 returns c =
