@@ -25,8 +25,8 @@ use Rattle.time.proofs.Laws.{digits-back, length-digits, time-means, time-held,
 use Rattle.address_writing.specs.Writing.{addressOctets, addressChecks, octetsOr}
 use Rattle.address.specs.Address.{addressIn, addressWith, addressSize, canonicalAddress, textHeld}
 use Rattle.address.proofs.Laws.{Spelled, address-passed}
-use Rattle.layout.specs.Layout.{octet, octets, any, address, isSet, messageType, kept, Format, field, one, reached, reading, readFrom, read}
-use Rattle.layout.proofs.Steps.{done-reached, end-not-reached}
+use Rattle.layout.specs.Layout.{octet, octets, any, address, isSet, messageType, kept, Format, field, one, done, reached, reading, readFrom, read}
+use Rattle.layout.proofs.Steps.{done-reached, end-not-reached, then-goes-on}
 use Rattle.demands.proofs.LayoutBack.{field-read, message-read}
 use Rattle.optional.specs.Optional.{octetsHeld, held}
 use Rattle.optional.specs.Parameters.{Parameters, parametersOctets}
@@ -34,7 +34,8 @@ use Rattle.optional.specs.declared.OptionalOctet.{OptionalOctet}
 use Rattle.optional.specs.declared.OptionalOctet.the-variants.{Absent, Present}
 use Rattle.parameters_writing.specs.Checking.{indicatorChecks, dataChecks}
 use Rattle.demands.proofs.ParametersBack.{indicator-here, not-extended, parameters-here, parameters-limit}
-use Rattle.status_report.specs.StatusReport.{bits, reported, behindStatus, behindAddress, line, statusReport, firstOf, parametersOf, reporting, parts, capitalised, tooLong}
+use Rattle.status_report_reading.specs.Line.{Fields, fieldsWith, bits, behindStatus, behindAddress, line as fields}
+use Rattle.status_report.specs.StatusReport.{reported, line, statusReport, firstOf, parametersOf, reporting, parts, capitalised, tooLong}
 use Rattle.status_report_writing.specs.Writing.{octetsIn, optionalChecks, checksBehind, making}
 use Rattle.status_report.specs.declared.SmsStatusReport.{SmsStatusReport}
 
@@ -95,7 +96,7 @@ first-tells udhi srq lp mms =
 -- ---- octets in the line's order are read as the fields that they are
 
 -- indicator and parameters, or the end
-none-read : (make : OptionalOctet → Parameters → SmsStatusReport) (pid dcs udl : OptionalOctet) (ud : List ℕ) (at : ℕ) → held pid + held dcs + held udl + length ud ≡ 0
+none-read : (make : OptionalOctet → Parameters → Fields) (pid dcs udl : OptionalOctet) (ud : List ℕ) (at : ℕ) → held pid + held dcs + held udl + length ud ≡ 0
     → let p : Parameters = record { pid = pid; dcs = dcs; udl = udl; ud = ud } in reading (behindStatus make) (parametersOctets p) at ≡ reached (make Absent p) at
 unfolding behindStatus reading
 none-read make Absent Absent Absent [] at h = refl
@@ -104,7 +105,7 @@ none-read make Absent Absent (Present x) ud at h = absurd (omega arith)
 none-read make Absent (Present x) udl ud at h = absurd (omega arith)
 none-read make (Present x) dcs udl ud at h = absurd (omega arith)
 
-module _ (make : OptionalOctet → Parameters → SmsStatusReport) (p : Parameters) (s : List ℕ) (at : ℕ) where
+module _ (make : OptionalOctet → Parameters → Fields) (p : Parameters) (s : List ℕ) (at : ℕ) where
   optional-read : (pi : OptionalOctet) → found (optionalChecks pi p) ≡ Checked.Fine → drop at s ≡ octetsHeld pi ++ parametersOctets p → (n : ℕ) × (readFrom (behindStatus make) s at ≡ reached (make pi p) n)
   unfolding optionalChecks behindStatus readFrom
   optional-read Absent h e =
@@ -117,17 +118,17 @@ module _ (make : OptionalOctet → Parameters → SmsStatusReport) (p : Paramete
 
 module _ (f : ℕ) (whole : kept bits f ≡ f) (mti : messageType f ≡ 2) (mr : ℕ) (ra : List ℕ) (size : addressSize ra ≡ length ra) (again : canonicalAddress ra ≡ ra) (scts : List ℕ) (seven : 7 ≡ length scts)
     (dt : List ℕ) (also : 7 ≡ length dt) (st : ℕ) where
-  abbrev behindFirst : ℕ → Format SmsStatusReport
+  abbrev behindFirst : ℕ → Format Fields
   behindFirst f = one λ mr. field address λ ra. behindAddress f mr ra
 
-  to-first : (rest : List ℕ) → read statusReport (f ∷ rest) ≡ reading (behindFirst f) rest 1
-  unfolding read readFrom line
+  to-first : (rest : List ℕ) → readFrom fields (f ∷ rest) 0 ≡ reading (behindFirst f) rest 1
+  unfolding readFrom fields
   to-first rest = message-read 2 bits behindFirst f whole mti rest 0
 
   to-times : (rest : List ℕ) → reading (behindFirst f) (mr ∷ (ra ++ rest)) 1 ≡ reading (behindAddress f mr ra) rest (2 + length ra)
   to-times rest = field-read octet _ (mr ∷ []) (ra ++ rest) 1 refl ∙ field-read address (λ ra. behindAddress f mr ra) ra rest 2 size ∙ rw again
 
-  to-optional : (rest : List ℕ) (at : ℕ) → reading (behindAddress f mr ra) (scts ++ (dt ++ (st ∷ rest))) at ≡ reading (behindStatus (reported f mr ra scts dt st)) rest (at + length scts + length dt + 1)
+  to-optional : (rest : List ℕ) (at : ℕ) → reading (behindAddress f mr ra) (scts ++ (dt ++ (st ∷ rest))) at ≡ reading (behindStatus (fieldsWith f mr ra scts dt st)) rest (at + length scts + length dt + 1)
   unfolding behindAddress
   to-optional rest at =
       field-read (octets any 7) _ scts (dt ++ (st ∷ rest)) at seven ∙ field-read (octets any 7) _ dt (st ∷ rest) (at + length scts) also ∙ field-read octet _ (st ∷ []) rest (at + length scts + length dt) refl
@@ -141,15 +142,15 @@ module _ (f : ℕ) (whole : kept bits f ≡ f) (mti : messageType f ≡ 2) (mr :
       sym (drop-drop 1 (2 + length ra + length scts + length dt) s) ∙ ap (drop 1) c
 
   written-read : (pi : OptionalOctet) (p : Parameters) → found (optionalChecks pi p) ≡ Checked.Fine
-      → (n : ℕ) × (read statusReport (f ∷ mr ∷ (ra ++ (scts ++ (dt ++ (st ∷ (octetsHeld pi ++ parametersOctets p)))))) ≡ reached (reported f mr ra scts dt st pi p) n)
-  unfolding readFrom
+      → (n : ℕ) × (read statusReport (f ∷ mr ∷ (ra ++ (scts ++ (dt ++ (st ∷ (octetsHeld pi ++ parametersOctets p)))))) ≡ reached (reported (fieldsWith f mr ra scts dt st pi p)) n)
+  unfolding read readFrom line
   written-read pi p h =
       let rest = octetsHeld pi ++ parametersOctets p in
       let s = f ∷ mr ∷ (ra ++ (scts ++ (dt ++ (st ∷ rest)))) in
       let at = 2 + length ra + length scts + length dt + 1 in
-      let make = reported f mr ra scts dt st in
+      let make = fieldsWith f mr ra scts dt st in
       let (n, e) = optional-read make p s at pi h (dropped rest) in
-      (n, to-first _ ∙ to-times _ ∙ to-optional rest (2 + length ra) ∙ ap (λ (l : List ℕ). reading (behindStatus make) l at) (sym (dropped rest)) ∙ e)
+      (n, then-goes-on s fields 0 (to-first _ ∙ to-times _ ∙ to-optional rest (2 + length ra) ∙ ap (λ (l : List ℕ). reading (behindStatus make) l at) (sym (dropped rest)) ∙ e) (λ x. done (reported x)) ∙ done-reached s _ _)
 
 -- ---- the parts
 
@@ -159,7 +160,7 @@ same-parts : (r : SmsStatusReport) (f : ℕ) → Tells (r .«tp_udhi») (r .«tp
     → (scts : List ℕ) → timeDigits scts ≡ capitals (digitsOf (r .«tp_service_centre_timestamp»)) → length (timeDigits scts) ≡ r .«tp_service_centre_timestamp» .length
     → (dt : List ℕ) → timeDigits dt ≡ capitals (digitsOf (r .«tp_discharge_time»)) → length (timeDigits dt) ≡ r .«tp_discharge_time» .length
     → length (dataOf (r .«tp_user_data»)) ≡ r .«tp_user_data» .length
-    → parts (reported f (r .«tp_mr») ra scts dt (r .«tp_status») (r .«tp_parameter_indicator») (parametersOf r)) ≡ capitalised (parts r)
+    → parts (reported (fieldsWith f (r .«tp_mr») ra scts dt (r .«tp_status») (r .«tp_parameter_indicator») (parametersOf r))) ≡ capitalised (parts r)
 unfolding reported addressWith timeIn dataWith
 same-parts r f t ra back text scts digits count dt discharge many size =
     let a : take (length (textHeld (r .«tp_recipient_address»))) (addressWith 0 0 (textHeld (r .«tp_recipient_address»)) .address) ≡ textHeld (r .«tp_recipient_address») = take-pad 290 _ in
@@ -232,7 +233,7 @@ module _ {os : List ℕ} {answer : Written} (r : SmsStatusReport) (e : reporting
       let lq : length (timeDigits scts) ≡ time .length = omega (arith, length-digits scts, n, time-means ds .0 (p .time-is) .0, lt) in
       let lv : length (timeDigits dt) ≡ late .length = omega (arith, length-digits dt, m, time-means us .0 (p .discharge-is) .0, lu) in
       let (k, e) = written-read f (t .whole) (t .mti-is) (r .«tp_mr») ra (p .address .whole) (p .address .again) scts (sym n) dt (sym m) (r .«tp_status») (r .«tp_parameter_indicator») (parametersOf r) (p .optional) in (
-        reported f (r .«tp_mr») ra scts dt (r .«tp_status») (r .«tp_parameter_indicator») (parametersOf r),
+        reported (fieldsWith f (r .«tp_mr») ra scts dt (r .«tp_status») (r .«tp_parameter_indicator») (parametersOf r)),
         k,
         ap (read statusReport) (sym (p .is)) ∙ e,
         same-parts r f t ra (p .address .back) la scts (digits-back ds (p .time-is)) lq dt (digits-back us (p .discharge-is)) lv ld,

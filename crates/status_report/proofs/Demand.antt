@@ -23,7 +23,7 @@ use Rattle.time.proofs.Laws.{octets-back, digits-time, length-digits, time-held
 use Rattle.address.specs.Address.{canonicalAddress}
 use Rattle.address.proofs.Laws.{canonical-reads, octets-again, length-short, read-checked, Field as AddressField}
 use Rattle.layout.specs.Demand.{Demand3}
-use Rattle.layout.specs.Layout.{Field, any, first, octet, octets, address, indicator, standsAs, joined, anyPastLimit, messageType, kept, isSet, reached, read, canonicalOf, unwritable}
+use Rattle.layout.specs.Layout.{Field, any, first, octet, octets, address, indicator, done, standsAs, joined, anyPastLimit, messageType, kept, isSet, reached, read, canonicalOf, unwritable}
 use Rattle.layout.proofs.Makes.{Makes, makes-then}
 use Rattle.layout.proofs.Demand.{Answers, answers-checked, Writes, demand3, answers-plain}
 use Rattle.layout.proofs.Rewriting.{Told}
@@ -36,7 +36,8 @@ use Rattle.parameters_writing.proofs.Checking.{answers}
 use Rattle.parameters.proofs.Made.{Held, parameters-make}
 use Rattle.status_report.proofs.Writing.{fits, by-parts}
 use Rattle.status_report.specs.declared.SmsStatusReport.{SmsStatusReport}
-use Rattle.status_report.specs.StatusReport.{bits, reported, behindStatus, behindAddress, line, statusReport, reporting, Parts, parts, answer, unread}
+use Rattle.status_report_reading.specs.Line.{Fields, fieldsWith, bits, behindStatus, behindAddress, line as fields}
+use Rattle.status_report.specs.StatusReport.{reported, line, statusReport, reporting, Parts, parts, answer, unread}
 use Rattle.status_report_writing.specs.Writing.{octetsIn, optionalChecks, making}
 
 -- ---- the parts alone
@@ -66,7 +67,7 @@ first-octet x h m = eqb-true _ _ (rw m at (below (λ x. if eqb (messageType (kep
 
 module _ (x : ℕ) (hx : x < 256) (mti : eqb (messageType (kept bits x)) 2 ≡ true) (mr : ℕ) (f : List ℕ) (wf : AddressField f) (t : List ℕ) (ot : Octets t) (wt : 7 ≡ length t) (u : List ℕ) (ou : Octets u) (wu : 7 ≡ length u) (st : ℕ) where
   abbrev make : OptionalOctet → Parameters → SmsStatusReport
-  make = reported (kept bits x) mr (canonicalAddress f) t u st
+  make pi p = reported (fieldsWith (kept bits x) mr (canonicalAddress f) t u st pi p)
 
   module _ (pi : OptionalOctet) (p : Parameters) (few : length (p .ud) ≤ 255) where
     abbrev octetsRead : List ℕ
@@ -111,12 +112,16 @@ module _ (x : ℕ) (hx : x < 256) (mti : eqb (messageType (kept bits x)) 2 ≡ t
   unfolding optionalChecks
   with-indicator i p ds h = written (Present i) p (h .few) (standsAs indicator (i ∷ []) ∷ ds) (ap (λ (xs : List ℕ). i ∷ xs) (h .octets)) (λ xs. answers (h .agrees) (h .limit) xs)
 
-reported-makes : Makes (Writes parts reporting octetsOf) line
-unfolding line behindAddress behindStatus
-reported-makes x hx mti mr hm f wf t ot wt u ou wu st hs = (
+fields-make : Makes (λ x cs. Writes parts reporting octetsOf (reported x) cs) fields
+unfolding fields behindAddress behindStatus
+fields-make x hx mti mr hm f wf t ot wt u ou wu st hs = (
   ended x hx mti mr f wf t ot wt u ou wu st,
   λ i low. makes-then (Held i) _ (parameters i) _ (parameters-make i) λ p ds h. rw append-nil (with-indicator x hx mti mr f wf t ot wt u ou wu st i p ds h),
 )
+
+reported-makes : Makes (Writes parts reporting octetsOf) line
+unfolding line
+reported-makes = makes-then (λ x cs. Writes parts reporting octetsOf (reported x) cs) (Writes parts reporting octetsOf) fields (λ x. done (reported x)) fields-make λ x cs w. rw append-nil w
 
 -- demand 3 of STATUS-REPORT
 pub status-report-demand3 : Demand3 parts statusReport reporting false

@@ -13,50 +13,39 @@ use Rattle.octets.specs.declared.Written.{Written}
 use Rattle.coding.specs.Coding.{dataWith, dataOf}
 use Rattle.time.specs.Time.{timeIn, digitsOf, capitals}
 use Rattle.address.specs.Address.{addressIn, addressWith, textHeld}
-use Rattle.layout.specs.Layout.{isSet, leading, Format, field, endOr, done, _then_, message, one, time, address, Reached, reached, halted, Layout, plain}
-use Rattle.optional.specs.Parameters.{Parameters, noParameters}
+use Rattle.layout.specs.Layout.{isSet, Format, done, _then_, Reached, reached, halted, Layout, plain}
+use Rattle.optional.specs.Parameters.{Parameters}
 use Rattle.optional.specs.declared.OptionalOctet.{OptionalOctet}
 use Rattle.optional.specs.declared.OptionalOctet.the-variants.{Absent, Present}
-use Rattle.parameters.specs.Line.{parameters}
+use Rattle.status_report_reading.specs.Line.{Fields, line as fields}
 use Rattle.status_report_writing.specs.Writing.{making}
 use Rattle.status_report.specs.declared.SmsStatusReport.{SmsStatusReport}
 use Rattle.status_report.specs.declared.StatusReportRead.{StatusReportRead}
 
 -- ---- reading
 
--- the record that the fields make: first octet, reference, recipient, the two times, status; indicator, parameters
-unfoldable pub reported : ℕ → ℕ → List ℕ → List ℕ → List ℕ → ℕ → OptionalOctet → Parameters → SmsStatusReport
-reported f mr ra scts dt st pi p = record {
-  «tp_udhi» = isSet 6 f;
-  «tp_srq» = isSet 5 f;
-  «tp_lp» = isSet 3 f;
-  «tp_mms» = isSet 2 f;
-  «tp_mr» = mr;
-  «tp_recipient_address» = addressIn ra;
-  «tp_service_centre_timestamp» = timeIn scts;
-  «tp_discharge_time» = timeIn dt;
-  «tp_status» = st;
-  «tp_parameter_indicator» = pi;
-  «tp_pid» = p .pid;
-  «tp_dcs» = p .dcs;
-  «tp_user_data_length» = p .udl;
-  «tp_user_data» = dataWith (p .ud);
+-- the record that the fields make
+unfoldable pub reported : Fields → SmsStatusReport
+reported x = record {
+  «tp_udhi» = isSet 6 (x .first);
+  «tp_srq» = isSet 5 (x .first);
+  «tp_lp» = isSet 3 (x .first);
+  «tp_mms» = isSet 2 (x .first);
+  «tp_mr» = x .mr;
+  «tp_recipient_address» = addressIn (x .ra);
+  «tp_service_centre_timestamp» = timeIn (x .scts);
+  «tp_discharge_time» = timeIn (x .dt);
+  «tp_status» = x .st;
+  «tp_parameter_indicator» = x .pi;
+  «tp_pid» = x .held .pid;
+  «tp_dcs» = x .held .dcs;
+  «tp_user_data_length» = x .held .udl;
+  «tp_user_data» = dataWith (x .held .ud);
 }
 
--- UDHI 6, SRQ 5, LP 3, MMS 2
-abbrev pub bits : List ℕ
-bits = 6 ∷ 5 ∷ 3 ∷ 2 ∷ []
-
--- behind status: the end, with no indicator; or indicator and parameters (§9.2.3.27)
-unfoldable pub behindStatus : (OptionalOctet → Parameters → SmsStatusReport) → Format SmsStatusReport
-behindStatus make = endOr (done (make Absent noParameters)) λ i. parameters (leading i) then λ p. done (make (Present (leading i)) p)
-
--- the line: MTI 2 and those bits; reference, recipient, service centre time stamp, discharge time, status
-unfoldable pub behindAddress : ℕ → ℕ → List ℕ → Format SmsStatusReport
-behindAddress f mr ra = time λ scts. time λ dt. one λ st. behindStatus (reported f mr ra scts dt st)
-
+-- the line of fields (status_report_reading/specs/Line.antt), and the record
 unfoldable pub line : Format SmsStatusReport
-line = message 2 bits λ f. one λ mr. field address λ ra. behindAddress f mr ra
+line = fields then λ x. done (reported x)
 
 abbrev pub statusReport : Layout SmsStatusReport
 statusReport = plain line

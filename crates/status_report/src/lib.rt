@@ -1,26 +1,21 @@
 // SMS-STATUS-REPORT (TS 23.040 §9.2.2.3).
 ghost use mathlib.Core.Path.{_≡_};
-ghost use mathlib.Core.Bool.{false};
-ghost use Prim.Native.Nat.{_+_, _/_, _%_, _≤_, _<_};
-ghost use lib.ListN.{length, take, drop};
+ghost use Prim.Native.Nat.{_+_};
 ghost use Rattle.octets.specs.Choice.{flag};
 ghost use Rattle.octets.specs.Lent.{lend};
-ghost use Rattle.layout.specs.Layout.{read, readFrom, kept, cut, address as addressKind};
-ghost use Rattle.address.specs.Address.{addressSize, canonicalAddress};
-ghost use Rattle.status_report.specs.StatusReport.{bits, reported, behindStatus, behindAddress, statusReport, blank as blankMessage, answer, unread, reporting};
+ghost use Rattle.layout.specs.Layout.{read};
+ghost use Rattle.status_report_reading.specs.Line.{fieldsAt, Inside};
+ghost use Rattle.status_report.specs.StatusReport.{reported, statusReport, blank as blankMessage, answer, unread, reporting};
 use address::SMSAddress;
 use coding::UserData;
-use octets::Octet;
 use octets::Outcome;
-use octets::Place;
 use octets::Refusal;
-use octets::Span;
 use octets::Written;
 use optional::OptionalOctet;
-use parameters::ParametersRead;
+use status_report_reading::MTI_STATUS_REPORT;
+use status_report_reading::StatusReportFields;
+use status_report_reading::StatusReportFound;
 use time::Time;
-
-const MTI_STATUS_REPORT: u8 = 2;
 
 pub struct SmsStatusReport {
     pub tp_udhi: bool,
@@ -76,137 +71,38 @@ fn refused(r: Refusal) -> StatusReportRead
     }
 }
 
-// The octets end inside a field.
-fn ended() -> StatusReportRead
-    ensures { λ u. ⌜ u ≡ unread Refusal.OctetsEnd ⌝ }
+// The message of fields that are there.
+fn message(data: &[u8], f: StatusReportFields) -> SmsStatusReport
+    requires { ⌜ Inside (now «data») (StatusReportFound.Whole f) ⌝ }
+    ensures { λ r. ⌜ r ≡ reported (fieldsAt (now («data» .entry)) f) ⌝ }
 {
-    refused(Refusal::OctetsEnd)
-}
-
-// The message of fields that are there: the first octet's flags, reference, address, the two times, status, indicator,
-// PID, DCS, UDL, and n octets of user data.
-fn message(
-    first: u8,
-    data: &[u8],
-    mr: u8,
-    ra: usize,
-    scts: usize,
-    dt: usize,
-    status: u8,
-    indicator: OptionalOctet,
-    pid: OptionalOctet,
-    dcs: OptionalOctet,
-    udl: OptionalOctet,
-    ud: usize,
-    n: usize,
-) -> SmsStatusReport
-    requires { ⌜ (ra + addressSize (drop ra (now «data»)) ≤ length (now «data»)) × (scts + 7 ≤ length (now «data»)) × (dt + 7 ≤ length (now «data»)) × (ud + n ≤ length (now «data»)) × (n ≤ 255) ⌝ }
-    ensures { λ r. ⌜ r ≡ reported (kept bits first) mr (canonicalAddress (cut addressKind (drop ra (now («data» .entry))))) (take 7 (drop scts (now («data» .entry)))) (take 7 (drop dt (now («data» .entry)))) status indicator (record { pid = pid; dcs = dcs; udl = udl; ud = take n (drop ud (now («data» .entry))) }) ⌝ }
-{
-    let recipient = SMSAddress::decode(data, ra);
-    let timestamp = time::time_at(data, scts);
-    let discharge = time::time_at(data, dt);
-    let end = ud + n;
-    let user_data = coding::data_with(&data[ud..end]);
+    let start = f.data;
+    let end = start + f.octets;
+    let first = f.first;
+    let indicator = f.indicator;
+    let pid = f.pid;
+    let dcs = f.dcs;
+    let udl = f.udl;
+    let recipient = SMSAddress::decode(data, f.address);
+    let timestamp = time::time_at(data, f.timestamp);
+    let discharge_time = time::time_at(data, f.discharge);
+    let user_data = coding::data_with(&data[start..end]);
     SmsStatusReport {
         tp_udhi: first / 64 % 2 == 1,
         tp_srq: first / 32 % 2 == 1,
         tp_lp: first / 8 % 2 == 1,
         tp_mms: first / 4 % 2 == 1,
-        tp_mr: mr,
+        tp_mr: f.mr,
         tp_recipient_address: recipient,
         tp_service_centre_timestamp: timestamp,
-        tp_discharge_time: discharge,
-        tp_status: status,
+        tp_discharge_time: discharge_time,
+        tp_status: f.status,
         tp_parameter_indicator: indicator,
         tp_pid: pid,
         tp_dcs: dcs,
         tp_user_data_length: udl,
         tp_user_data: user_data,
     }
-}
-
-// What follows the status: the end, or indicator and parameters.
-fn behind_status(
-    data: &[u8],
-    first: u8,
-    mr: u8,
-    ra: usize,
-    scts: usize,
-    dt: usize,
-    status: u8,
-    place: Place,
-) -> StatusReportRead
-    requires { ⌜ (ra + addressSize (drop ra (now «data»)) ≤ length (now «data»)) × (scts + 7 ≤ length (now «data»)) × (dt + 7 ≤ length (now «data»)) ⌝ }
-    ensures { λ r. ⌜ r ≡ answer (readFrom (behindStatus (reported (kept bits first) mr (canonicalAddress (cut addressKind (drop ra (now («data» .entry))))) (take 7 (drop scts (now («data» .entry)))) (take 7 (drop dt (now («data» .entry)))) status)) (now («data» .entry)) (place .at)) ⌝ }
-{
-    if place.at >= data.len() {
-        let missing = OptionalOctet::Absent;
-        let message = message(
-            first,
-            data,
-            mr,
-            ra,
-            scts,
-            dt,
-            status,
-            missing,
-            OptionalOctet::Absent,
-            OptionalOctet::Absent,
-            OptionalOctet::Absent,
-            0,
-            0,
-        );
-        return StatusReportRead {
-            outcome: Outcome::Done,
-            message,
-        };
-    }
-    let Octet::Read(indicator, next) = parameters::read_indicator(data, place) else {
-        return ended();
-    };
-    match parameters::read_parameters(data, next, indicator) {
-        ParametersRead::Refused(r) => refused(r),
-        ParametersRead::Read(pid, dcs, udl, size, behind) => {
-            let ud = behind.at - size;
-            let message = message(
-                first,
-                data,
-                mr,
-                ra,
-                scts,
-                dt,
-                status,
-                OptionalOctet::Present(indicator),
-                pid,
-                dcs,
-                udl,
-                ud,
-                size,
-            );
-            StatusReportRead {
-                outcome: Outcome::Done,
-                message,
-            }
-        }
-    }
-}
-
-// What follows the address.
-fn behind_address(data: &[u8], first: u8, mr: u8, ra: usize, place: Place) -> StatusReportRead
-    requires { ⌜ (ra + addressSize (drop ra (now «data»)) ≤ length (now «data»)) × (place .at ≤ length (now «data»)) ⌝ }
-    ensures { λ r. ⌜ r ≡ answer (readFrom (behindAddress (kept bits first) mr (canonicalAddress (cut addressKind (drop ra (now («data» .entry)))))) (now («data» .entry)) (place .at)) ⌝ }
-{
-    let Span::There(scts, place2) = place.span(data, 7) else {
-        return ended();
-    };
-    let Span::There(dt, place3) = place2.span(data, 7) else {
-        return ended();
-    };
-    let Octet::Read(status, place4) = place3.octet(data) else {
-        return ended();
-    };
-    behind_status(data, first, mr, ra, scts, dt, status, place4)
 }
 
 // The first octet: TP-MTI and the flags.
@@ -263,19 +159,12 @@ impl SmsStatusReport {
     pub fn decode(data: &[u8]) -> StatusReportRead
         ensures { λ r. ⌜ r ≡ answer (read statusReport (now («data» .entry))) ⌝ }
     {
-        let start = Place { at: 0 };
-        let Octet::Read(first, place) = start.octet(data) else {
-            return ended();
-        };
-        if first % 4 != MTI_STATUS_REPORT {
-            return refused(Refusal::WrongMessageType);
+        match status_report_reading::fields_of(data) {
+            StatusReportFound::Refused(r) => refused(r),
+            StatusReportFound::Whole(f) => StatusReportRead {
+                outcome: Outcome::Done,
+                message: message(data, f),
+            },
         }
-        let Octet::Read(mr, place2) = place.octet(data) else {
-            return ended();
-        };
-        let Span::There(ra, place3) = address::address_at(data, place2) else {
-            return ended();
-        };
-        behind_address(data, first, mr, ra, place3)
     }
 }

@@ -8,19 +8,19 @@ use Rattle.status_report.proofs.message.Tie as tie
 
 returns : tie.Need-returns
 returns c =
-    let a = c .before .before .before .before .before .before .args in
-    let p = c .before .before .before .before .before .before .pre in
-    message-is (now (a .«data»)) (λ i. c .before .before .before .before .before .shared-slice-known .given i .fits) (a .first) (a .mr) (a .ra) (a .scts) (a .dt) (a .status) (a .indicator) (a .pid) (a .dcs) (a .udl) (a .ud) (a .n) (p .0)
+    let known = c .before .before .before .before .before .before in
+    let entry = known .before in
+    message-is (now (entry .args .«data»)) (λ i. known .shared-slice-known .given i .fits) (entry .args .f) (entry .pre)
     _ (c .before .before .before .before .decode .ensures) _ (c .before .before .before .time-at .ensures) _ (c .before .before .time-at2 .ensures) _ (c .data-with .ensures)
 
 pub message-spec : {M : Type 1} → statement M
 message-spec =
     tie.close
     (tie.spec
-    (λ c κs. c .before .pre .0)
-    (λ c κs. c .before .before .pre .1)
-    (λ c κs. c .before .before .before .pre .2)
     (λ c. search needs)
+    (λ c κs. search needs)
+    (λ c κs. search needs)
+    (λ c κs. search needs)
     (λ c. search needs)
     (λ c. search needs)
     (λ c. search needs)
