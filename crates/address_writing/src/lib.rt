@@ -101,7 +101,7 @@ fn put_digits(text: &[u8], out: &mut [u8], at: usize) -> usize
     requires { ⌜ at + (length (now text) + 1) / 2 ≤ length (now out) ⌝ }
     ensures { λ r. ⌜ Wrote at (inPairs (map digitValue (now (text .entry)))) (now (out .entry)) r (now (out .exit)) ⌝ }
 {
-    let octets = text.len() / 2 + text.len() % 2;
+    let octets = (text.len() + 1) / 2;
     let mut j = 0;
     while j < octets {
         let first = semi_octet_or_f(text, 2 * j);
