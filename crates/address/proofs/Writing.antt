@@ -1,6 +1,6 @@
 -- What writing a record makes: its length is looked at first.
 -- Assumes nothing.
-use Prim.Native.Nat.{ℕ, _≤_, _<_}
+use Prim.Native.Nat.{_≤_, _<_}
 use mathlib.Core.Path.{_≡_}
 use borrow.Author.Tests.{lt-ltb, le-ltb}
 use Rattle.octets.specs.Lent.{refused}

@@ -1,6 +1,6 @@
 -- `address::address_at` meets its contract: the length octet gives the size; where it is missing the field is not whole.
 -- Assumes nothing.
-use Prim.Native.Nat.{ℕ, _+_, _/_}
+use Prim.Native.Nat.{ℕ}
 use mathlib.Core.Path.{_≡_, sym, _∙_, ap}
 use native.Mathlib.Omega.{arith}
 use native.Mathlib.Nat.{add-zero}

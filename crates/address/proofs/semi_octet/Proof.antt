@@ -1,11 +1,10 @@
 -- `address::semi_octet` meets its contract: the low half comes first.
 -- Assumes nothing.
-use Prim.Native.Nat.{ℕ, _+_, _*_, _/_, _<_}
+use Prim.Native.Nat.{_+_, _*_, _/_}
 use mathlib.Core.Path.{_≡_, sym}
 use native.Mathlib.Omega.{arith}
 use borrow.Author.Needs.{needs}
 use denote.Ref.{now}
-use lib.ListN.{getD}
 use Rattle.address.proofs.Characters.{semi-low, semi-high}
 use Rattle.address.proofs.semi_octet.Statement.{statement}
 use Rattle.address.proofs.semi_octet.Tie as tie

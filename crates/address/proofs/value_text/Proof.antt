@@ -1,7 +1,7 @@
 -- `address::value_text` meets its contract: septets or digits, by the type of number.
 -- Assumes nothing.
-use Prim.Native.Nat.{ℕ, _+_, _*_, _/_, _≤_, _<_}
-use mathlib.Core.Path.{_≡_, refl, sym, ap, _∙_}
+use Prim.Native.Nat.{ℕ, _+_, _*_, _/_, _≤_}
+use mathlib.Core.Path.{_≡_, sym, ap, _∙_}
 use mathlib.Core.List.{List, map}
 use native.Mathlib.Omega.{arith}
 use borrow.Author.Needs.{needs}
@@ -9,7 +9,6 @@ use borrow.Author.Tests.{eq-eqb, ne-eqb}
 use denote.Ref.{now}
 use lib.ListN.{length, take}
 use lib.Seq.{length-take-le}
-use Rattle.octets.specs.Arrays.{pad}
 use Rattle.octets.specs.SemiOctets.{semiOctets}
 use Rattle.octets.proofs.Laws.{take-pad}
 use Rattle.septets.specs.Septets.{septetsIn}

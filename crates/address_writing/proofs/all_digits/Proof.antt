@@ -1,10 +1,8 @@
 -- `address_writing::all_digits` meets its contract: the characters that are left decide.
 -- Assumes nothing.
-use Prim.Native.Nat.{ℕ, _-_, _≤_, _<_}
+use Prim.Native.Nat.{_-_, _≤_, _<_}
 use mathlib.Core.Path.{_≡_, refl, sym, _∙_}
-use mathlib.Core.Bool.{true, false}
 use native.Mathlib.Omega.{arith}
-use borrow.Author.Needs.{needs}
 use borrow.Author.Tests.{lt-ltb, le-ltb}
 use denote.Ref.{now}
 use lib.ListN.{length, getD, drop}
@@ -44,7 +42,7 @@ all-digits-spec =
     Inv-loop
     μ-loop
     (λ c. (omega arith, refl))
-    (λ c. search needs)
+    (λ c. c .before .loop-test .taken)
     (λ c κs. tt)
     returns
     (λ c. omega arith)

@@ -1,8 +1,6 @@
 -- `address_writing::check_address` meets its contract: each answer is a case of the definition.
 -- Assumes nothing.
-use mathlib.Core.Path.{_≡_, sym, ap, _∙_}
-use native.Mathlib.Omega.{arith}
-use borrow.Author.Needs.{needs}
+use mathlib.Core.Path.{sym, ap, _∙_}
 use borrow.Author.Tests.{not-true, not-false}
 use Rattle.address_writing.specs.Parts.{checkOf}
 use Rattle.address_writing.proofs.Checks.{wrong-type, wrong-plan, text-making, digits-none, digits-long, digits-fine}

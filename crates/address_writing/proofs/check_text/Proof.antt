@@ -1,9 +1,8 @@
 -- `address_writing::check_text` meets its contract: eleven septets take ten octets, twelve take eleven.
 -- Assumes nothing.
-use Prim.Native.Nat.{ℕ, _+_, _*_, _/_, _≤_, _<_}
-use mathlib.Core.Path.{_≡_, sym}
+use Prim.Native.Nat.{ℕ}
+use mathlib.Core.Path.{_≡_, refl, sym}
 use native.Mathlib.Omega.{arith}
-use borrow.Author.Needs.{needs}
 use mathlib.Core.List.{List}
 use mathlib.Core.Option.{some}
 use denote.Ref.{now}
@@ -39,9 +38,9 @@ pub check-text-spec : {M : Type 1} → statement M
 check-text-spec =
     tie.close
     (tie.spec
-    (λ c κs. search needs)
-    (λ c. search needs)
-    (λ c. search needs)
+    (λ c κs. refl)
+    (λ c. c .match .keys1)
+    (λ c. c .match .keys2)
     returns
     returns-2
     (λ c. omega arith)

@@ -2,10 +2,9 @@
 -- Assumes nothing.
 use mathlib.Core.Path.{_≡_, sym, _∙_}
 use native.Mathlib.Omega.{arith}
-use borrow.Author.Needs.{needs}
 use denote.Ref.{now}
 use Rattle.octets.specs.declared.Written.{Written}
-use Rattle.octets.proofs.Laws.{lent-refused, lent-short, lent-written}
+use Rattle.octets.proofs.Laws.{kept-by, lent-refused, lent-short, lent-written}
 use Rattle.address_writing.specs.declared.AddressCheck.{AddressCheck}
 use Rattle.address_writing.specs.Writing.{addressMaking}
 use Rattle.address_writing.specs.Parts.{checkOf}
@@ -40,12 +39,12 @@ encode-parts-spec =
     tie.close
     (tie.spec
     (λ c κs. tt)
-    (λ c. search needs)
-    (λ c. search needs)
+    (λ c. c .match .keys1)
+    (λ c. c .match .keys2)
     (λ c. omega (arith, fine-small _ _ _ _ (passed c)))
     (λ c. omega (arith, fine-small _ _ _ _ (passed c)))
     too-short
     (λ c κs. (passed (c .before .before), omega arith))
     (λ c. lent-refused Written.Refused _ _ (refused-made (sym (c .before .before .before .check-address .ensures) ∙ c .before .r .given .1)))
-    (λ c. search needs)
+    (λ c. kept-by (c .before .before .put-address .ensures))
     written)

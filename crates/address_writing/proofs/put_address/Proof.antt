@@ -1,16 +1,13 @@
 -- `address_writing::put_address` meets its contract: L and type octet, and behind them septets or digits.
 -- Assumes nothing.
-use Prim.Native.Nat.{ℕ, _+_, _*_, _/_, _≤_, _<_}
-use mathlib.Core.Path.{_≡_, refl, sym, ap, _∙_}
-use mathlib.Core.List.{List, [], _∷_, map}
+use Prim.Native.Nat.{ℕ, _≤_}
+use mathlib.Core.Path.{_≡_, _∙_}
+use mathlib.Core.List.{List, []}
 use mathlib.Core.Option.{Option, some}
 use native.Mathlib.Omega.{arith}
-use borrow.Author.Needs.{needs}
-use denote.Ref.{now}
-use lib.ListN.{length, set, length-set}
+use lib.ListN.{length, length-set}
 use Rattle.octets.specs.Lent.{Wrote}
 use Rattle.octets.proofs.Laws.{kept-by}
-use Rattle.scanning.specs.Writing.{septetsOf}
 use Rattle.address_writing.specs.Writing.{octetsOr}
 use Rattle.address_writing.specs.Parts.{Spells}
 use Rattle.address_writing.proofs.Checks.{fine-range, fine-text, fine-digits, fine-small, septets-are, wrote-field}
@@ -51,17 +48,17 @@ put-address-spec =
     tie.close
     (tie.spec
     (λ c. let p = c .before .before .pre .0 in omega (arith, fine-small _ _ _ _ p))
-    (λ c. search needs)
+    (λ c. omega arith)
     (λ c. let p = c .before .before .pre .0 in omega (arith, fine-range _ _ _ _ p))
     (λ c. let p = c .before .before .pre .0 in omega (arith, fine-range _ _ _ _ p))
     (λ c. let p = c .before .before .pre .0 in omega (arith, fine-range _ _ _ _ p))
-    (λ c. search needs)
+    (λ c. omega arith)
     (λ c. simp length-set (omega arith))
-    (λ c. search needs)
+    (λ c. omega arith)
     put-text-requires
     (λ c. kept-by (c .before .before .put-text .ensures) ∙ simp length-set)
     in-septets
-    (λ c. search needs)
+    (λ c. omega arith)
     put-digits-requires
     (λ c. kept-by (c .before .before .put-digits .ensures) ∙ simp length-set)
     in-digits)

@@ -1,15 +1,15 @@
 -- `address_writing::put_text` meets its contract: the text has septets, and they are packed.
 -- Assumes nothing.
-use Prim.Native.Nat.{ℕ, _+_, _≤_, _<_}
+use Prim.Native.Nat.{ℕ, _≤_}
 use mathlib.Core.Path.{_≡_, refl, sym, ap, subst, _∙_}
 use mathlib.Core.List.{List}
 use mathlib.Core.Option.{Option, none, some}
 use native.Mathlib.Omega.{arith}
-use borrow.Author.Needs.{needs}
 use denote.Ref.{now}
 use lib.ListN.{length, take, replicate}
 use lib.Seq.{sets, length-sets, length-take-le}
-use Rattle.septets.specs.Septets.{Digits, octetCount}
+use Rattle.octets.proofs.Laws.{kept-by}
+use Rattle.septets.specs.Septets.{Digits}
 use Rattle.scanning.specs.Writing.{septetsOf}
 use Rattle.scanning.proofs.Adequate.{septets-digits}
 use Rattle.scanning.proofs.Scanning.{scanned-some, scanned-not, codes-are}
@@ -63,12 +63,12 @@ pub put-text-spec : {M : Type 1} → statement M
 put-text-spec =
     tie.close
     (tie.spec
-    (λ c κs. search needs)
-    (λ c. search needs)
-    (λ c. search needs)
+    (λ c κs. refl)
+    (λ c. c .match .keys1)
+    (λ c. c .match .keys2)
     returns
     (λ c. let s = scanned c in let f = few _ (s .0) (s .1) (c .before .before .before .before .before .before .before .pre .0) in omega (arith, s .2, codes-long c))
     (λ c. let s = scanned (c .before) in let f = few _ (s .0) (s .1) (c .before .before .before .before .before .before .before .before .pre .0) in sym (length-take-le (c .before .before .count .given .0 .0) (c .before .before .before .before .scan-text .last .1 .0) (omega (arith, s .2, codes-long (c .before)))))
     pack-octets-requires
-    (λ c. search needs)
+    (λ c. kept-by (c .before .before .pack-octets .ensures))
     (λ c. let k = c .before .before .before .before .before in let s = scanned k in rw (septets-are _ (s .0) (s .1), ← codes-septets k) (c .before .before .pack-octets .ensures)))

@@ -1,10 +1,8 @@
 -- `address_writing::semi_octet_from_character` meets its contract: each arm is a case of the ranges.
 -- Assumes nothing.
-use Prim.Native.Nat.{ℕ, _≤_, _<_}
-use mathlib.Core.Path.{_≡_, sym}
+use mathlib.Core.Path.{sym}
 use native.Mathlib.Omega.{arith}
-use borrow.Author.Needs.{needs}
-use borrow.Author.Tests.{le-leb, lt-leb, eq-eqb, ne-eqb}
+use borrow.Author.Tests.{le-leb, lt-leb, ne-eqb}
 use Rattle.address_writing.proofs.Characters.{value-by-range}
 use Rattle.address_writing.proofs.semi_octet_from_character.Statement.{statement}
 use Rattle.address_writing.proofs.semi_octet_from_character.Tie as tie
@@ -41,4 +39,4 @@ behind-letters c =
     rw (value-by-range d (omega arith), le-leb 48 d (omega arith), lt-leb d 57 (omega arith), le-leb 97 d (omega arith), lt-leb d 99 (omega arith), ne-eqb d 42 (c .before .before .before .before .match .rest .0 .1), ne-eqb d 35 (c .before .before .before .before .match .rest .1))
 
 pub semi-octet-from-character-spec : {M : Type 1} → statement M
-semi-octet-from-character-spec = tie.close (tie.spec (λ c. search needs) star hash number letter before-numbers before-letters behind-letters)
+semi-octet-from-character-spec = tie.close (tie.spec (λ c. omega arith) star hash number letter before-numbers before-letters behind-letters)

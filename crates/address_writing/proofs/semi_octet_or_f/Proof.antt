@@ -1,10 +1,9 @@
 -- `address_writing::semi_octet_or_f` meets its contract.
 -- Assumes nothing.
 use Prim.Native.Nat.{_≤_}
-use mathlib.Core.Path.{_≡_, sym, _∙_}
+use mathlib.Core.Path.{sym, _∙_}
 use mathlib.Core.List.{map}
 use native.Mathlib.Omega.{arith}
-use borrow.Author.Needs.{needs}
 use denote.Ref.{now}
 use lib.ListN.{length, getD, length-map, List·getD-eq-default}
 use Rattle.address_writing.specs.Writing.{digitValue}
@@ -28,7 +27,7 @@ pub semi-octet-or-f-spec : {M : Type 1} → statement M
 semi-octet-or-f-spec =
     tie.close
     (tie.spec
-    (λ c. search needs)
+    (λ c. c .before .if1 .taken)
     (λ c κs. tt)
     inside
     outside)
