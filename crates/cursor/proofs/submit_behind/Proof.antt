@@ -41,12 +41,12 @@ use Rattle.submit.specs.Submit.{submit, answer}
 use Rattle.submit.specs.declared.SubmitRead.{SubmitRead}
 use Rattle.submit.proofs.SubmitRead as S
 use Rattle.submit.proofs.SubmitRead.Laws as S′
-use Rattle.cursor.specs.Cursor.{behindPlace, submitFrom}
+use Rattle.reading_on.specs.From.{behindPlace, submitFrom}
+use Rattle.reading_on.proofs.Places.{from-there}
 use Rattle.cursor.specs.declared.Cursor.{Cursor}
 use Rattle.cursor.proofs.Cursor as T
 use Rattle.cursor.proofs.Cursor.Laws as T′
 use Rattle.cursor.proofs.Held.{B, said, meets-by}
-use Rattle.cursor.proofs.Places.{from-there}
 use Rattle.cursor.proofs.Cursor.new as new
 use Rattle.cursor.proofs.Cursor.new.Symbol as new-def
 use Rattle.cursor.proofs.Cursor.new.Met as new-thm

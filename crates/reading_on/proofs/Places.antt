@@ -10,7 +10,7 @@ use lib.Dec.{leb}
 use lib.ListN.{length, drop, drop-of-length-le}
 use Rattle.octets.proofs.Choice.{chosen}
 use Rattle.layout.specs.Layout.{Layout, read}
-use Rattle.cursor.specs.Cursor.{from, behindPlace}
+use Rattle.reading_on.specs.From.{from, behindPlace}
 
 module _ (s : List ℕ) (place : ℕ) where
   pub place-inside : (count : ℕ) → place + count ≤ length s → place + count ≡ behindPlace s place count

@@ -1,10 +1,10 @@
--- `cursor::place_behind` meets its contract: the tests decide the definition's.
+-- `reading_on::place_behind` meets its contract: the tests decide the definition's.
 -- Assumes nothing.
 use native.Mathlib.Omega.{arith}
 use borrow.Author.Needs.{needs}
-use Rattle.cursor.proofs.Places.{place-inside, place-past}
-use Rattle.cursor.proofs.place_behind.Statement.{statement}
-use Rattle.cursor.proofs.place_behind.Tie as tie
+use Rattle.reading_on.proofs.Places.{place-inside, place-past}
+use Rattle.reading_on.proofs.place_behind.Statement.{statement}
+use Rattle.reading_on.proofs.place_behind.Tie as tie
 
 pub place-behind-spec : {M : Type 1} → statement M
 place-behind-spec =

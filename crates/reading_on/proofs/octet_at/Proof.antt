@@ -1,10 +1,10 @@
--- `cursor::octet_at` meets its contract.
+-- `reading_on::octet_at` meets its contract.
 -- Assumes nothing.
 use borrow.Author.Needs.{needs}
 use borrow.Author.Tests.{lt-ltb, le-ltb}
-use Rattle.cursor.specs.Cursor.{octetFrom}
-use Rattle.cursor.proofs.octet_at.Statement.{statement}
-use Rattle.cursor.proofs.octet_at.Tie as tie
+use Rattle.reading_on.specs.From.{octetFrom}
+use Rattle.reading_on.proofs.octet_at.Statement.{statement}
+use Rattle.reading_on.proofs.octet_at.Tie as tie
 
 none : tie.Need-returns
 unfolding octetFrom

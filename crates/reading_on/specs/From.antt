@@ -1,4 +1,4 @@
--- What reading through a cursor finds: a string of octets from a place on.
+-- What is read of a string of octets from a place on.
 use Prim.Native.Nat.{ℕ, _+_}
 use mathlib.Core.Path.{_≡_, refl}
 use mathlib.Core.List.{List, [], _∷_}
@@ -7,7 +7,7 @@ use lib.ListN.{length, getD, drop}
 use Rattle.octets.specs.Choice.{if_then_else_}
 use Rattle.octets.specs.declared.Refusal.the-variants.{OctetsEnd}
 use Rattle.layout.specs.Layout.{Layout, Reached, read}
-use Rattle.cursor.specs.declared.OctetRead.{OctetRead}
+use Rattle.reading_on.specs.declared.OctetRead.{OctetRead}
 use Rattle.submit.specs.Submit as Submit
 use Rattle.submit.specs.declared.SubmitRead.{SubmitRead}
 use Rattle.deliver.specs.Deliver as Deliver

@@ -1,12 +1,12 @@
--- `cursor::rest` meets its contract: behind that many octets of the start, or at the end, the same octets are left.
+-- `reading_on::rest` meets its contract: behind that many octets of the start, or at the end, the same octets are left.
 -- Assumes nothing.
 use mathlib.Core.Path.{_∙_}
 use borrow.Author.Needs.{needs}
 use borrow.Rule.Slice.PartAt.{part-to-end}
 use denote.Ref.{now}
-use Rattle.cursor.proofs.Places.{within, left}
-use Rattle.cursor.proofs.rest.Statement.{statement}
-use Rattle.cursor.proofs.rest.Tie as tie
+use Rattle.reading_on.proofs.Places.{within, left}
+use Rattle.reading_on.proofs.rest.Statement.{statement}
+use Rattle.reading_on.proofs.rest.Tie as tie
 
 pub rest-spec : {M : Type 1} → statement M
 rest-spec =

@@ -11,7 +11,7 @@ use Rattle.layout.proofs.Fields.{own, cut-whole}
 use Rattle.layout.proofs.Laws.{goes-on, Taking, taken}
 use Rattle.submit.specs.Submit.{line, behindFirst, behindCoding, submit, answer}
 use Rattle.submit.specs.declared.SmsSubmit.{SmsSubmit}
-use Rattle.cursor.specs.Cursor.{submitFrom}
+use Rattle.reading_on.specs.From.{submitFrom}
 
 -- a line that never asks whether the string has ended
 abbrev Endless : {R : Type 0} → Format R → Type 0
