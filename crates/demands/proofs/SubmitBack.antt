@@ -29,7 +29,8 @@ use Rattle.validity.specs.declared.ValidityPeriod.{ValidityPeriod}
 use Rattle.submit.specs.Parts.{parts}
 use Rattle.demands.proofs.SubmitWritten.{written-read}
 use Rattle.submit_writing.proofs.Writing.{all-passed}
-use Rattle.submit.specs.Submit.{formatIn, headerSize, inCount, submitted, submit, addressLength, digitsLength, lengthsFit, submitting}
+use Rattle.submit_reading.specs.Line.{fieldsWith, formatIn, headerSize, inCount}
+use Rattle.submit.specs.Submit.{submitted, submit, addressLength, digitsLength, lengthsFit, submitting}
 use Rattle.octets.specs.Choice.{lengthIf}
 use Rattle.validity.specs.Validity.{formatOf, periodIn, periodOctets, isAbsolute, timeHolds, periodSize}
 use Rattle.validity.proofs.Period.{digitsBeside, enhancedBeside, period-size}
@@ -112,7 +113,7 @@ format-small ValidityPeriod.Enhanced = omega arith
 same-parts : (r : SmsSubmit) (f : ℕ) → Tells (r .«tp_rp») (r .«tp_udhi») (r .«tp_srr») (r .«tp_rd») (r .«tp_vpf») f → r .«tp_mti» ≡ 1 → formatIn f ≡ formatOf (r .«tp_validity_period»)
     → (da : List ℕ) → addressIn da ≡ addressWith (r .«tp_destination_address» .ton) (r .«tp_destination_address» .npi) (take (addressLength r) (r .«tp_destination_address» .address))
     → r .«has_destination_address» ≡ true → (let digits = take (digitsLength r) (r .«validity_period_digits» .digits) in timeHolds (r .«tp_validity_period») digits ≡ true → length (r .«validity_period_octets») ≡ 7 → (h : ℕ)
-    → SameParts (submitted f (r .«tp_mr») da (r .«tp_pid») (r .«tp_dcs») (periodOctets (r .«tp_validity_period») digits (r .«validity_period_octets»)) (r .«tp_user_data_length») (dataOf (r .«tp_user_data_raw»)) h) r)
+    → SameParts (submitted (fieldsWith f (r .«tp_mr») da (r .«tp_pid») (r .«tp_dcs») (periodOctets (r .«tp_validity_period») digits (r .«validity_period_octets»)) (r .«tp_user_data_length») (dataOf (r .«tp_user_data_raw»)) h)) r)
 unfolding submitted addressWith
 same-parts r f t mti format da back there time seven h =
     let beside = beside-back (r .«tp_validity_period») (r .«validity_period_digits» .length) (r .«validity_period_digits» .digits) (r .«validity_period_octets») time seven in
@@ -155,7 +156,7 @@ read-back r seven xs w e =
     let t = first-tells (r .«tp_rp») (r .«tp_udhi») (r .«tp_srr») (r .«tp_rd») (r .«tp_vpf») (rw (p .format-is) (format-small period)) in
     let format : formatIn f ≡ formatOf period = t .vpf-is ∙ p .format-is in
     let size : periodSize (formatIn f) ≡ length vp = rw format (sym (period-size period digits (r .«validity_period_octets») (p .time) seven)) in (
-      submitted f (r .«tp_mr») da (r .«tp_pid») (r .«tp_dcs») vp (r .«tp_user_data_length») d (headerSize (r .«tp_udhi») d),
+      submitted (fieldsWith f (r .«tp_mr») da (r .«tp_pid») (r .«tp_dcs») vp (r .«tp_user_data_length») d (headerSize (r .«tp_udhi») d)),
       same-parts r f t (p .mti-is) format da (spelled .back) (p .there-is) (p .time) seven _,
       rw (← p .octets-are) (rw (t .udhi-is) at (written-read f (t .small) (t .mti-is) (r .«tp_mr») da (spelled .whole) (spelled .again) (r .«tp_pid») (r .«tp_dcs») vp size (r .«tp_user_data_length») d (sym (p .size-is)))),
     )

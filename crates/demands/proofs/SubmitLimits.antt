@@ -19,15 +19,16 @@ use Rattle.address_writing.proofs.Checks.{checks-passed}
 use Rattle.layout.specs.Layout.{isSet, kept, Field, reached, read, readFrom}
 use Rattle.layout.proofs.Laws.{within-read}
 use Rattle.layout.proofs.Makes.{Makes, makes}
+use Rattle.submit_reading.specs.Line.{headerSize, bits, behindCoding, behindFirst, line as fields}
 use Rattle.submit.specs.declared.SmsSubmit.{SmsSubmit}
-use Rattle.submit.specs.Submit.{addressLength, digitsLength, lengthsFit, submitting, headerSize, textWith, submitted, bits, behindCoding, behindFirst, line, submit}
+use Rattle.submit.specs.Submit.{addressLength, digitsLength, lengthsFit, submitting, textWith, submitted, line, submit}
 use Rattle.validity.specs.Validity.{formatOf, periodSize}
 use Rattle.validity.proofs.Period.{period-size}
 use Rattle.submit_writing.proofs.Writing.{all-passed}
 use Rattle.submit.proofs.Text.{readable-short}
 
 short : Makes (λ (r : SmsSubmit) (cs : List Field). r .«tp_user_data» .length ≤ 510) line
-unfolding line behindFirst behindCoding submitted textWith
+unfolding line fields behindFirst behindCoding submitted textWith
 short x lx m mr lmr a wa pid lpid dcs ldcs vp ovp nvp udl ludl ud oud nud fits counted =
     readable-short (codingOf dcs) udl (headerSize (isSet 6 (kept bits x)) ud) ud (omega arith) (leb-true _ _ fits) counted (sym nud)
 

@@ -9,7 +9,8 @@ use lib.Seq.{length-take-le, take-length, take-at, drop-at}
 use Rattle.layout.specs.Layout.{Kind, size, cut, behind, canon, Format, field, require, endOr, done, Reached, reached, after, reading, readFrom, read}
 use Rattle.layout.proofs.Fields.{own, cut-whole}
 use Rattle.layout.proofs.Laws.{goes-on, Taking, taken}
-use Rattle.submit.specs.Submit.{line, behindFirst, behindCoding, submit, answer}
+use Rattle.submit_reading.specs.Line.{behindFirst, behindCoding, line as fields}
+use Rattle.submit.specs.Submit.{line, submit, answer}
 use Rattle.submit.specs.declared.SmsSubmit.{SmsSubmit}
 use Rattle.reading_on.specs.From.{submitFrom}
 
@@ -62,7 +63,7 @@ module _ {R : Type 0} {r : R} {n : ℕ} where
   }
 
 submit-endless : Endless line
-unfolding line behindFirst behindCoding
+unfolding line fields behindFirst behindCoding
 submit-endless f mr da pid dcs vp udl ud = tt
 
 -- s is a whole SUBMIT that lies behind anything and before anything: from its place on it is read as alone, with the number of its octets, which leads to the place behind it

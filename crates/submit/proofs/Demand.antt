@@ -26,18 +26,19 @@ use Rattle.address_writing.specs.Writing.{addressOctets, octetsOr, addressCheck
 use Rattle.address.specs.Address.{typeOfNumber, planOf, textIn, addressIn, addressWith, canonicalAddress}
 use Rattle.address.proofs.Laws.{Field as AddressField, canonical-reads, canonical-field, text-short, address-equal, read-checked}
 use Rattle.layout.specs.Demand.{Demand3}
-use Rattle.layout.specs.Layout.{octets, isSet, messageType, kept, reached, read, canonicalOf, unwritable}
+use Rattle.layout.specs.Layout.{octets, done, isSet, messageType, kept, reached, read, canonicalOf, unwritable}
 use Rattle.layout.proofs.Demand.{Answers, Writes, demand3, answers-plain, answers-two}
 use Rattle.layout.proofs.Rewriting.{Told}
-use Rattle.layout.proofs.Makes.{Makes}
+use Rattle.layout.proofs.Makes.{Makes, makes-then}
 use Rattle.submit.specs.declared.SmsSubmit.{SmsSubmit}
-use Rattle.submit.specs.Submit.{formatIn, headerSize, inCount, textWith, submitted, bits, behindCoding, behindFirst, line, submit, answer, unread, flagsOf, lengthsFit, submitting}
+use Rattle.submit_reading.specs.Line.{fieldsWith, formatIn, headerSize, inCount, bits, behindCoding, behindFirst, line as fields}
+use Rattle.submit_reading.proofs.Reading.{kept-whole}
+use Rattle.submit.specs.Submit.{textWith, submitted, line, submit, answer, unread, flagsOf, lengthsFit, submitting}
 use Rattle.submit_writing.specs.Writing.{making}
 use Rattle.octets.specs.Choice.{lengthIf}
 use Rattle.validity.specs.Validity.{periodIn, ofFormat, periodOctets, timeHolds}
 use Rattle.submit.specs.Parts.{Destination, Parts, parts}
 use Rattle.validity.proofs.Period.{digitsCount, digitsBeside, Held, period-held}
-use Rattle.submit.proofs.Reading.{kept-whole}
 use Rattle.submit.proofs.Text.{readable-short}
 use Rattle.submit.proofs.Writing.{by-parts}
 
@@ -65,7 +66,7 @@ canonical-twice f w = address-equal (canonicalAddress f) f (canonical-field f w)
 module _ (f : ℕ) (small : f < 256) (mti : messageType f ≡ 1) (mr : ℕ) (da : List ℕ) (whole : AddressField da) (own : canonicalAddress da ≡ da) (pid dcs : ℕ) (vp : List ℕ) (held : Held (formatIn f) vp)
     (udl : ℕ) (few : udl < 256) (ud : List ℕ) (size : dataOctets (codingOf dcs) udl ≡ length ud) (h : ℕ) (fits : h ≤ length ud) (counted : inCount (codingOf dcs) udl h ≡ true) where
   abbrev sent : SmsSubmit
-  sent = submitted f mr da pid dcs vp udl ud h
+  sent = submitted (fieldsWith f mr da pid dcs vp udl ud h)
 
   abbrev string : List ℕ
   string = f ∷ mr ∷ (da ++ (pid ∷ dcs ∷ (vp ++ (udl ∷ ud))))
@@ -124,9 +125,9 @@ module _ (f : ℕ) (small : f < 256) (mti : messageType f ≡ 1) (mr : ℕ) (da 
   answers : Answers (submitting sent) string (ltb 12 (length da) || (ltb 140 (length ud) || false))
   answers = rw its-making (answers-two (ltb 12 (length da)) (ltb 140 (length ud)) AddressTooLong UserDataTooLong string string refl)
 
-submit-writes : Makes (Writes parts submitting octetsOf) line
-unfolding line behindFirst behindCoding
-submit-writes x lx m mr lmr a wa pid lpid dcs ldcs vp ovp nvp udl ludl ud oud nud fits counted =
+fields-make : Makes (λ x cs. Writes parts submitting octetsOf (submitted x) cs) fields
+unfolding fields behindFirst behindCoding
+fields-make x lx m mr lmr a wa pid lpid dcs ldcs vp ovp nvp udl ludl ud oud nud fits counted =
     let f = kept bits x in
     let small : f < 256 = omega (arith, kept-whole x lx) in
     let mti : messageType f ≡ 1 = eqb-true _ _ m in
@@ -135,6 +136,10 @@ submit-writes x lx m mr lmr a wa pid lpid dcs ldcs vp ovp nvp udl ludl ud oud nu
       octets = rw append-nil (part-octets f small mti mr (canonicalAddress a) (canonical-field a wa) (canonical-twice a wa) pid dcs vp held udl ludl ud nud (headerSize (isSet 6 f) ud) (leb-true _ _ fits) counted);
       answer = rw append-nil (answers f small mti mr (canonicalAddress a) (canonical-field a wa) (canonical-twice a wa) pid dcs vp held udl ludl ud nud (headerSize (isSet 6 f) ud) (leb-true _ _ fits) counted);
     }
+
+submit-writes : Makes (Writes parts submitting octetsOf) line
+unfolding line
+submit-writes = makes-then (λ x cs. Writes parts submitting octetsOf (submitted x) cs) (Writes parts submitting octetsOf) fields (λ x. done (submitted x)) fields-make λ x cs w. rw append-nil w
 
 pub submit-demand3 : Demand3 parts submit submitting false
 submit-demand3 = demand3 parts submitting octetsOf line submit-writes

@@ -1,5 +1,4 @@
 pub mod Text
-pub mod Parts
 pub mod Reading
 pub mod Writing
 pub mod Demand

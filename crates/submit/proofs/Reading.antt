@@ -1,130 +1,97 @@
--- What the line comes to, field by field.
+-- The answer by the fields that were found, and the record of fields that are there.
 -- Assumes nothing.
-use Prim.Native.Nat.{ℕ, _+_, _≤_, _<_}
-use mathlib.Core.Path.{_≡_, refl, _∙_}
-use mathlib.Core.Bool.{true, false}
+use Prim.Native.Nat.{ℕ, _+_, _-_, _/_, _%_, _≤_}
+use mathlib.Core.Path.{_≡_, sym}
+use mathlib.Core.Bool.{true}
 use mathlib.Core.List.{List}
 use native.Mathlib.Omega.{arith}
-use borrow.Author.Tests.{eqb-true, le-leb, lt-leb}
-use lib.Dec.{eqb, leb}
+use lib.Dec.{eqb}
 use lib.ListN.{length, take, drop}
-use lib.Seq.{length-take-le}
+use Rattle.octets.specs.Arrays.{pad}
 use Rattle.octets.specs.Each.{Octets}
-use Rattle.octets.specs.Places.{octetAt, spanAt}
-use Rattle.octets.specs.declared.Octet.{Octet}
 use Rattle.octets.specs.declared.Outcome.{Outcome}
-use Rattle.octets.specs.declared.Place.{Place}
 use Rattle.octets.specs.declared.Refusal.{Refusal}
-use Rattle.octets.specs.declared.Refusal.the-variants.{OctetsEnd, WrongMessageType, HeaderNotWhole, HeaderPassesCount}
-use Rattle.octets.specs.declared.Span.{Span}
-use Rattle.octets.proofs.Places.{octet-read, span-there, start}
-use Rattle.octets.proofs.Table.{below}
-use Rattle.coding.specs.Coding.{codingOf, dataOctets}
-use Rattle.address.specs.Address.{addressSize, canonicalAddress}
-use Rattle.address.specs.Parts.{fieldAt}
-use Rattle.layout.specs.Layout.{any, upTo, address, userData, isSet, field, require, done, cut, kept, messageType, Reached, reached, halted, read, readFrom}
-use Rattle.layout.proofs.Steps.{message-goes-on, message-differs, message-ends, octet-goes-on, octet-ends, span-goes-on, span-ends, address-goes-on, address-ends, require-holds, require-fails, done-reached, address-inside}
+use Rattle.octets.proofs.Laws.{part-is, part-size}
+use Rattle.coding.specs.Coding.{codingOf, dataWith}
+use Rattle.coding.specs.declared.UserData.{UserData}
+use Rattle.time.specs.Time.{timeIn}
+use Rattle.time.specs.declared.Time.{Time}
+use Rattle.address.specs.Address.{addressIn, addressSize}
+use Rattle.address.specs.declared.SMSAddress.{SMSAddress}
+use Rattle.layout.specs.Layout.{done, read, readFrom}
+use Rattle.layout.proofs.Fields.{address-there}
+use Rattle.layout.proofs.Steps.{done-reached, then-goes-on, then-ends}
+use Rattle.validity.specs.Validity.{periodIn, ofFormat}
+use Rattle.validity.specs.declared.ValidityPeriod.{ValidityPeriod}
+use Rattle.submit_reading.specs.Line.{formatIn, line as fields, fieldsAt, told, Inside}
+use Rattle.submit_reading.specs.declared.SubmitFields.{SubmitFields}
+use Rattle.submit_reading.specs.declared.SubmitFound.{SubmitFound}
 use Rattle.submit.specs.declared.SmsSubmit.{SmsSubmit}
 use Rattle.submit.specs.declared.SubmitRead.{SubmitRead}
-use Rattle.submit.specs.Submit.{formatIn, headerSize, inCount, submitted, behindCoding, bits, behindFirst, line, submit, answer, unread}
-use Rattle.validity.specs.Validity.{periodSize}
+use Rattle.submit.specs.declared.SubmitText.{SubmitText}
+use Rattle.submit.specs.Submit.{readable, textWith, submitted, line, submit, answer, unread}
 
 -- ---- the answer
 
-pub answer-ends : {x : Reached SmsSubmit} {why : Refusal} → x ≡ halted why → unread why ≡ answer x
-unfolding answer
-answer-ends e = rw e
+-- what fields that were found, or a refusal, come to
+pub answer-refused : (s : List ℕ) (why : Refusal) → told s (SubmitFound.Refused why) ≡ readFrom fields s 0 → unread why ≡ answer (read submit s)
+unfolding answer read line
+answer-refused s why e = rw (then-ends s fields 0 (sym e) (λ x. done (submitted x)))
 
-pub answer-done : {x : Reached SmsSubmit} {r q : SmsSubmit} {n : ℕ} → x ≡ reached r n → q ≡ r → _≡_ {A = SubmitRead} (record { outcome = Outcome.Done; message = q; «octets_read» = n }) (answer x)
-unfolding answer
-answer-done e p = rw (e, p)
+pub answer-done : (s : List ℕ) (f : SubmitFields) (r : SmsSubmit) → told s (SubmitFound.Whole f) ≡ readFrom fields s 0 → r ≡ submitted (fieldsAt s f)
+    → _≡_ {A = SubmitRead} (record { outcome = Outcome.Done; message = r; «octets_read» = f .«data» + f .octets }) (answer (read submit s))
+unfolding answer read line
+answer-done s f r e is = rw (then-goes-on s fields 0 (sym e) (λ x. done (submitted x)), done-reached, is)
 
--- ---- the fields behind TP-DCS
+-- ---- the record
 
-module _ (s : List ℕ) (f mr : ℕ) (da : List ℕ) (pid dcs : ℕ) (p : Place) (size : ℕ) (size-is : size ≡ periodSize (formatIn f)) where
-  abbrev rest : Reached SmsSubmit
-  rest = readFrom (behindCoding f mr da pid dcs) s (p .at)
+-- a part of a string, as the code cuts it out
+abbrev part : ℕ → ℕ → List ℕ → List ℕ
+part a n s = take (a + n - a) (drop a s)
 
-  pub no-period : spanAt s p size ≡ Span.Ended → rest ≡ halted OctetsEnd
-  unfolding behindCoding
-  no-period e = rw (← size-is) (span-ends s p size e any _)
+-- the user data are as long as they were found to be, so they and their header have room in the record
+pub data-room : (s : List ℕ) (f : SubmitFields) → Inside s (SubmitFound.Whole f) → (let ud = part (f .«data») (f .octets) s in (length ud ≡ f .octets) × (length ud ≤ 255) × (f .header ≤ length ud))
+data-room s f inside =
+    let size : length (part (f .«data») (f .octets) s) ≡ f .octets = rw (part-is (f .«data») (f .octets) s) (part-size (f .«data») (f .octets) s (inside .3)) in
+    (size, omega (arith, size, inside .4), omega (arith, size, inside .6))
 
-  module _ {vp : ℕ} {p₂ : Place} (e₁ : spanAt s p size ≡ Span.There vp p₂) where
-    pub no-udl : octetAt s p₂ ≡ Octet.Ended → rest ≡ halted OctetsEnd
-    unfolding behindCoding
-    no-udl e = rw (← size-is) (span-goes-on s p size e₁ any _ ∙ octet-ends s p₂ e _)
-
-    module _ {udl : ℕ} {p₃ : Place} (e₂ : octetAt s p₂ ≡ Octet.Read udl p₃) (n : ℕ) (n-is : n ≡ dataOctets (codingOf dcs) udl) where
-      abbrev period : List ℕ
-      period = take (periodSize (formatIn f)) (drop (p .at) s)
-
-      two : rest ≡ readFrom (field (userData n) λ ud. let h = headerSize (isSet 6 f) ud in
-          require HeaderNotWhole (leb h (length ud)) (require HeaderPassesCount (inCount (codingOf dcs) udl h) (done (submitted f mr da pid dcs period udl ud h)))) s (p₃ .at)
-      unfolding behindCoding
-      two = rw (← size-is, n-is) (span-goes-on s p size e₁ any _ ∙ octet-goes-on s p₂ e₂ _)
-
-      pub no-data : spanAt s p₃ n ≡ Span.Ended → rest ≡ halted OctetsEnd
-      no-data e = two ∙ span-ends s p₃ n e (upTo 140) _
-
-      module _ {ud : ℕ} {p₄ : Place} (e₃ : spanAt s p₃ n ≡ Span.There ud p₄) (h : ℕ) (h-is : h ≡ headerSize (isSet 6 f) (take n (drop (p₃ .at) s))) where
-        three : rest ≡ readFrom (require HeaderNotWhole (leb h n) (require HeaderPassesCount (inCount (codingOf dcs) udl h) (done (submitted f mr da pid dcs period udl (take n (drop (p₃ .at) s)) h)))) s (p₄ .at)
-        three = two ∙ span-goes-on s p₃ n e₃ (upTo 140) _ ∙ rw (← h-is, length-take-le n (drop (p₃ .at) s) (span-there s p₃ n e₃ .0))
-
-        pub not-whole : n < h → rest ≡ halted HeaderNotWhole
-        not-whole l = three ∙ require-fails s (p₄ .at) (lt-leb h n l) HeaderNotWhole _
-
-        module _ (fits : h ≤ n) where
-          pub passes-count : inCount (codingOf dcs) udl h ≡ false → rest ≡ halted HeaderPassesCount
-          passes-count c = three ∙ require-holds s (p₄ .at) (le-leb h n fits) HeaderNotWhole _ ∙ require-fails s (p₄ .at) c HeaderPassesCount _
-
-          pub all-there : inCount (codingOf dcs) udl h ≡ true → rest ≡ reached (submitted f mr da pid dcs period udl (take n (drop (p₃ .at) s)) h) (p₄ .at)
-          all-there c = three ∙ require-holds s (p₄ .at) (le-leb h n fits) HeaderNotWhole _ ∙ require-holds s (p₄ .at) c HeaderPassesCount _ ∙ done-reached s _ _
-
--- ---- the first octet to TP-DCS
-
--- the line names every bit of the first octet
-pub kept-whole : (x : ℕ) → x < 256 → kept bits x ≡ x
-unfolding kept
-kept-whole x h = eqb-true _ _ (below (λ y. eqb (kept bits y) y) 256 refl x h)
-
-module _ (s : List ℕ) (o : Octets s) where
-  pub no-first : octetAt s start ≡ Octet.Ended → read submit s ≡ halted OctetsEnd
-  unfolding read line behindFirst
-  no-first e = message-ends s start e 1 bits behindFirst
-
-  module _ {b : ℕ} {p : Place} (e₁ : octetAt s start ≡ Octet.Read b p) where
-    pub other-type : (messageType b ≡ 1 → ⊥) → read submit s ≡ halted WrongMessageType
-    unfolding read line behindFirst
-    other-type d = message-differs s start e₁ 1 bits refl behindFirst d
-
-    module _ (m : messageType b ≡ 1) where
-      pub no-mr : octetAt s p ≡ Octet.Ended → read submit s ≡ halted OctetsEnd
-      unfolding read line behindFirst
-      no-mr e = message-goes-on s start e₁ 1 bits refl behindFirst m ∙ octet-ends s p e _
-
-      module _ {mr : ℕ} {p₂ : Place} (e₂ : octetAt s p ≡ Octet.Read mr p₂) where
-        pub no-address : fieldAt s p₂ ≡ Span.Ended → read submit s ≡ halted OctetsEnd
-        unfolding read line behindFirst
-        no-address e = message-goes-on s start e₁ 1 bits refl behindFirst m ∙ octet-goes-on s p e₂ _ ∙ address-ends s p₂ e _
-
-        module _ {da : ℕ} {p₃ : Place} (e₃ : fieldAt s p₂ ≡ Span.There da p₃) where
-          pub no-pid : octetAt s p₃ ≡ Octet.Ended → read submit s ≡ halted OctetsEnd
-          unfolding read line behindFirst
-          no-pid e = message-goes-on s start e₁ 1 bits refl behindFirst m ∙ octet-goes-on s p e₂ _ ∙ address-goes-on s p₂ e₃ _ ∙ octet-ends s p₃ e _
-
-          module _ {pid : ℕ} {p₄ : Place} (e₄ : octetAt s p₃ ≡ Octet.Read pid p₄) where
-            pub no-dcs : octetAt s p₄ ≡ Octet.Ended → read submit s ≡ halted OctetsEnd
-            unfolding read line behindFirst
-            no-dcs e = message-goes-on s start e₁ 1 bits refl behindFirst m ∙ octet-goes-on s p e₂ _ ∙ address-goes-on s p₂ e₃ _ ∙ octet-goes-on s p₃ e₄ _ ∙ octet-ends s p₄ e _
-
-            module _ {dcs : ℕ} {p₅ : Place} (e₅ : octetAt s p₄ ≡ Octet.Read dcs p₅) where
-              pub to-dcs : read submit s ≡ readFrom (behindCoding b mr (canonicalAddress (cut address (drop da s))) pid dcs) s (p₅ .at)
-              unfolding read line behindFirst
-              to-dcs =
-                  let whole : kept bits b ≡ b = kept-whole b (rw (octet-read s start e₁ .1) (o 0)) in
-                  message-goes-on s start e₁ 1 bits refl behindFirst m ∙ octet-goes-on s p e₂ _ ∙ address-goes-on s p₂ e₃ _ ∙ octet-goes-on s p₃ e₄ _ ∙ octet-goes-on s p₄ e₅ _
-                  ∙ rw whole
-
-              -- the address and the place lie in the string
-              pub room : (da + addressSize (drop da s) ≤ length s) × (p₅ .at ≤ length s)
-              room = (address-inside s p₂ e₃ (omega (arith, octet-read s p e₂)) .0, omega (arith, octet-read s p₄ e₅))
+pub message-is : (s : List ℕ) → Octets s → (f : SubmitFields) → Inside s (SubmitFound.Whole f) → (let format = formatIn (f .first) in let vp = part (f .validity) (f .«validity_octets») s in let ud = part (f .«data») (f .octets) s in
+    (a : SMSAddress) → a ≡ addressIn (take (addressSize (drop (f .address) s)) (drop (f .address) s)) → (period : ValidityPeriod) → period ≡ periodIn format vp → (t : Time) → t ≡ timeIn (ofFormat 3 format vp)
+    → (enhanced : List ℕ) → enhanced ≡ pad 7 (ofFormat 1 format vp) → (raw : UserData) → raw ≡ dataWith ud → (header : UserData) → header ≡ dataWith (take (f .header) ud)
+    → (text : SubmitText) → text ≡ textWith (readable (codingOf (f .dcs)) (f .udl) (f .header) ud)
+    → _≡_ {A = SmsSubmit} (record {
+      «tp_rp» = eqb (f .first / 128 % 2) 1;
+      «tp_udhi» = eqb (f .first / 64 % 2) 1;
+      «tp_srr» = eqb (f .first / 32 % 2) 1;
+      «tp_mti» = f .first % 4;
+      «tp_rd» = eqb (f .first / 4 % 2) 1;
+      «tp_vpf» = f .first / 8 % 4;
+      «tp_mr» = f .mr;
+      «has_destination_address» = true;
+      «tp_destination_address» = a;
+      «tp_pid» = f .pid;
+      «tp_dcs» = f .dcs;
+      «tp_validity_period» = period;
+      «validity_period_digits» = t;
+      «validity_period_octets» = enhanced;
+      «tp_user_data_length» = f .udl;
+      «tp_user_data_raw» = raw;
+      «has_user_data_header» = eqb (f .first / 64 % 2) 1;
+      «tp_user_data_header» = header;
+      «tp_user_data» = text;
+    })
+    (submitted (fieldsAt s f)))
+unfolding submitted fieldsAt
+message-is s o f inside a ea period ep t et enhanced en raw er header eh text ex =
+    rw (
+      address-there s o (f .address) (inside .0),
+      ea,
+      ep,
+      et,
+      en,
+      er,
+      eh,
+      ex,
+      part-is (f .validity) (f .«validity_octets») s,
+      part-is (f .«data») (f .octets) s,
+    )

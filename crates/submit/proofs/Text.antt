@@ -18,7 +18,8 @@ use Rattle.text.specs.declared.Unpacked.{Unpacked}
 use Rattle.text.specs.Reading.{textOf, unpacked, shown}
 use Rattle.text.proofs.Reading.{unpacked-done}
 use Rattle.text.proofs.Laws.{text-short}
-use Rattle.submit.specs.Submit.{inCount, readable}
+use Rattle.submit_reading.specs.Line.{inCount}
+use Rattle.submit.specs.Submit.{readable}
 
 module _ (os : List ℕ) (h n : ℕ) (whole : h ≤ length os) (counted : headerSeptets h ≤ n) (few : n ≤ 255) (size : length os ≡ (n * 7 + 7) / 8) where
   abbrev text : List ℕ

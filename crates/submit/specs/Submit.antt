@@ -1,7 +1,7 @@
 -- SMS-SUBMIT (TS 23.040 §9.2.2.2): its line, its reader's answer, and what its writer makes.
-use Prim.Native.Nat.{ℕ, _+_, _-_, _/_, _%_}
+use Prim.Native.Nat.{ℕ, _+_, _-_}
 use mathlib.Core.Bool.{Bool, true, false, _&&_}
-use mathlib.Core.List.{List, [], _∷_, _++_}
+use mathlib.Core.List.{List, [], _++_}
 use lib.Dec.{leb}
 use lib.ListN.{length, take, drop}
 use Rattle.octets.specs.Arrays.{pad}
@@ -9,36 +9,25 @@ use Rattle.octets.specs.Choice.{if_then_else_, flag, lengthIf}
 use Rattle.octets.specs.Lent.{Making, refused}
 use Rattle.octets.specs.declared.Outcome.{Outcome}
 use Rattle.octets.specs.declared.Refusal.{Refusal}
-use Rattle.octets.specs.declared.Refusal.the-variants.{LengthTooLarge, HeaderNotWhole, HeaderPassesCount}
+use Rattle.octets.specs.declared.Refusal.the-variants.{LengthTooLarge}
 use Rattle.octets.specs.declared.Written.{Written}
-use Rattle.coding.specs.Coding.{codingOf, dataOctets, dataWith, dataOf}
+use Rattle.coding.specs.Coding.{codingOf, dataWith, dataOf}
 use Rattle.coding.specs.declared.UserDataCoding.{UserDataCoding}
 use Rattle.coding.specs.declared.UserDataCoding.the-variants.{Gsm7Bit, EightBit, Ucs2, Compressed}
 use Rattle.septets.specs.Septets.{septetsIn, headerSeptets, fillBits}
 use Rattle.text.specs.Reading.{textOf}
-use Rattle.header.specs.Header.{headerOctets}
 use Rattle.time.specs.Time.{timeIn}
 use Rattle.address.specs.Address.{addressIn, addressWith}
-use Rattle.layout.specs.Layout.{Format, Layout, plain, Reached, reached, halted, message, field, one, require, done, address, octets, any, userData, isSet, messageType}
-use Rattle.validity.specs.Validity.{periodSize, periodIn, ofFormat, isAbsolute}
+use Rattle.layout.specs.Layout.{Format, Layout, plain, Reached, reached, halted, done, _then_, isSet, messageType}
+use Rattle.validity.specs.Validity.{periodIn, ofFormat, isAbsolute}
+use Rattle.validity.specs.declared.ValidityPeriod.{ValidityPeriod}
+use Rattle.submit_reading.specs.Line.{Fields, formatIn, line as fields}
 use Rattle.submit_writing.specs.Writing.{making}
 use Rattle.submit.specs.declared.SmsSubmit.{SmsSubmit}
 use Rattle.submit.specs.declared.SubmitRead.{SubmitRead}
 use Rattle.submit.specs.declared.SubmitText.{SubmitText}
-use Rattle.validity.specs.declared.ValidityPeriod.{ValidityPeriod}
 
--- ---- the header and the readable form of user data (§9.2.3.24)
-
--- the octets that a header takes; none without TP-UDHI
-unfoldable pub headerSize : Bool → List ℕ → ℕ
-headerSize udhi ud = if udhi then headerOctets ud else 0
-
--- in 7-bit coding a header of h octets takes septets of the count
-unfoldable pub inCount : UserDataCoding → ℕ → ℕ → Bool
-inCount Gsm7Bit udl h = leb (headerSeptets h) udl
-inCount EightBit udl h = true
-inCount Ucs2 udl h = true
-inCount Compressed udl h = true
+-- ---- the readable form of user data (§9.2.3.24)
 
 -- the readable form: in 7-bit coding the header's h octets and then the text, in other codings the data
 unfoldable pub readable : UserDataCoding → ℕ → ℕ → List ℕ → List ℕ
@@ -52,51 +41,33 @@ textWith xs = record { octets = pad 510 xs; length = length xs }
 
 -- ---- reading
 
--- TP-VPF of a first octet
-abbrev pub formatIn : ℕ → ℕ
-formatIn f = f / 8 % 4
-
--- the record that the fields make, with a header of h octets
-unfoldable pub submitted : ℕ → ℕ → List ℕ → ℕ → ℕ → List ℕ → ℕ → List ℕ → ℕ → SmsSubmit
-submitted f mr da pid dcs vp udl ud h = record {
-  «tp_rp» = isSet 7 f;
-  «tp_udhi» = isSet 6 f;
-  «tp_srr» = isSet 5 f;
-  «tp_mti» = messageType f;
-  «tp_rd» = isSet 2 f;
-  «tp_vpf» = formatIn f;
-  «tp_mr» = mr;
+-- the record that the fields make
+unfoldable pub submitted : Fields → SmsSubmit
+submitted x = record {
+  «tp_rp» = isSet 7 (x .first);
+  «tp_udhi» = isSet 6 (x .first);
+  «tp_srr» = isSet 5 (x .first);
+  «tp_mti» = messageType (x .first);
+  «tp_rd» = isSet 2 (x .first);
+  «tp_vpf» = formatIn (x .first);
+  «tp_mr» = x .mr;
   «has_destination_address» = true;
-  «tp_destination_address» = addressIn da;
-  «tp_pid» = pid;
-  «tp_dcs» = dcs;
-  «tp_validity_period» = periodIn (formatIn f) vp;
-  «validity_period_digits» = timeIn (ofFormat 3 (formatIn f) vp);
-  «validity_period_octets» = pad 7 (ofFormat 1 (formatIn f) vp);
-  «tp_user_data_length» = udl;
-  «tp_user_data_raw» = dataWith ud;
-  «has_user_data_header» = isSet 6 f;
-  «tp_user_data_header» = dataWith (take h ud);
-  «tp_user_data» = textWith (readable (codingOf dcs) udl h ud);
+  «tp_destination_address» = addressIn (x .da);
+  «tp_pid» = x .pid;
+  «tp_dcs» = x .dcs;
+  «tp_validity_period» = periodIn (formatIn (x .first)) (x .vp);
+  «validity_period_digits» = timeIn (ofFormat 3 (formatIn (x .first)) (x .vp));
+  «validity_period_octets» = pad 7 (ofFormat 1 (formatIn (x .first)) (x .vp));
+  «tp_user_data_length» = x .udl;
+  «tp_user_data_raw» = dataWith (x .ud);
+  «has_user_data_header» = isSet 6 (x .first);
+  «tp_user_data_header» = dataWith (take (x .header) (x .ud));
+  «tp_user_data» = textWith (readable (codingOf (x .dcs)) (x .udl) (x .header) (x .ud));
 }
 
--- the line behind TP-DCS: validity, UDL, data; the header fits the data and, in 7-bit coding, the UDL
-unfoldable pub behindCoding : ℕ → ℕ → List ℕ → ℕ → ℕ → Format SmsSubmit
-behindCoding f mr da pid dcs =
-    field (octets any (periodSize (formatIn f))) λ vp. one λ udl. field (userData (dataOctets (codingOf dcs) udl)) λ ud.
-    let h = headerSize (isSet 6 f) ud in
-    require HeaderNotWhole (leb h (length ud)) (require HeaderPassesCount (inCount (codingOf dcs) udl h) (done (submitted f mr da pid dcs vp udl ud h)))
-
--- RP bit 7, UDHI 6, SRR 5, VPF 4 and 3, RD 2
-abbrev pub bits : List ℕ
-bits = 7 ∷ 6 ∷ 5 ∷ 4 ∷ 3 ∷ 2 ∷ []
-
--- the line: MTI 1 and these bits; MR, address, PID, DCS, and what is behind them
-unfoldable pub behindFirst : ℕ → Format SmsSubmit
-behindFirst f = one λ mr. field address λ da. one λ pid. one λ dcs. behindCoding f mr da pid dcs
-
+-- the line of fields (submit_reading/specs/Line.antt), and the record
 unfoldable pub line : Format SmsSubmit
-line = message 1 bits behindFirst
+line = fields then λ x. done (submitted x)
 
 abbrev pub submit : Layout SmsSubmit
 submit = plain line

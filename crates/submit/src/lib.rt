@@ -1,29 +1,25 @@
 // SMS-SUBMIT (TS 23.040 §9.2.2.2).
 ghost use mathlib.Core.Path.{_≡_};
-ghost use mathlib.Core.Bool.{true, false};
+ghost use mathlib.Core.Bool.{true};
 ghost use mathlib.Core.List.{[], _++_};
-ghost use Prim.Native.Nat.{_+_, _-_, _*_, _/_, _%_, _≤_, _<_};
+ghost use Prim.Native.Nat.{_+_, _-_, _*_, _/_, _≤_};
 ghost use lib.ListN.{length, take, drop};
-ghost use Rattle.octets.specs.Choice.{flag};
+ghost use Rattle.octets.specs.Choice.{lengthIf};
 ghost use Rattle.octets.specs.Lent.{Wrote, lend};
-ghost use Rattle.coding.specs.Coding.{codingOf, dataOctets};
+ghost use Rattle.coding.specs.Coding.{dataOctets};
 ghost use Rattle.septets.specs.Septets.{headerSeptets, fillBits, septetsIn};
 ghost use Rattle.text.specs.Reading.{textOf};
-ghost use Rattle.layout.specs.Layout.{read, readFrom, cut, address as addressKind};
-ghost use Rattle.address.specs.Address.{addressSize, canonicalAddress};
-ghost use Rattle.submit.specs.Submit.{submit, behindCoding, submitted, blank as blankMessage, answer, unread, headerSize, inCount, readable, textWith, formatIn, submitting};
-ghost use Rattle.octets.specs.Choice.{lengthIf};
-ghost use Rattle.validity.specs.Validity.{periodSize};
+ghost use Rattle.layout.specs.Layout.{read};
+ghost use Rattle.submit_reading.specs.Line.{inCount, fieldsAt, Inside};
+ghost use Rattle.submit.specs.Submit.{submit, submitted, blank as blankMessage, answer, unread, readable, textWith, submitting};
 use address::SMSAddress;
 use coding::UserData;
 use coding::UserDataCoding;
-use octets::Octet;
 use octets::Outcome;
-use octets::Place;
 use octets::Refusal;
-use octets::Span;
 use octets::Written;
-use submit_writing::MTI_SUBMIT;
+use submit_reading::SubmitFields;
+use submit_reading::SubmitFound;
 use time::Time;
 use validity::VALIDITY_PERIOD_FORMAT_ABSOLUTE;
 use validity::ValidityPeriod;
@@ -100,39 +96,6 @@ fn refused(r: Refusal) -> SubmitRead
     }
 }
 
-// The octets end inside a field.
-fn ended() -> SubmitRead
-    ensures { λ u. ⌜ u ≡ unread Refusal.OctetsEnd ⌝ }
-{
-    refused(Refusal::OctetsEnd)
-}
-
-// The octets that a header takes; none without TP-UDHI.
-fn header_size(udhi: bool, data: &[u8]) -> usize
-    ensures { λ r. ⌜ (r ≡ headerSize udhi (now («data» .entry))) × (r ≤ 256) ⌝ }
-{
-    if !udhi {
-        return 0;
-    }
-    if data.len() == 0 {
-        return 1;
-    }
-    data[0] as usize + 1
-}
-
-// In 7-bit coding a header of h octets takes septets of the count.
-fn in_count(coding: UserDataCoding, udl: u8, h: usize) -> bool
-    requires { ⌜ h ≤ 256 ⌝ }
-    ensures { λ r. ⌜ r ≡ inCount coding udl h ⌝ }
-{
-    match coding {
-        UserDataCoding::Gsm7Bit => septets::header_septets(h) <= udl as usize,
-        UserDataCoding::EightBit => true,
-        UserDataCoding::Ucs2 => true,
-        UserDataCoding::Compressed => true,
-    }
-}
-
 // Stores a header of h octets and the text behind it; their number of octets.
 fn put_text(septets: usize, h: usize, data: &[u8], text: &mut [u8; 510]) -> usize
     requires { ⌜ (h ≤ length (now «data»)) × (headerSeptets h ≤ septets) × (septets ≤ 255) × (length (now «data») ≡ (septets * 7 + 7) / 8) × (length (now text) ≡ 510) ⌝ }
@@ -185,23 +148,20 @@ fn text_in(coding: UserDataCoding, udl: u8, h: usize, data: &[u8]) -> SubmitText
     SubmitText { octets, length: n }
 }
 
-// The message of fields that are there: the first octet, MR, the address at `da`, PID, DCS, the validity period, UDL, and user data with a header of h octets.
-fn message(
-    first: u8,
-    mr: u8,
-    data: &[u8],
-    da: usize,
-    pid: u8,
-    dcs: u8,
-    vp: &[u8],
-    udl: u8,
-    ud: &[u8],
-    h: usize,
-) -> SmsSubmit
-    requires { ⌜ (da + addressSize (drop da (now «data»)) ≤ length (now «data»)) × (length (now vp) ≡ periodSize (formatIn first)) × (length (now ud) ≡ dataOctets (codingOf dcs) udl) × (h ≤ length (now ud)) × (inCount (codingOf dcs) udl h ≡ true) ⌝ }
-    ensures { λ r. ⌜ r ≡ submitted first mr (canonicalAddress (cut addressKind (drop da (now («data» .entry))))) pid dcs (now (vp .entry)) udl (now (ud .entry)) h ⌝ }
+// The message of fields that are there.
+fn message(data: &[u8], f: SubmitFields) -> SmsSubmit
+    requires { ⌜ Inside (now «data») (SubmitFound.Whole f) ⌝ }
+    ensures { λ r. ⌜ r ≡ submitted (fieldsAt (now («data» .entry)) f) ⌝ }
 {
+    let first = f.first;
+    let dcs = f.dcs;
+    let udl = f.udl;
+    let h = f.header;
     let format = first / 8 % 4;
+    let validity = f.validity;
+    let start = f.data;
+    let vp = &data[validity..validity + f.validity_octets];
+    let ud = &data[start..start + f.octets];
     SmsSubmit {
         tp_rp: first / 128 % 2 == 1,
         tp_udhi: first / 64 % 2 == 1,
@@ -209,10 +169,10 @@ fn message(
         tp_mti: first % 4,
         tp_rd: first / 4 % 2 == 1,
         tp_vpf: format,
-        tp_mr: mr,
+        tp_mr: f.mr,
         has_destination_address: true,
-        tp_destination_address: SMSAddress::decode(data, da),
-        tp_pid: pid,
+        tp_destination_address: SMSAddress::decode(data, f.address),
+        tp_pid: f.pid,
         tp_dcs: dcs,
         tp_validity_period: validity::period_in(format, vp),
         validity_period_digits: validity::digits_in(format, vp),
@@ -225,80 +185,21 @@ fn message(
     }
 }
 
-// What follows TP-DCS.
-fn behind_coding(
-    data: &[u8],
-    first: u8,
-    mr: u8,
-    da: usize,
-    pid: u8,
-    dcs: u8,
-    place: Place,
-) -> SubmitRead
-    requires { ⌜ (da + addressSize (drop da (now «data»)) ≤ length (now «data»)) × (place .at ≤ length (now «data»)) ⌝ }
-    ensures { λ r. ⌜ r ≡ answer (readFrom (behindCoding first mr (canonicalAddress (cut addressKind (drop da (now («data» .entry))))) pid dcs) (now («data» .entry)) (place .at)) ⌝ }
-{
-    let Span::There(vp, place2) = place.span(data, validity::validity_octets(first / 8 % 4)) else {
-        return ended();
-    };
-    let Octet::Read(udl, place3) = place2.octet(data) else {
-        return ended();
-    };
-    let n = coding::user_data_octets(coding::user_data_coding(dcs), udl);
-    let Span::There(ud, place4) = place3.span(data, n) else {
-        return ended();
-    };
-    let period_end = place2.at;
-    let end = place4.at;
-    let h = header_size(first / 64 % 2 == 1, &data[ud..end]);
-    if n < h {
-        return refused(Refusal::HeaderNotWhole);
-    }
-    if !in_count(coding::user_data_coding(dcs), udl, h) {
-        return refused(Refusal::HeaderPassesCount);
-    }
-    SubmitRead {
-        outcome: Outcome::Done,
-        message: message(
-            first,
-            mr,
-            data,
-            da,
-            pid,
-            dcs,
-            &data[vp..period_end],
-            udl,
-            &data[ud..end],
-            h,
-        ),
-        octets_read: end,
-    }
-}
-
 // Reads a message.
 pub fn decode_sms_submit_tpdu(data: &[u8]) -> SubmitRead
     ensures { λ r. ⌜ r ≡ answer (read submit (now («data» .entry))) ⌝ }
 {
-    let start = Place { at: 0 };
-    let Octet::Read(first, place) = start.octet(data) else {
-        return ended();
-    };
-    if first % 4 != MTI_SUBMIT {
-        return refused(Refusal::WrongMessageType);
+    match submit_reading::fields_of(data) {
+        SubmitFound::Refused(r) => refused(r),
+        SubmitFound::Whole(f) => {
+            let octets_read = f.data + f.octets;
+            SubmitRead {
+                outcome: Outcome::Done,
+                message: message(data, f),
+                octets_read,
+            }
+        }
     }
-    let Octet::Read(mr, place2) = place.octet(data) else {
-        return ended();
-    };
-    let Span::There(da, place3) = address::address_at(data, place2) else {
-        return ended();
-    };
-    let Octet::Read(pid, place4) = place3.octet(data) else {
-        return ended();
-    };
-    let Octet::Read(dcs, place5) = place4.octet(data) else {
-        return ended();
-    };
-    behind_coding(data, first, mr, da, pid, dcs, place5)
 }
 
 // A length that counts: that of an absent part doesn't.
@@ -306,13 +207,6 @@ fn length_if(there: bool, length: usize) -> usize
     ensures { λ r. ⌜ r ≡ lengthIf there length ⌝ }
 {
     if there { length } else { 0 }
-}
-
-// The flags of the first octet.
-fn flags(rp: bool, udhi: bool, srr: bool, rd: bool) -> u8
-    ensures { λ r. ⌜ (r ≡ flag rp 128 + flag udhi 64 + flag srr 32 + flag rd 4) × (r ≤ 228) ⌝ }
-{
-    octets::flag(rp, 128) + octets::flag(udhi, 64) + octets::flag(srr, 32) + octets::flag(rd, 4)
 }
 
 impl SmsSubmit {
@@ -336,7 +230,7 @@ impl SmsSubmit {
         if !fit {
             return Written::Refused(Refusal::LengthTooLarge);
         }
-        let flags = flags(self.tp_rp, self.tp_udhi, self.tp_srr, self.tp_rd);
+        let flags = submit_writing::flags(self.tp_rp, self.tp_udhi, self.tp_srr, self.tp_rd);
         let text = self.tp_destination_address.address;
         let digits = self.validity_period_digits.digits;
         let enhanced = self.validity_period_octets;

@@ -3,6 +3,7 @@ ghost use mathlib.Core.Path.{_≡_};
 ghost use mathlib.Core.Bool.{true};
 ghost use Prim.Native.Nat.{_+_, _/_, _≤_};
 ghost use lib.ListN.{length};
+ghost use Rattle.octets.specs.Choice.{flag};
 ghost use Rattle.octets.specs.Lent.{Wrote, lend};
 ghost use Rattle.address_writing.specs.Writing.{addressMaking};
 ghost use Rattle.address_writing.specs.Parts.{checkOf};
@@ -15,6 +16,13 @@ use octets::Written;
 use validity::ValidityPeriod;
 
 pub const MTI_SUBMIT: u8 = 1;
+
+// The flags of the first octet.
+pub fn flags(rp: bool, udhi: bool, srr: bool, rd: bool) -> u8
+    ensures { λ r. ⌜ (r ≡ flag rp 128 + flag udhi 64 + flag srr 32 + flag rd 4) × (r ≤ 228) ⌝ }
+{
+    octets::flag(rp, 128) + octets::flag(udhi, 64) + octets::flag(srr, 32) + octets::flag(rd, 4)
+}
 
 // Writes parts that were checked; how many octets they take.
 fn put_parts(

@@ -1,42 +1,66 @@
 -- `submit::message` meets its contract: part by part.
 -- Assumes nothing.
-use Prim.Native.Nat.{_≤_}
 use mathlib.Core.Path.{sym, _∙_}
 use native.Mathlib.Omega.{arith}
+use borrow.Author.Needs.{needs}
 use denote.Ref.{now}
-use lib.ListN.{length, length-take}
+use lib.ListN.{length-take}
 use lib.Seq.{length-take-le}
-use Rattle.coding.specs.Coding.{codingOf}
-use Rattle.coding.proofs.Laws.{data-at-most}
-use Rattle.layout.proofs.Fields.{address-there}
-use Rattle.submit.proofs.Parts.{message-is}
+use Rattle.submit.proofs.Reading.{data-room, message-is}
 use Rattle.submit.proofs.message.Statement.{statement}
 use Rattle.submit.proofs.message.Tie as tie
 
+data-with-requires : tie.Need-data-with-requires
+data-with-requires c κs =
+    let entry = c .before .before .before .before .before .before .before .before .before in
+    data-room (now (entry .args .«data»)) (entry .args .f) (entry .pre) .1
+
+slice-aggregate-data-with : tie.Need-slice-aggregate-data-with
+slice-aggregate-data-with c =
+    let entry = c .before .before .before .before .before .before .before .before .before .before .before in
+    sym (length-take-le _ _ (data-room (now (entry .args .«data»)) (entry .args .f) (entry .pre) .2))
+
+data-with-requires-2 : tie.Need-data-with-requires-2
+data-with-requires-2 c κs =
+    let entry = c .before .before .before .before .before .before .before .before .before .before .before in
+    simp length-take (omega (arith, data-room (now (entry .args .«data»)) (entry .args .f) (entry .pre) .1))
+
+text-in-requires : tie.Need-text-in-requires
+text-in-requires c κs =
+    let entry = c .before .before .before .before .before .before .before .before .before .before .before .before .before in
+    let (size, few, header) = data-room (now (entry .args .«data»)) (entry .args .f) (entry .pre) in
+    rw (c .user-data-coding .ensures) (header, entry .pre .7, size ∙ entry .pre .5)
+
 returns : tie.Need-returns
 returns c =
-    let s = c .before .before .before .before .before .before .before .before .before .before .before .before in
-    let a = s .args in
-    message-is (a .first) (a .mr) _ (a .pid) (a .dcs) _ (a .udl) _ (a .h)
-    (c .before .before .before .before .before .before .before .before .decode .ensures ∙ sym (address-there (now (a .«data»)) (λ i. c .before .before .before .before .before .before .before .before .before .before .before .shared-slice-known .given i .fits) (a .da) (s .pre .0)))
-    (c .before .before .before .before .before .before .before .period-in .ensures)
-    (c .before .before .before .before .before .before .digits-in .ensures)
-    (c .before .before .before .before .before .enhanced-in .ensures)
-    (c .before .before .before .before .data-with .ensures)
-    (c .before .before .data-with2 .ensures)
-    (c .text-in .ensures ∙ rw (c .before .user-data-coding .ensures))
+    let coded = c .before in
+    let raw = coded .before .before .before in
+    let period = raw .before .before .before in
+    let known = period .before .before .before .before .before .before in
+    let entry = known .before in
+    message-is (now (entry .args .«data»)) (λ i. known .shared-slice-known .given i .fits) (entry .args .f) (entry .pre)
+    _ (period .before .decode .ensures) _ (period .period-in .ensures) _ (raw .before .before .digits-in .ensures) _ (raw .before .enhanced-in .ensures)
+    _ (raw .data-with .ensures) _ (coded .before .data-with2 .ensures) _ (c .text-in .ensures ∙ rw (coded .user-data-coding .ensures))
 
 pub message-spec : {M : Type 1} → statement M
 message-spec =
     tie.close
     (tie.spec
-    (λ c κs. c .before .before .before .pre .0)
-    (λ c κs. c .before .before .before .before .pre .1)
-    (λ c κs. c .before .before .before .before .before .pre .1)
-    (λ c κs. c .before .before .before .before .before .before .pre .1)
-    (λ c κs. let s = c .before .before .before .before .before .before .before in omega (arith, s .pre .2, data-at-most (codingOf (s .args .dcs)) (s .args .udl)))
-    (λ c. sym (length-take-le _ _ (c .before .before .before .before .before .before .before .before .before .pre .3)))
-    (λ c κs. let s = c .before .before .before .before .before .before .before .before .before in simp length-take (omega (arith, s .pre .2, data-at-most (codingOf (s .args .dcs)) (s .args .udl))))
+    (λ c. search needs)
+    (λ c. search needs)
+    (λ c. search needs)
+    (λ c. search needs)
+    (λ c. search needs)
+    (λ c. search needs)
+    (λ c. search needs)
+    (λ c. search needs)
+    (λ c κs. search needs)
+    (λ c κs. search needs)
+    (λ c κs. search needs)
+    (λ c κs. search needs)
+    data-with-requires
+    slice-aggregate-data-with
+    data-with-requires-2
     (λ c κs. tt)
-    (λ c κs. let s = c .before .before .before .before .before .before .before .before .before .before .before in rw (c .user-data-coding .ensures) (s .pre .3, s .pre .4, s .pre .2))
+    text-in-requires
     returns)

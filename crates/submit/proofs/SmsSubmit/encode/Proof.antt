@@ -17,7 +17,7 @@ use Rattle.submit.specs.declared.SmsSubmit.{SmsSubmit}
 use Rattle.submit.proofs.Writing.{too-long, by-parts, all-fit}
 use Rattle.submit.proofs.length_if.Reads as length-if-reads
 use Rattle.validity.proofs.ValidityPeriod.format.Reads as format-reads
-use Rattle.submit.proofs.flags.Reads as flags-reads
+use Rattle.submit_writing.proofs.flags.Reads as flags-reads
 use Rattle.submit_writing.proofs.encode_parts.Reads as encode-parts-reads
 use Rattle.submit.proofs.SmsSubmit.encode.Reads as reads
 use Rattle.submit.proofs.SmsSubmit.encode.Lts as lts

@@ -1,8 +1,8 @@
--- `submit::flags` meets its contract.
+-- `submit_writing::flags` meets its contract.
 -- Assumes nothing.
 use native.Mathlib.Omega.{arith}
-use Rattle.submit.proofs.flags.Statement.{statement}
-use Rattle.submit.proofs.flags.Tie as tie
+use Rattle.submit_writing.proofs.flags.Statement.{statement}
+use Rattle.submit_writing.proofs.flags.Tie as tie
 
 returns : tie.Need-returns
 returns c =

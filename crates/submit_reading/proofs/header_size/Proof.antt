@@ -1,4 +1,4 @@
--- `submit::header_size` meets its contract.
+-- `submit_reading::header_size` meets its contract.
 -- Assumes nothing.
 use Prim.Native.Nat.{ℕ, _+_}
 use mathlib.Core.Path.{_≡_, refl}
@@ -7,9 +7,9 @@ use native.Mathlib.Omega.{arith}
 use borrow.Author.Needs.{needs}
 use borrow.Author.Tests.{not-true, not-false}
 use lib.ListN.{length, getD}
-use Rattle.submit.specs.Submit.{headerSize}
-use Rattle.submit.proofs.header_size.Statement.{statement}
-use Rattle.submit.proofs.header_size.Tie as tie
+use Rattle.submit_reading.specs.Line.{headerSize}
+use Rattle.submit_reading.proofs.header_size.Statement.{statement}
+use Rattle.submit_reading.proofs.header_size.Tie as tie
 
 empty : (s : List ℕ) → length s ≡ 0 → 1 ≡ getD s 0 0 + 1
 empty [] e = refl

@@ -1,9 +1,9 @@
--- `submit::in_count` meets its contract: only 7-bit coding counts septets.
+-- `submit_reading::in_count` meets its contract: only 7-bit coding counts septets.
 -- Assumes nothing.
 use borrow.Author.Needs.{needs}
-use Rattle.submit.specs.Submit.{inCount}
-use Rattle.submit.proofs.in_count.Statement.{statement}
-use Rattle.submit.proofs.in_count.Tie as tie
+use Rattle.submit_reading.specs.Line.{inCount}
+use Rattle.submit_reading.proofs.in_count.Statement.{statement}
+use Rattle.submit_reading.proofs.in_count.Tie as tie
 
 pub in-count-spec : {M : Type 1} → statement M
 unfolding inCount
