@@ -5,21 +5,22 @@ use mathlib.Core.Path.{_≡_, refl, sym, _∙_}
 use mathlib.Core.Bool.{Bool, true, _&&_}
 use mathlib.Core.List.{List, []}
 use native.Mathlib.Omega.{arith}
-use borrow.Author.Tests.{eqb-true, ltb-true}
+use borrow.Author.Tests.{eqb-true, leb-true, ltb-true}
 use lib.Dec.{eqb, leb, ltb}
 use lib.ListN.{length, take}
+use lib.Seq.{length-take-le}
 use Rattle.octets.proofs.Choice.{and-true, both, both-holds, same, same-is}
 use Rattle.octets.proofs.Checks.{made-if}
 use Rattle.octets.proofs.Laws.{take-pad, pad-full}
 use Rattle.octets.proofs.Table.{allBelow, below}
 use Rattle.octets.specs.Choice.{if_then_else_, flag}
 use Rattle.time.specs.Time.{timeIn, timeDigits, timeOctets, capitals}
-use Rattle.time.proofs.Laws.{digits-back}
+use Rattle.time.proofs.Laws.{digits-back, length-digits, time-means, time-size}
 use Rattle.address_writing.specs.Writing.{addressOctets, octetsOr}
 use Rattle.address.specs.Address.{addressIn, addressWith}
 use Rattle.address.proofs.Laws.{address-passed}
 use Rattle.layout.specs.Layout.{isSet, messageType, reached, halted, read}
-use Rattle.coding.specs.Coding.{codingOf, dataOf}
+use Rattle.coding.specs.Coding.{codingOf, dataOf, dataWith}
 use Rattle.coding.proofs.Laws.{data-held}
 use Rattle.octets.specs.Lent.{made}
 use Rattle.octets.specs.declared.Refusal.the-variants.{LengthTooLarge, HeaderNotWhole, HeaderPassesCount}
@@ -32,7 +33,7 @@ use Rattle.submit_writing.proofs.Writing.{all-passed}
 use Rattle.submit_reading.specs.Line.{fieldsWith, formatIn, headerSize, inCount}
 use Rattle.submit.specs.Submit.{submitted, submit, addressLength, digitsLength, lengthsFit, submitting}
 use Rattle.octets.specs.Choice.{lengthIf}
-use Rattle.validity.specs.Validity.{formatOf, periodIn, periodOctets, isAbsolute, timeHolds, periodSize}
+use Rattle.validity.specs.Validity.{formatOf, periodIn, periodOctets, isAbsolute, timeHolds, periodSize, ofFormat}
 use Rattle.validity.proofs.Period.{digitsBeside, enhancedBeside, period-size}
 
 -- ---- the first octet
@@ -84,6 +85,17 @@ beside-back (ValidityPeriod.Relative x) n array enhanced t seven = (refl, refl)
 beside-back ValidityPeriod.Absolute n array enhanced t seven = (take-pad 14 (timeDigits (timeOctets (take n array))) ∙ digits-back (take n array) t, refl)
 beside-back ValidityPeriod.Enhanced n array enhanced t seven = (refl, pad-full 7 enhanced seven)
 
+-- as many digits as were held
+digits-count : (p : ValidityPeriod) (n : ℕ) (array enhanced : List ℕ) → (let digits = take (lengthIf (isAbsolute p) n) array in timeHolds p digits ≡ true → length digits ≡ lengthIf (isAbsolute p) n
+    → lengthIf (isAbsolute p) (timeIn (ofFormat 3 (formatOf p) (periodOctets p digits enhanced)) .length) ≡ lengthIf (isAbsolute p) n)
+unfolding timeIn
+digits-count ValidityPeriod.None n array enhanced t l = refl
+digits-count (ValidityPeriod.Relative x) n array enhanced t l = refl
+digits-count ValidityPeriod.Absolute n array enhanced t l =
+    let digits = take n array in
+    omega (arith, length-digits (timeOctets digits), time-size digits t, time-means digits .0 t .0, l)
+digits-count ValidityPeriod.Enhanced n array enhanced t l = refl
+
 -- ---- a record that was written
 
 -- the same parts but for header and text, the digits of a time in capitals
@@ -103,6 +115,9 @@ pub record SameParts (q r : SmsSubmit) : Type 0 where
   pub enhanced : parts q .enhanced ≡ parts r .enhanced
   pub udl : q .«tp_user_data_length» ≡ r .«tp_user_data_length»
   pub ud : parts q .ud ≡ parts r .ud
+  pub addressLength-is : parts q .addressLength ≡ parts r .addressLength
+  pub digitsLength-is : parts q .digitsLength ≡ parts r .digitsLength
+  pub udLength-is : parts q .udLength ≡ parts r .udLength
 
 format-small : (p : ValidityPeriod) → formatOf p < 4
 format-small ValidityPeriod.None = omega arith
@@ -112,10 +127,11 @@ format-small ValidityPeriod.Enhanced = omega arith
 
 same-parts : (r : SmsSubmit) (f : ℕ) → Tells (r .«tp_rp») (r .«tp_udhi») (r .«tp_srr») (r .«tp_rd») (r .«tp_vpf») f → r .«tp_mti» ≡ 1 → formatIn f ≡ formatOf (r .«tp_validity_period»)
     → (da : List ℕ) → addressIn da ≡ addressWith (r .«tp_destination_address» .ton) (r .«tp_destination_address» .npi) (take (addressLength r) (r .«tp_destination_address» .address))
-    → r .«has_destination_address» ≡ true → (let digits = take (digitsLength r) (r .«validity_period_digits» .digits) in timeHolds (r .«tp_validity_period») digits ≡ true → length (r .«validity_period_octets») ≡ 7 → (h : ℕ)
+    → r .«has_destination_address» ≡ true → (let digits = take (digitsLength r) (r .«validity_period_digits» .digits) in timeHolds (r .«tp_validity_period») digits ≡ true → length (r .«validity_period_octets») ≡ 7
+    → length (take (addressLength r) (r .«tp_destination_address» .address)) ≡ addressLength r → length digits ≡ digitsLength r → length (dataOf (r .«tp_user_data_raw»)) ≡ r .«tp_user_data_raw» .length → (h : ℕ)
     → SameParts (submitted (fieldsWith f (r .«tp_mr») da (r .«tp_pid») (r .«tp_dcs») (periodOctets (r .«tp_validity_period») digits (r .«validity_period_octets»)) (r .«tp_user_data_length») (dataOf (r .«tp_user_data_raw»)) h)) r)
-unfolding submitted addressWith
-same-parts r f t mti format da back there time seven h =
+unfolding submitted addressWith dataWith
+same-parts r f t mti format da back there time seven la lt ld h =
     let beside = beside-back (r .«tp_validity_period») (r .«validity_period_digits» .length) (r .«validity_period_digits» .digits) (r .«validity_period_octets») time seven in
     record {
       rp = t .rp-is;
@@ -133,16 +149,25 @@ same-parts r f t mti format da back there time seven h =
       enhanced = rw format (beside .1);
       udl = refl;
       ud = data-held (dataOf (r .«tp_user_data_raw»));
+      addressLength-is = rw (back, there) (rw there at la);
+      digitsLength-is = rw (format, period-back (r .«tp_validity_period»)) (digits-count (r .«tp_validity_period») (r .«validity_period_digits» .length) (r .«validity_period_digits» .digits) (r .«validity_period_octets») time lt);
+      udLength-is = ld;
     }
 
 -- it is read as the same parts, or with 17 or 18 exactly where the header doesn't fit the data or the count
-pub read-back : (r : SmsSubmit) → length (r .«validity_period_octets») ≡ 7 → (xs : List ℕ) (w : Written) → submitting r ≡ made xs w
+pub read-back : (r : SmsSubmit) → length (r .«tp_destination_address» .address) ≡ 290 → length (r .«validity_period_digits» .digits) ≡ 14 → length (r .«validity_period_octets») ≡ 7 → length (r .«tp_user_data_raw» .octets) ≡ 255 → (xs : List ℕ) (w : Written) → submitting r ≡ made xs w
     → (let d = dataOf (r .«tp_user_data_raw») in let h = headerSize (r .«tp_udhi») d in
     (q : SmsSubmit) × SameParts q r
     × (read submit xs
     ≡ (if leb h (length d) then if inCount (codingOf (r .«tp_dcs»)) (r .«tp_user_data_length») h then reached q (length xs) else halted HeaderPassesCount else halted HeaderNotWhole)))
 unfolding submitting
-read-back r seven xs w e =
+read-back r ha ht seven hd xs w e =
+    let (fit₁, more₁) = and-true (leb (addressLength r) 290) _ (made-if LengthTooLarge (lengthsFit r) e .0) in
+    let (fit₂, more₂) = and-true (leb (digitsLength r) 14) _ more₁ in
+    let (fit₃, more₃) = and-true (leb (r .«tp_user_data_raw» .length) 255) _ more₂ in
+    let la : length (take (addressLength r) (r .«tp_destination_address» .address)) ≡ addressLength r = length-take-le _ _ (omega (arith, leb-true (addressLength r) 290 fit₁, ha)) in
+    let lt : length (take (digitsLength r) (r .«validity_period_digits» .digits)) ≡ digitsLength r = length-take-le _ _ (omega (arith, leb-true (digitsLength r) 14 fit₂, ht)) in
+    let ld : length (dataOf (r .«tp_user_data_raw»)) ≡ r .«tp_user_data_raw» .length = length-take-le _ _ (omega (arith, leb-true (r .«tp_user_data_raw» .length) 255 fit₃, hd)) in
     let p = all-passed _ _ _ _ _ _ _ _ _ _ _ _ _ _ _ xs w (made-if LengthTooLarge (lengthsFit r) e .1) in
     let a = r .«tp_destination_address» in
     let text = take (addressLength r) (a .address) in
@@ -157,6 +182,6 @@ read-back r seven xs w e =
     let format : formatIn f ≡ formatOf period = t .vpf-is ∙ p .format-is in
     let size : periodSize (formatIn f) ≡ length vp = rw format (sym (period-size period digits (r .«validity_period_octets») (p .time) seven)) in (
       submitted (fieldsWith f (r .«tp_mr») da (r .«tp_pid») (r .«tp_dcs») vp (r .«tp_user_data_length») d (headerSize (r .«tp_udhi») d)),
-      same-parts r f t (p .mti-is) format da (spelled .back) (p .there-is) (p .time) seven _,
+      same-parts r f t (p .mti-is) format da (spelled .back) (p .there-is) (p .time) seven la lt ld _,
       rw (← p .octets-are) (rw (t .udhi-is) at (written-read f (t .small) (t .mti-is) (r .«tp_mr») da (spelled .whole) (spelled .again) (r .«tp_pid») (r .«tp_dcs») vp size (r .«tp_user_data_length») d (sym (p .size-is)))),
     )
