@@ -3,6 +3,7 @@ ghost use mathlib.Core.Path.{_≡_};
 ghost use Prim.Native.Nat.{_+_, _*_, _<_, _≤_};
 ghost use lib.ListN.{take};
 ghost use Rattle.characters.specs.Characters.{utf8 as utf8Of, characterOf, firstCharacter, replacement as theReplacement};
+use page::Page;
 
 // A character, and how many octets it took.
 pub struct Character {
@@ -131,13 +132,13 @@ fn escape_letter(octet: u8) -> u8 {
 }
 
 // An octet that is spelled out in hexadecimal.
-fn put_hex_escape(out: &mut [u8], at: usize, octet: u8) -> usize {
+fn put_hex_escape(out: &mut Page, at: usize, octet: u8) -> usize {
     let escape = page::put(out, at, b"\\x");
     page::put_hex_octet(out, escape, octet)
 }
 
 // An octet of a text.
-fn put_octet(out: &mut [u8], at: usize, octet: u8) -> usize {
+fn put_octet(out: &mut Page, at: usize, octet: u8) -> usize {
     let letter = escape_letter(octet);
     match letter {
         0 => page::put(out, at, &[octet]),
@@ -147,7 +148,7 @@ fn put_octet(out: &mut [u8], at: usize, octet: u8) -> usize {
 }
 
 // A text in UTF-8.
-pub fn put_text(out: &mut [u8], at: usize, text: &[u8]) -> usize {
+pub fn put_text(out: &mut Page, at: usize, text: &[u8]) -> usize {
     let mut place = at;
     let mut i = 0;
     while i < text.len() {
@@ -167,7 +168,7 @@ pub fn first(octets: &[u8], n: usize) -> &[u8] {
 }
 
 // A character of a text.
-fn put_character(out: &mut [u8], at: usize, c: u32) -> usize
+fn put_character(out: &mut Page, at: usize, c: u32) -> usize
     requires { ⌜ c < 0x110000 ⌝ }
 {
     let shown = utf8(c);
@@ -176,7 +177,7 @@ fn put_character(out: &mut [u8], at: usize, c: u32) -> usize
 }
 
 // A text in UTF-16, high octets first.
-pub fn put_utf16(out: &mut [u8], at: usize, octets: &[u8]) -> usize {
+pub fn put_utf16(out: &mut Page, at: usize, octets: &[u8]) -> usize {
     let mut place = at;
     let mut i = 0;
     while i < octets.len() {

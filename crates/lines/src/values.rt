@@ -227,7 +227,7 @@ pub fn time_of(value: &[u8]) -> Time {
         let length = octets_of(behind(value, 2), &mut digits);
         return Time { digits, length };
     }
-    page::put(&mut digits, 0, part(value, 0, least(value.len(), 14)));
+    page::append(&mut digits, 0, part(value, 0, least(value.len(), 14)));
     Time {
         digits,
         length: value.len(),

@@ -16,8 +16,11 @@ pub enum HexRead {
     TooLong,
 }
 
-// Appends a word at `at`; the place behind it. A word that does not fit is left out.
-pub fn put(out: &mut [u8], at: usize, word: &[u8]) -> usize
+// The page of a program's answers.
+pub type Page = [u8; 65536];
+
+// Stores a word at `at`; the place behind it. A word that does not fit is left out.
+pub fn append(out: &mut [u8], at: usize, word: &[u8]) -> usize
     ensures { λ r. ⌜ (r, now (out .exit)) ≡ appended at (now (word .entry)) (now (out .entry)) ⌝ }
 {
     if out.len() < at {
@@ -29,6 +32,13 @@ pub fn put(out: &mut [u8], at: usize, word: &[u8]) -> usize
     octets::put_octets(out, at, word)
 }
 
+// Appends a word to a page.
+pub fn put(out: &mut Page, at: usize, word: &[u8]) -> usize
+    ensures { λ r. ⌜ (r, now (out .exit)) ≡ appended at (now (word .entry)) (now (out .entry)) ⌝ }
+{
+    append(out, at, word)
+}
+
 // The lower-case hexadecimal digit of a value below 16; the letters stand 39 characters behind the figures.
 fn lower_digit(value: u8) -> u8
     requires { ⌜ value < 16 ⌝ }
@@ -37,8 +47,8 @@ fn lower_digit(value: u8) -> u8
     b'0' + value + 39 * (value / 10)
 }
 
-// Appends octets as hexadecimal, in lower case.
-pub fn put_hex(out: &mut [u8], at: usize, octets: &[u8]) -> usize
+// Stores octets as hexadecimal, in lower case.
+fn append_hex(out: &mut [u8], at: usize, octets: &[u8]) -> usize
     ensures { λ r. ⌜ (r, now (out .exit)) ≡ appended at (hexText (now (octets .entry))) (now (out .entry)) ⌝ }
 {
     if out.len() < at {
@@ -59,15 +69,22 @@ pub fn put_hex(out: &mut [u8], at: usize, octets: &[u8]) -> usize
     next
 }
 
+// Appends octets as hexadecimal, in lower case.
+pub fn put_hex(out: &mut Page, at: usize, octets: &[u8]) -> usize
+    ensures { λ r. ⌜ (r, now (out .exit)) ≡ appended at (hexText (now (octets .entry))) (now (out .entry)) ⌝ }
+{
+    append_hex(out, at, octets)
+}
+
 // Appends an octet as two hexadecimal digits.
-pub fn put_hex_octet(out: &mut [u8], at: usize, octet: u8) -> usize
+pub fn put_hex_octet(out: &mut Page, at: usize, octet: u8) -> usize
     ensures { λ r. ⌜ (r, now (out .exit)) ≡ appended at (hexText (octet ∷ [])) (now (out .entry)) ⌝ }
 {
     put_hex(out, at, &[octet])
 }
 
 // Appends a number in decimal.
-pub fn put_decimal(out: &mut [u8], at: usize, n: u64) -> usize
+pub fn put_decimal(out: &mut Page, at: usize, n: u64) -> usize
     ensures { λ r. ⌜ (r, now (out .exit)) ≡ appended at (decimalText n) (now (out .entry)) ⌝ }
 {
     let mut text = [0u8; 20];

@@ -1,5 +1,6 @@
 // Times and validity periods.
 ghost use Prim.Native.Nat.{_<_};
+use page::Page;
 use refusals::number_of;
 
 // What is no digit, and no number of two digits.
@@ -90,7 +91,7 @@ fn two_digits(digits: &[u8], i: usize) -> &[u8]
 }
 
 // Date and time: each two digits behind what separates them.
-fn put_date_and_time(out: &mut [u8], at: usize, digits: &[u8]) -> usize {
+fn put_date_and_time(out: &mut Page, at: usize, digits: &[u8]) -> usize {
     let separators = b"20\n-\n-\n \n:\n:\n";
     let mut place = at;
     let mut i = 0;
@@ -103,7 +104,7 @@ fn put_date_and_time(out: &mut [u8], at: usize, digits: &[u8]) -> usize {
 }
 
 // A zone: ` +01:00`.
-fn put_zone(out: &mut [u8], at: usize, tens: u8, ones: u8) -> usize {
+fn put_zone(out: &mut Page, at: usize, tens: u8, ones: u8) -> usize {
     let quarters = zone_quarters(tens, ones);
     let hours = quarters / 4;
     let minutes = quarters % 4 * 15;
@@ -120,7 +121,7 @@ fn put_zone(out: &mut [u8], at: usize, tens: u8, ones: u8) -> usize {
 }
 
 // The digits YYMMDDhhmmssZZ as `2024-02-15 12:30:45 +00:00`, or as they are.
-pub fn put_time(out: &mut [u8], at: usize, digits: [u8; 14]) -> usize {
+pub fn put_time(out: &mut Page, at: usize, digits: [u8; 14]) -> usize {
     if !is_calendar_time(&digits) {
         let behind = page::put(out, at, &digits);
         return page::put(out, behind, b" (no calendar time)");
@@ -139,7 +140,7 @@ const DAY: usize = 4;
 const WEEK: usize = 6;
 
 // A number of units: `1 hour`, `2 days`.
-fn put_count(out: &mut [u8], at: usize, n: u64, unit: usize) -> usize
+fn put_count(out: &mut Page, at: usize, n: u64, unit: usize) -> usize
     requires { ⌜ unit < 8 ⌝ }
 {
     let units = b" minute\n minutes\n hour\n hours\n day\n days\n week\n weeks\n";
@@ -149,7 +150,7 @@ fn put_count(out: &mut [u8], at: usize, n: u64, unit: usize) -> usize
 }
 
 // Minutes as hours and minutes.
-fn put_minutes(out: &mut [u8], at: usize, minutes: u64) -> usize {
+fn put_minutes(out: &mut Page, at: usize, minutes: u64) -> usize {
     if minutes < 60 {
         return put_count(out, at, minutes, MINUTE);
     }
@@ -161,7 +162,7 @@ fn put_minutes(out: &mut [u8], at: usize, minutes: u64) -> usize {
     put_count(out, space, minutes % 60, MINUTE)
 }
 
-fn put_period(out: &mut [u8], at: usize, v: u8) -> usize {
+fn put_period(out: &mut Page, at: usize, v: u8) -> usize {
     match v {
         0..=143 => put_minutes(out, at, (v as u64 + 1) * 5),
         144..=167 => put_minutes(out, at, 12 * 60 + (v as u64 - 143) * 30),
@@ -171,7 +172,7 @@ fn put_period(out: &mut [u8], at: usize, v: u8) -> usize {
 }
 
 // A relative validity period (TS 23.040 §9.2.3.12.1): `relative 170 (4 days)`.
-pub fn put_relative(out: &mut [u8], at: usize, v: u8) -> usize {
+pub fn put_relative(out: &mut Page, at: usize, v: u8) -> usize {
     let format = page::put(out, at, b"relative ");
     let value = page::put_decimal(out, format, v as u64);
     let opened = page::put(out, value, b" (");

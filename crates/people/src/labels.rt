@@ -1,4 +1,6 @@
 // The labels of lines, by number.
+use page::Page;
+
 pub const FROM: usize = 0;
 
 pub const TO: usize = 1;
@@ -30,7 +32,7 @@ pub const DATA: usize = 13;
 pub const REFUSED: usize = 14;
 
 // The start of a line: the label of a number, indented, and spaces up to its value.
-pub fn put_label(out: &mut [u8], at: usize, label: usize) -> usize {
+pub fn put_label(out: &mut Page, at: usize, label: usize) -> usize {
     let labels = b"\
         from      \n\
         to        \n\

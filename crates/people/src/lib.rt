@@ -1,10 +1,5 @@
 // Messages shown for people: the kind, and a line for each part. A word that does not fit the page is left out.
 
-mod calendar;
-mod labels;
-mod words;
-
-use crate::labels::put_label;
 use address::SMSAddress;
 use characters::first;
 use coding::UserData;
@@ -12,7 +7,12 @@ use coding::UserDataCoding;
 use deliver::SmsDeliver;
 use deliver_report::SmsDeliverReport;
 use header::unpack_gsm7_with_header;
+use meanings::calendar;
+use meanings::codes;
+use meanings::labels;
+use meanings::labels::put_label;
 use optional::OptionalOctet;
+use page::Page;
 use refusals::number_of;
 use refusals::put_words_of;
 use status_report::SmsStatusReport;
@@ -24,16 +24,16 @@ use validity::ValidityPeriod;
 
 const INTERNATIONAL: u8 = 1;
 
-fn end_line(out: &mut [u8], at: usize) -> usize {
+fn end_line(out: &mut Page, at: usize) -> usize {
     page::put(out, at, b"\n")
 }
 
-fn put_empty(out: &mut [u8], at: usize) -> usize {
+fn put_empty(out: &mut Page, at: usize) -> usize {
     page::put(out, at, b"(empty)")
 }
 
 // Octets in hexadecimal.
-fn put_octets(out: &mut [u8], at: usize, octets: &[u8]) -> usize {
+fn put_octets(out: &mut Page, at: usize, octets: &[u8]) -> usize {
     if octets.len() == 0 {
         return put_empty(out, at);
     }
@@ -41,14 +41,14 @@ fn put_octets(out: &mut [u8], at: usize, octets: &[u8]) -> usize {
 }
 
 // A line of octets.
-fn put_octets_line(out: &mut [u8], at: usize, label: usize, octets: &[u8]) -> usize {
+fn put_octets_line(out: &mut Page, at: usize, label: usize, octets: &[u8]) -> usize {
     let start = put_label(out, at, label);
     let end = put_octets(out, start, octets);
     end_line(out, end)
 }
 
 // A text in UTF-8.
-fn put_text(out: &mut [u8], at: usize, text: &[u8]) -> usize {
+fn put_text(out: &mut Page, at: usize, text: &[u8]) -> usize {
     if text.len() == 0 {
         return put_empty(out, at);
     }
@@ -56,26 +56,26 @@ fn put_text(out: &mut [u8], at: usize, text: &[u8]) -> usize {
 }
 
 // A text in UTF-16.
-fn put_utf16(out: &mut [u8], at: usize, octets: &[u8]) -> usize {
+fn put_utf16(out: &mut Page, at: usize, octets: &[u8]) -> usize {
     if octets.len() == 0 {
         return put_empty(out, at);
     }
     characters::put_utf16(out, at, octets)
 }
 
-fn put_text_line(out: &mut [u8], at: usize, text: &[u8]) -> usize {
+fn put_text_line(out: &mut Page, at: usize, text: &[u8]) -> usize {
     let start = put_label(out, at, labels::TEXT);
     let end = put_text(out, start, text);
     end_line(out, end)
 }
 
-fn put_utf16_line(out: &mut [u8], at: usize, octets: &[u8]) -> usize {
+fn put_utf16_line(out: &mut Page, at: usize, octets: &[u8]) -> usize {
     let start = put_label(out, at, labels::TEXT);
     let end = put_utf16(out, start, octets);
     end_line(out, end)
 }
 
-fn put_plus(out: &mut [u8], at: usize, ton: u8) -> usize {
+fn put_plus(out: &mut Page, at: usize, ton: u8) -> usize {
     if ton == INTERNATIONAL {
         return page::put(out, at, b"+");
     }
@@ -83,7 +83,7 @@ fn put_plus(out: &mut [u8], at: usize, ton: u8) -> usize {
 }
 
 // An address: its text, behind a plus if its type is international.
-fn put_address(out: &mut [u8], at: usize, address: SMSAddress) -> usize {
+fn put_address(out: &mut Page, at: usize, address: SMSAddress) -> usize {
     let text = address.address;
     let n = address.address_length;
     if n == 0 {
@@ -93,14 +93,14 @@ fn put_address(out: &mut [u8], at: usize, address: SMSAddress) -> usize {
     characters::put_text(out, plus, first(&text, n))
 }
 
-fn put_address_line(out: &mut [u8], at: usize, label: usize, address: SMSAddress) -> usize {
+fn put_address_line(out: &mut Page, at: usize, label: usize, address: SMSAddress) -> usize {
     let start = put_label(out, at, label);
     let end = put_address(out, start, address);
     end_line(out, end)
 }
 
 // No line if the time is absent.
-fn put_time_line(out: &mut [u8], at: usize, label: usize, time: Time) -> usize {
+fn put_time_line(out: &mut Page, at: usize, label: usize, time: Time) -> usize {
     if time.length == 0 {
         return at;
     }
@@ -110,34 +110,34 @@ fn put_time_line(out: &mut [u8], at: usize, label: usize, time: Time) -> usize {
     end_line(out, end)
 }
 
-fn put_reference_line(out: &mut [u8], at: usize, reference: u8) -> usize {
+fn put_reference_line(out: &mut Page, at: usize, reference: u8) -> usize {
     let start = put_label(out, at, labels::REFERENCE);
     let end = page::put_decimal(out, start, reference as u64);
     end_line(out, end)
 }
 
-fn put_coding_line(out: &mut [u8], at: usize, dcs: u8) -> usize {
+fn put_coding_line(out: &mut Page, at: usize, dcs: u8) -> usize {
     let start = put_label(out, at, labels::CODING);
-    let end = words::put_coding(out, start, dcs);
+    let end = codes::put_coding(out, start, dcs);
     end_line(out, end)
 }
 
 // A message that is refused, by the refusal's number.
-fn put_refused(out: &mut [u8], at: usize, refusal: u8) -> usize {
+fn put_refused(out: &mut Page, at: usize, refusal: u8) -> usize {
     let start = put_label(out, at, labels::REFUSED);
     let end = put_words_of(out, start, refusal);
     end_line(out, end)
 }
 
 // The refusal of a number, in parentheses.
-fn put_reason(out: &mut [u8], at: usize, refusal: u8) -> usize {
+fn put_reason(out: &mut Page, at: usize, refusal: u8) -> usize {
     let opened = page::put(out, at, b" (");
     let behind = put_words_of(out, opened, refusal);
     page::put(out, behind, b")")
 }
 
 // Data that can't be read as text, and why.
-fn put_unread_line(out: &mut [u8], at: usize, data: &[u8], refusal: u8) -> usize {
+fn put_unread_line(out: &mut Page, at: usize, data: &[u8], refusal: u8) -> usize {
     let start = put_label(out, at, labels::DATA);
     let octets = put_octets(out, start, data);
     let end = put_reason(out, octets, refusal);
@@ -145,7 +145,7 @@ fn put_unread_line(out: &mut [u8], at: usize, data: &[u8], refusal: u8) -> usize
 }
 
 // A text, or the data that it couldn't be read from; no refusal is number 0.
-fn put_text_or_data(out: &mut [u8], at: usize, refusal: u8, text: &[u8], data: &[u8]) -> usize {
+fn put_text_or_data(out: &mut Page, at: usize, refusal: u8, text: &[u8], data: &[u8]) -> usize {
     if refusal == 0 {
         return put_text_line(out, at, text);
     }
@@ -153,7 +153,7 @@ fn put_text_or_data(out: &mut [u8], at: usize, refusal: u8, text: &[u8], data: &
 }
 
 // 7-bit text.
-fn put_septets(out: &mut [u8], at: usize, udl: u8, data: &[u8]) -> usize {
+fn put_septets(out: &mut Page, at: usize, udl: u8, data: &[u8]) -> usize {
     let read = unpack_gsm7(data, udl as usize);
     let text = read.text;
     let outcome = read.outcome;
@@ -162,7 +162,7 @@ fn put_septets(out: &mut [u8], at: usize, udl: u8, data: &[u8]) -> usize {
 }
 
 // The header of a text that was read.
-fn put_header_line(out: &mut [u8], at: usize, refusal: u8, header: &[u8]) -> usize {
+fn put_header_line(out: &mut Page, at: usize, refusal: u8, header: &[u8]) -> usize {
     if refusal == 0 {
         return put_octets_line(out, at, labels::HEADER, header);
     }
@@ -170,7 +170,7 @@ fn put_header_line(out: &mut [u8], at: usize, refusal: u8, header: &[u8]) -> usi
 }
 
 // A header and 7-bit text.
-fn put_septets_with_header(out: &mut [u8], at: usize, udl: u8, data: &[u8]) -> usize {
+fn put_septets_with_header(out: &mut Page, at: usize, udl: u8, data: &[u8]) -> usize {
     let read = unpack_gsm7_with_header(data, udl as usize);
     let header = read.header;
     let text = read.text;
@@ -181,7 +181,7 @@ fn put_septets_with_header(out: &mut [u8], at: usize, udl: u8, data: &[u8]) -> u
 }
 
 // Text if the coding is UCS2, else data.
-fn put_units(out: &mut [u8], at: usize, coding: UserDataCoding, data: &[u8]) -> usize {
+fn put_units(out: &mut Page, at: usize, coding: UserDataCoding, data: &[u8]) -> usize {
     match coding {
         UserDataCoding::Ucs2 => put_utf16_line(out, at, data),
         _ => put_octets_line(out, at, labels::DATA, data),
@@ -194,7 +194,7 @@ fn header_octets(first: u8) -> usize {
 }
 
 // A header of whole octets and what is behind it; data if the header doesn't fit.
-fn put_units_with_header(out: &mut [u8], at: usize, coding: UserDataCoding, data: &[u8]) -> usize {
+fn put_units_with_header(out: &mut Page, at: usize, coding: UserDataCoding, data: &[u8]) -> usize {
     if data.len() == 0 {
         return put_octets_line(out, at, labels::DATA, data);
     }
@@ -208,7 +208,7 @@ fn put_units_with_header(out: &mut [u8], at: usize, coding: UserDataCoding, data
 
 // The header, if there is one, and the text or data.
 fn put_held(
-    out: &mut [u8],
+    out: &mut Page,
     at: usize,
     udhi: bool,
     coding: UserDataCoding,
@@ -234,7 +234,7 @@ fn put_held(
 }
 
 // The coding, the header and the text or data.
-fn put_user_data(out: &mut [u8], at: usize, udhi: bool, dcs: u8, udl: u8, data: UserData) -> usize {
+fn put_user_data(out: &mut Page, at: usize, udhi: bool, dcs: u8, udl: u8, data: UserData) -> usize {
     let octets = data.octets;
     let held = first(&octets, data.length);
     let next = put_coding_line(out, at, dcs);
@@ -243,7 +243,7 @@ fn put_user_data(out: &mut [u8], at: usize, udhi: bool, dcs: u8, udl: u8, data: 
 
 // The user data of a report; the coding alone if only that is held. No DCS means 0.
 fn put_parameters(
-    out: &mut [u8],
+    out: &mut Page,
     at: usize,
     udhi: bool,
     dcs: OptionalOctet,
@@ -261,21 +261,21 @@ fn put_parameters(
     }
 }
 
-fn put_held_cause_line(out: &mut [u8], at: usize, cause: u8) -> usize {
+fn put_held_cause_line(out: &mut Page, at: usize, cause: u8) -> usize {
     let start = put_label(out, at, labels::CAUSE);
-    let end = words::put_cause(out, start, cause);
+    let end = codes::put_cause(out, start, cause);
     end_line(out, end)
 }
 
 // No line without a cause.
-fn put_cause_line(out: &mut [u8], at: usize, cause: OptionalOctet) -> usize {
+fn put_cause_line(out: &mut Page, at: usize, cause: OptionalOctet) -> usize {
     match cause {
         OptionalOctet::Absent => at,
         OptionalOctet::Present(x) => put_held_cause_line(out, at, x),
     }
 }
 
-fn put_deliver(out: &mut [u8], at: usize, refusal: u8, message: SmsDeliver) -> usize {
+fn put_deliver(out: &mut Page, at: usize, refusal: u8, message: SmsDeliver) -> usize {
     if refusal != 0 {
         return put_refused(out, at, refusal);
     }
@@ -291,19 +291,19 @@ fn put_deliver(out: &mut [u8], at: usize, refusal: u8, message: SmsDeliver) -> u
     )
 }
 
-fn read_deliver(data: &[u8], out: &mut [u8], at: usize) -> usize {
+fn read_deliver(data: &[u8], out: &mut Page, at: usize) -> usize {
     let read = SmsDeliver::decode(data);
     let outcome = read.outcome;
     put_deliver(out, at, number_of(outcome), read.message)
 }
 
 // Shows an SMS-DELIVER; the place behind it.
-pub fn show_deliver(data: &[u8], out: &mut [u8], at: usize) -> usize {
+pub fn show_deliver(data: &[u8], out: &mut Page, at: usize) -> usize {
     let start = page::put(out, at, b"SMS-DELIVER\n");
     read_deliver(data, out, start)
 }
 
-fn put_relative_line(out: &mut [u8], at: usize, period: u8) -> usize {
+fn put_relative_line(out: &mut Page, at: usize, period: u8) -> usize {
     let start = put_label(out, at, labels::VALID);
     let end = calendar::put_relative(out, start, period);
     end_line(out, end)
@@ -311,7 +311,7 @@ fn put_relative_line(out: &mut [u8], at: usize, period: u8) -> usize {
 
 // No line without a validity period.
 fn put_validity_line(
-    out: &mut [u8],
+    out: &mut Page,
     at: usize,
     period: ValidityPeriod,
     time: Time,
@@ -325,7 +325,7 @@ fn put_validity_line(
     }
 }
 
-fn put_destination(out: &mut [u8], at: usize, is_held: bool, address: SMSAddress) -> usize {
+fn put_destination(out: &mut Page, at: usize, is_held: bool, address: SMSAddress) -> usize {
     if is_held {
         return put_address_line(out, at, labels::TO, address);
     }
@@ -333,7 +333,7 @@ fn put_destination(out: &mut [u8], at: usize, is_held: bool, address: SMSAddress
     page::put(out, start, b"no destination\n")
 }
 
-fn put_request(out: &mut [u8], at: usize, is_requested: bool) -> usize {
+fn put_request(out: &mut Page, at: usize, is_requested: bool) -> usize {
     if is_requested {
         let start = put_label(out, at, labels::REPORT);
         return page::put(out, start, b"requested\n");
@@ -342,7 +342,7 @@ fn put_request(out: &mut [u8], at: usize, is_requested: bool) -> usize {
 }
 
 // What stands before the user data of a SUBMIT.
-fn put_submit_head(out: &mut [u8], at: usize, message: SmsSubmit) -> usize {
+fn put_submit_head(out: &mut Page, at: usize, message: SmsSubmit) -> usize {
     let period = message.tp_validity_period;
     let octets = message.validity_period_octets;
     let p1 = put_destination(
@@ -356,7 +356,7 @@ fn put_submit_head(out: &mut [u8], at: usize, message: SmsSubmit) -> usize {
     put_request(out, p3, message.tp_srr)
 }
 
-fn put_submit(out: &mut [u8], at: usize, refusal: u8, message: SmsSubmit) -> usize {
+fn put_submit(out: &mut Page, at: usize, refusal: u8, message: SmsSubmit) -> usize {
     if refusal != 0 {
         return put_refused(out, at, refusal);
     }
@@ -371,19 +371,19 @@ fn put_submit(out: &mut [u8], at: usize, refusal: u8, message: SmsSubmit) -> usi
     )
 }
 
-fn read_submit(data: &[u8], out: &mut [u8], at: usize) -> usize {
+fn read_submit(data: &[u8], out: &mut Page, at: usize) -> usize {
     let read = submit::decode_sms_submit_tpdu(data);
     let outcome = read.outcome;
     put_submit(out, at, number_of(outcome), read.message)
 }
 
 // Shows an SMS-SUBMIT; the place behind it.
-pub fn show_submit(data: &[u8], out: &mut [u8], at: usize) -> usize {
+pub fn show_submit(data: &[u8], out: &mut Page, at: usize) -> usize {
     let start = page::put(out, at, b"SMS-SUBMIT\n");
     read_submit(data, out, start)
 }
 
-fn put_submit_report(out: &mut [u8], at: usize, refusal: u8, message: SmsSubmitReport) -> usize {
+fn put_submit_report(out: &mut Page, at: usize, refusal: u8, message: SmsSubmitReport) -> usize {
     if refusal != 0 {
         return put_refused(out, at, refusal);
     }
@@ -402,31 +402,31 @@ fn put_submit_report(out: &mut [u8], at: usize, refusal: u8, message: SmsSubmitR
     )
 }
 
-fn read_submit_report_ack(data: &[u8], out: &mut [u8], at: usize) -> usize {
+fn read_submit_report_ack(data: &[u8], out: &mut Page, at: usize) -> usize {
     let read = SmsSubmitReport::decode_for_rp_ack(data);
     let outcome = read.outcome;
     put_submit_report(out, at, number_of(outcome), read.message)
 }
 
 // Shows an SMS-SUBMIT-REPORT of an RP-ACK; the place behind it.
-pub fn show_submit_report_ack(data: &[u8], out: &mut [u8], at: usize) -> usize {
+pub fn show_submit_report_ack(data: &[u8], out: &mut Page, at: usize) -> usize {
     let start = page::put(out, at, b"SMS-SUBMIT-REPORT (RP-ACK)\n");
     read_submit_report_ack(data, out, start)
 }
 
-fn read_submit_report_error(data: &[u8], out: &mut [u8], at: usize) -> usize {
+fn read_submit_report_error(data: &[u8], out: &mut Page, at: usize) -> usize {
     let read = SmsSubmitReport::decode_for_rp_error(data);
     let outcome = read.outcome;
     put_submit_report(out, at, number_of(outcome), read.message)
 }
 
 // Shows an SMS-SUBMIT-REPORT of an RP-ERROR; the place behind it.
-pub fn show_submit_report_error(data: &[u8], out: &mut [u8], at: usize) -> usize {
+pub fn show_submit_report_error(data: &[u8], out: &mut Page, at: usize) -> usize {
     let start = page::put(out, at, b"SMS-SUBMIT-REPORT (RP-ERROR)\n");
     read_submit_report_error(data, out, start)
 }
 
-fn put_deliver_report(out: &mut [u8], at: usize, refusal: u8, message: SmsDeliverReport) -> usize {
+fn put_deliver_report(out: &mut Page, at: usize, refusal: u8, message: SmsDeliverReport) -> usize {
     if refusal != 0 {
         return put_refused(out, at, refusal);
     }
@@ -437,44 +437,44 @@ fn put_deliver_report(out: &mut [u8], at: usize, refusal: u8, message: SmsDelive
     put_parameters(out, next, message.tp_udhi, dcs, udl, message.tp_user_data)
 }
 
-fn read_deliver_report_ack(data: &[u8], out: &mut [u8], at: usize) -> usize {
+fn read_deliver_report_ack(data: &[u8], out: &mut Page, at: usize) -> usize {
     let read = SmsDeliverReport::decode_for_rp_ack(data);
     let outcome = read.outcome;
     put_deliver_report(out, at, number_of(outcome), read.message)
 }
 
 // Shows an SMS-DELIVER-REPORT of an RP-ACK; the place behind it.
-pub fn show_deliver_report_ack(data: &[u8], out: &mut [u8], at: usize) -> usize {
+pub fn show_deliver_report_ack(data: &[u8], out: &mut Page, at: usize) -> usize {
     let start = page::put(out, at, b"SMS-DELIVER-REPORT (RP-ACK)\n");
     read_deliver_report_ack(data, out, start)
 }
 
-fn read_deliver_report_error(data: &[u8], out: &mut [u8], at: usize) -> usize {
+fn read_deliver_report_error(data: &[u8], out: &mut Page, at: usize) -> usize {
     let read = SmsDeliverReport::decode_for_rp_error(data);
     let outcome = read.outcome;
     put_deliver_report(out, at, number_of(outcome), read.message)
 }
 
 // Shows an SMS-DELIVER-REPORT of an RP-ERROR; the place behind it.
-pub fn show_deliver_report_error(data: &[u8], out: &mut [u8], at: usize) -> usize {
+pub fn show_deliver_report_error(data: &[u8], out: &mut Page, at: usize) -> usize {
     let start = page::put(out, at, b"SMS-DELIVER-REPORT (RP-ERROR)\n");
     read_deliver_report_error(data, out, start)
 }
 
-fn put_status_line(out: &mut [u8], at: usize, status: u8) -> usize {
+fn put_status_line(out: &mut Page, at: usize, status: u8) -> usize {
     let start = put_label(out, at, labels::STATUS);
-    let end = words::put_status(out, start, status);
+    let end = codes::put_status(out, start, status);
     end_line(out, end)
 }
 
 // When a message was sent, when it was done with, and how.
-fn put_done(out: &mut [u8], at: usize, sent: Time, done: Time, status: u8) -> usize {
+fn put_done(out: &mut Page, at: usize, sent: Time, done: Time, status: u8) -> usize {
     let p1 = put_time_line(out, at, labels::SENT, sent);
     let p2 = put_time_line(out, p1, labels::DONE, done);
     put_status_line(out, p2, status)
 }
 
-fn put_status_report(out: &mut [u8], at: usize, refusal: u8, message: SmsStatusReport) -> usize {
+fn put_status_report(out: &mut Page, at: usize, refusal: u8, message: SmsStatusReport) -> usize {
     if refusal != 0 {
         return put_refused(out, at, refusal);
     }
@@ -492,14 +492,14 @@ fn put_status_report(out: &mut [u8], at: usize, refusal: u8, message: SmsStatusR
     put_parameters(out, p3, message.tp_udhi, dcs, udl, message.tp_user_data)
 }
 
-fn read_status_report(data: &[u8], out: &mut [u8], at: usize) -> usize {
+fn read_status_report(data: &[u8], out: &mut Page, at: usize) -> usize {
     let read = SmsStatusReport::decode(data);
     let outcome = read.outcome;
     put_status_report(out, at, number_of(outcome), read.message)
 }
 
 // Shows an SMS-STATUS-REPORT; the place behind it.
-pub fn show_status_report(data: &[u8], out: &mut [u8], at: usize) -> usize {
+pub fn show_status_report(data: &[u8], out: &mut Page, at: usize) -> usize {
     let start = page::put(out, at, b"SMS-STATUS-REPORT\n");
     read_status_report(data, out, start)
 }

@@ -1,5 +1,6 @@
 // The words of octets that stand for a meaning: coding schemes, statuses and causes.
 use coding::UserDataCoding;
+use page::Page;
 
 // The number of a coding in the list of their names.
 fn coding_number(coding: UserDataCoding) -> usize {
@@ -11,21 +12,21 @@ fn coding_number(coding: UserDataCoding) -> usize {
     }
 }
 
-fn put_coding_name(out: &mut [u8], at: usize, dcs: u8) -> usize {
+fn put_coding_name(out: &mut Page, at: usize, dcs: u8) -> usize {
     let names = b"7-bit (DCS \n8-bit (DCS \nUCS2 (DCS \ncompressed (DCS \n";
     let n = coding_number(coding::user_data_coding(dcs));
     page::put(out, at, page::word(names, n))
 }
 
 // A coding's name with its TP-DCS: `7-bit (DCS 00)`.
-pub fn put_coding(out: &mut [u8], at: usize, dcs: u8) -> usize {
+pub fn put_coding(out: &mut Page, at: usize, dcs: u8) -> usize {
     let name = put_coding_name(out, at, dcs);
     let octet = page::put_hex_octet(out, name, dcs);
     page::put(out, octet, b")")
 }
 
 // The words of an octet in a list, or that it is reserved.
-fn put_meaning(out: &mut [u8], at: usize, list: &[u8], octet: u8) -> usize {
+fn put_meaning(out: &mut Page, at: usize, list: &[u8], octet: u8) -> usize {
     let words = page::words_of(list, octet);
     if words.len() == 0 {
         return page::put(out, at, b"Reserved");
@@ -34,13 +35,13 @@ fn put_meaning(out: &mut [u8], at: usize, list: &[u8], octet: u8) -> usize {
 }
 
 // An octet in hexadecimal and a space.
-fn put_octet(out: &mut [u8], at: usize, octet: u8) -> usize {
+fn put_octet(out: &mut Page, at: usize, octet: u8) -> usize {
     let behind = page::put_hex_octet(out, at, octet);
     page::put(out, behind, b" ")
 }
 
 // What a group of 32 statuses says of the transaction.
-fn put_status_group(out: &mut [u8], at: usize, status: u8) -> usize {
+fn put_status_group(out: &mut Page, at: usize, status: u8) -> usize {
     let groups = b"\
         transaction completed: \n\
         temporary error, still trying: \n\
@@ -50,7 +51,7 @@ fn put_status_group(out: &mut [u8], at: usize, status: u8) -> usize {
 }
 
 // The statuses that have a meaning of their own; those from 60 on are those from 20 on.
-fn put_common_status(out: &mut [u8], at: usize, status: u8) -> usize {
+fn put_common_status(out: &mut Page, at: usize, status: u8) -> usize {
     let list = b"\
         \x00Short message received by the SME\n\
         \x01Short message forwarded by the SC to the SME but the SC is unable to confirm delivery\n\
@@ -74,7 +75,7 @@ fn put_common_status(out: &mut [u8], at: usize, status: u8) -> usize {
     put_meaning(out, at, list, status)
 }
 
-fn put_status_meaning(out: &mut [u8], at: usize, status: u8) -> usize {
+fn put_status_meaning(out: &mut Page, at: usize, status: u8) -> usize {
     match status {
         0x10..=0x1F | 0x30..=0x3F | 0x50..=0x5F | 0x70..=0x7F => {
             page::put(out, at, b"Values specific to each SC")
@@ -85,14 +86,14 @@ fn put_status_meaning(out: &mut [u8], at: usize, status: u8) -> usize {
 }
 
 // A TP-Status and what it means (TS 23.040 §9.2.3.15).
-pub fn put_status(out: &mut [u8], at: usize, status: u8) -> usize {
+pub fn put_status(out: &mut Page, at: usize, status: u8) -> usize {
     let octet = put_octet(out, at, status);
     let group = put_status_group(out, octet, status);
     put_status_meaning(out, group, status)
 }
 
 // The causes from 80 on: protocol identifier and coding scheme, commands and messages, the service centre's, the mobile station's.
-fn put_common_cause(out: &mut [u8], at: usize, cause: u8) -> usize {
+fn put_common_cause(out: &mut Page, at: usize, cause: u8) -> usize {
     let list = b"\
         \x80Telematic interworking not supported\n\
         \x81Short message Type 0 not supported\n\
@@ -123,7 +124,7 @@ fn put_common_cause(out: &mut [u8], at: usize, cause: u8) -> usize {
     put_meaning(out, at, list, cause)
 }
 
-fn put_cause_meaning(out: &mut [u8], at: usize, cause: u8) -> usize {
+fn put_cause_meaning(out: &mut Page, at: usize, cause: u8) -> usize {
     match cause {
         0xE0..=0xFE => page::put(out, at, b"Values specific to an application"),
         _ => put_common_cause(out, at, cause),
@@ -131,7 +132,7 @@ fn put_cause_meaning(out: &mut [u8], at: usize, cause: u8) -> usize {
 }
 
 // A TP-Failure-Cause and what it means (TS 23.040 §9.2.3.22).
-pub fn put_cause(out: &mut [u8], at: usize, cause: u8) -> usize {
+pub fn put_cause(out: &mut Page, at: usize, cause: u8) -> usize {
     let octet = put_octet(out, at, cause);
     put_cause_meaning(out, octet, cause)
 }

@@ -1,13 +1,11 @@
-// The requests that name a reader: the fields of the record that it gives, and the octets that its writer gives back.
+// The requests that name a reader: the fields of the record that it gives.
 use address::SMSAddress;
 use coding::UserData;
 use deliver::SmsDeliver;
 use deliver_report::SmsDeliverReport;
-use lines::fields::part;
-use lines::fields::word_number;
 use lines::writing;
-use octets::Written;
 use optional::OptionalOctet;
+use page::Page;
 use refusals::number_of;
 use status_report::SmsStatusReport;
 use submit::SmsSubmit;
@@ -15,6 +13,8 @@ use submit::SubmitText;
 use submit_report::SmsSubmitReport;
 use time::Time;
 use validity::ValidityPeriod;
+use words::part;
+use words::word_number;
 
 pub enum Reader {
     Deliver,
@@ -51,44 +51,58 @@ pub fn reader_named(name: &[u8]) -> Reader {
 // ---- fields
 
 // Each function of a message takes the number of the refusal, which is 0 if there is none.
-fn refused(out: &mut [u8], at: usize, refusal: u8) -> usize {
+fn refused(out: &mut Page, at: usize, refusal: u8) -> usize {
     writing::refused_by_number(out, at, refusal, false)
 }
 
-fn address(out: &mut [u8], at: usize, a: SMSAddress) -> usize {
+fn address(out: &mut Page, at: usize, a: SMSAddress) -> usize {
     let text = a.address;
     let next = writing::numbers(out, at, b" ton=\n npi=\n", &[a.ton, a.npi]);
     writing::octets(out, next, b" address=", part(&text, 0, a.address_length))
 }
 
-fn protocol_and_coding(out: &mut [u8], at: usize, pid: u8, dcs: u8) -> usize {
+fn protocol_and_coding(out: &mut Page, at: usize, pid: u8, dcs: u8) -> usize {
     let next = writing::octet(out, at, b" pid=", pid);
     writing::octet(out, next, b" dcs=", dcs)
 }
 
-fn user_data(out: &mut [u8], at: usize, udl: u8, ud: UserData) -> usize {
+fn user_data(out: &mut Page, at: usize, udl: u8, ud: UserData) -> usize {
     let next = writing::number(out, at, b" udl=", udl);
     writing::data(out, next, b" ud=", ud)
 }
 
+fn optional_number(out: &mut Page, at: usize, name: &[u8], n: OptionalOctet) -> usize {
+    match n {
+        OptionalOctet::Present(x) => writing::number(out, at, name, x),
+        OptionalOctet::Absent => writing::absent(out, at, name),
+    }
+}
+
+fn optional_octet(out: &mut Page, at: usize, name: &[u8], x: OptionalOctet) -> usize {
+    match x {
+        OptionalOctet::Present(y) => writing::octet(out, at, name, y),
+        OptionalOctet::Absent => writing::absent(out, at, name),
+    }
+}
+
 fn optional_protocol_and_coding(
-    out: &mut [u8],
+    out: &mut Page,
     at: usize,
     pid: OptionalOctet,
     dcs: OptionalOctet,
 ) -> usize {
-    let next = writing::optional_octet(out, at, b" pid=", pid);
-    writing::optional_octet(out, next, b" dcs=", dcs)
+    let next = optional_octet(out, at, b" pid=", pid);
+    optional_octet(out, next, b" dcs=", dcs)
 }
 
-fn optional_user_data(out: &mut [u8], at: usize, udl: OptionalOctet, ud: UserData) -> usize {
-    let next = writing::optional_number(out, at, b" udl=", udl);
+fn optional_user_data(out: &mut Page, at: usize, udl: OptionalOctet, ud: UserData) -> usize {
+    let next = optional_number(out, at, b" udl=", udl);
     writing::data(out, next, b" ud=", ud)
 }
 
 // The parameters of a report.
 fn parameters(
-    out: &mut [u8],
+    out: &mut Page,
     at: usize,
     pid: OptionalOctet,
     dcs: OptionalOctet,
@@ -100,7 +114,7 @@ fn parameters(
 }
 
 fn deliver_numbers(
-    out: &mut [u8],
+    out: &mut Page,
     at: usize,
     rp: bool,
     udhi: bool,
@@ -114,12 +128,12 @@ fn deliver_numbers(
     writing::numbers(out, at, names, &values)
 }
 
-fn time_and_data(out: &mut [u8], at: usize, scts: Time, udl: u8, ud: UserData) -> usize {
+fn time_and_data(out: &mut Page, at: usize, scts: Time, udl: u8, ud: UserData) -> usize {
     let next = writing::time(out, at, b" scts=", scts);
     user_data(out, next, udl, ud)
 }
 
-fn deliver(out: &mut [u8], at: usize, refusal: u8, m: SmsDeliver) -> usize {
+fn deliver(out: &mut Page, at: usize, refusal: u8, m: SmsDeliver) -> usize {
     if refusal != 0 {
         return refused(out, at, refusal);
     }
@@ -145,7 +159,7 @@ fn deliver(out: &mut [u8], at: usize, refusal: u8, m: SmsDeliver) -> usize {
 }
 
 fn submit_numbers(
-    out: &mut [u8],
+    out: &mut Page,
     at: usize,
     rp: bool,
     udhi: bool,
@@ -159,7 +173,7 @@ fn submit_numbers(
     writing::numbers(out, at, names, &values)
 }
 
-fn period(out: &mut [u8], at: usize, p: ValidityPeriod, digits: Time, octets: [u8; 7]) -> usize {
+fn period(out: &mut Page, at: usize, p: ValidityPeriod, digits: Time, octets: [u8; 7]) -> usize {
     match p {
         ValidityPeriod::None => writing::absent(out, at, b" vp="),
         ValidityPeriod::Relative(x) => writing::octet(out, at, b" vp=relative:", x),
@@ -168,20 +182,20 @@ fn period(out: &mut [u8], at: usize, p: ValidityPeriod, digits: Time, octets: [u
     }
 }
 
-fn header(out: &mut [u8], at: usize, is_there: bool, h: UserData) -> usize {
+fn header(out: &mut Page, at: usize, is_there: bool, h: UserData) -> usize {
     if is_there {
         return writing::data(out, at, b" header=", h);
     }
     writing::absent(out, at, b" header=")
 }
 
-fn text(out: &mut [u8], at: usize, t: SubmitText) -> usize {
+fn text(out: &mut Page, at: usize, t: SubmitText) -> usize {
     let octets = t.octets;
     writing::octets(out, at, b" text=", part(&octets, 0, t.length))
 }
 
 // What follows TP-DCS in a SUBMIT.
-fn behind_coding(out: &mut [u8], at: usize, m: SmsSubmit) -> usize {
+fn behind_coding(out: &mut Page, at: usize, m: SmsSubmit) -> usize {
     let form = m.tp_validity_period;
     let octets = m.validity_period_octets;
     let p1 = period(out, at, form, m.validity_period_digits, octets);
@@ -191,7 +205,7 @@ fn behind_coding(out: &mut [u8], at: usize, m: SmsSubmit) -> usize {
 }
 
 // What stands before TP-PID in a SUBMIT.
-fn before_protocol(out: &mut [u8], at: usize, m: SmsSubmit) -> usize {
+fn before_protocol(out: &mut Page, at: usize, m: SmsSubmit) -> usize {
     let p1 = submit_numbers(
         out,
         at,
@@ -206,12 +220,12 @@ fn before_protocol(out: &mut [u8], at: usize, m: SmsSubmit) -> usize {
     address(out, p2, m.tp_destination_address)
 }
 
-fn octets_read(out: &mut [u8], at: usize, count: usize) -> usize {
+fn octets_read(out: &mut Page, at: usize, count: usize) -> usize {
     let next = page::put(out, at, b"ok read=");
     page::put_decimal(out, next, count as u64)
 }
 
-fn submit(out: &mut [u8], at: usize, refusal: u8, count: usize, m: SmsSubmit) -> usize {
+fn submit(out: &mut Page, at: usize, refusal: u8, count: usize, m: SmsSubmit) -> usize {
     if refusal != 0 {
         return refused(out, at, refusal);
     }
@@ -222,12 +236,12 @@ fn submit(out: &mut [u8], at: usize, refusal: u8, count: usize, m: SmsSubmit) ->
 }
 
 // A failure cause and an indicator.
-fn cause_and_indicator(out: &mut [u8], at: usize, fcs: OptionalOctet, pi: u8) -> usize {
-    let next = writing::optional_octet(out, at, b" fcs=", fcs);
+fn cause_and_indicator(out: &mut Page, at: usize, fcs: OptionalOctet, pi: u8) -> usize {
+    let next = optional_octet(out, at, b" fcs=", fcs);
     writing::octet(out, next, b" pi=", pi)
 }
 
-fn submit_report(out: &mut [u8], at: usize, refusal: u8, m: SmsSubmitReport) -> usize {
+fn submit_report(out: &mut Page, at: usize, refusal: u8, m: SmsSubmitReport) -> usize {
     if refusal != 0 {
         return refused(out, at, refusal);
     }
@@ -241,7 +255,7 @@ fn submit_report(out: &mut [u8], at: usize, refusal: u8, m: SmsSubmitReport) -> 
     parameters(out, p3, pid, dcs, udl, m.tp_user_data)
 }
 
-fn deliver_report(out: &mut [u8], at: usize, refusal: u8, m: SmsDeliverReport) -> usize {
+fn deliver_report(out: &mut Page, at: usize, refusal: u8, m: SmsDeliverReport) -> usize {
     if refusal != 0 {
         return refused(out, at, refusal);
     }
@@ -255,7 +269,7 @@ fn deliver_report(out: &mut [u8], at: usize, refusal: u8, m: SmsDeliverReport) -
 }
 
 fn status_numbers(
-    out: &mut [u8],
+    out: &mut Page,
     at: usize,
     udhi: bool,
     srq: bool,
@@ -269,14 +283,14 @@ fn status_numbers(
     writing::octet(out, next, b" mr=", mr)
 }
 
-fn times_and_status(out: &mut [u8], at: usize, scts: Time, dt: Time, st: u8) -> usize {
+fn times_and_status(out: &mut Page, at: usize, scts: Time, dt: Time, st: u8) -> usize {
     let p1 = writing::time(out, at, b" scts=", scts);
     let p2 = writing::time(out, p1, b" dt=", dt);
     writing::octet(out, p2, b" st=", st)
 }
 
 // What stands before the indicator in a STATUS-REPORT.
-fn before_indicator(out: &mut [u8], at: usize, m: SmsStatusReport) -> usize {
+fn before_indicator(out: &mut Page, at: usize, m: SmsStatusReport) -> usize {
     let p1 = status_numbers(out, at, m.tp_udhi, m.tp_srq, m.tp_lp, m.tp_mms, m.tp_mr);
     let p2 = address(out, p1, m.tp_recipient_address);
     times_and_status(
@@ -288,7 +302,7 @@ fn before_indicator(out: &mut [u8], at: usize, m: SmsStatusReport) -> usize {
     )
 }
 
-fn status_report(out: &mut [u8], at: usize, refusal: u8, m: SmsStatusReport) -> usize {
+fn status_report(out: &mut Page, at: usize, refusal: u8, m: SmsStatusReport) -> usize {
     if refusal != 0 {
         return refused(out, at, refusal);
     }
@@ -297,56 +311,56 @@ fn status_report(out: &mut [u8], at: usize, refusal: u8, m: SmsStatusReport) -> 
     let dcs = m.tp_dcs;
     let udl = m.tp_user_data_length;
     let p1 = before_indicator(out, at, m);
-    let p2 = writing::optional_octet(out, p1, b" pi=", indicator);
+    let p2 = optional_octet(out, p1, b" pi=", indicator);
     parameters(out, p2, pid, dcs, udl, m.tp_user_data)
 }
 
 // ---- a reader's answer
 
-fn answer_deliver(octets: &[u8], out: &mut [u8], at: usize) -> usize {
+fn answer_deliver(octets: &[u8], out: &mut Page, at: usize) -> usize {
     let read = SmsDeliver::decode(octets);
     let outcome = read.outcome;
     deliver(out, at, number_of(outcome), read.message)
 }
 
-fn answer_submit(octets: &[u8], out: &mut [u8], at: usize) -> usize {
+fn answer_submit(octets: &[u8], out: &mut Page, at: usize) -> usize {
     let read = submit::decode_sms_submit_tpdu(octets);
     let outcome = read.outcome;
     submit(out, at, number_of(outcome), read.octets_read, read.message)
 }
 
-fn answer_submit_report_ack(octets: &[u8], out: &mut [u8], at: usize) -> usize {
+fn answer_submit_report_ack(octets: &[u8], out: &mut Page, at: usize) -> usize {
     let read = SmsSubmitReport::decode_for_rp_ack(octets);
     let outcome = read.outcome;
     submit_report(out, at, number_of(outcome), read.message)
 }
 
-fn answer_submit_report_error(octets: &[u8], out: &mut [u8], at: usize) -> usize {
+fn answer_submit_report_error(octets: &[u8], out: &mut Page, at: usize) -> usize {
     let read = SmsSubmitReport::decode_for_rp_error(octets);
     let outcome = read.outcome;
     submit_report(out, at, number_of(outcome), read.message)
 }
 
-fn answer_deliver_report_ack(octets: &[u8], out: &mut [u8], at: usize) -> usize {
+fn answer_deliver_report_ack(octets: &[u8], out: &mut Page, at: usize) -> usize {
     let read = SmsDeliverReport::decode_for_rp_ack(octets);
     let outcome = read.outcome;
     deliver_report(out, at, number_of(outcome), read.message)
 }
 
-fn answer_deliver_report_error(octets: &[u8], out: &mut [u8], at: usize) -> usize {
+fn answer_deliver_report_error(octets: &[u8], out: &mut Page, at: usize) -> usize {
     let read = SmsDeliverReport::decode_for_rp_error(octets);
     let outcome = read.outcome;
     deliver_report(out, at, number_of(outcome), read.message)
 }
 
-fn answer_status_report(octets: &[u8], out: &mut [u8], at: usize) -> usize {
+fn answer_status_report(octets: &[u8], out: &mut Page, at: usize) -> usize {
     let read = SmsStatusReport::decode(octets);
     let outcome = read.outcome;
     status_report(out, at, number_of(outcome), read.message)
 }
 
 // The fields of the record that a reader gives.
-pub fn answer(reader: Reader, octets: &[u8], out: &mut [u8], at: usize) -> usize {
+pub fn answer(reader: Reader, octets: &[u8], out: &mut Page, at: usize) -> usize {
     match reader {
         Reader::Deliver => answer_deliver(octets, out, at),
         Reader::Submit => answer_submit(octets, out, at),
@@ -357,24 +371,4 @@ pub fn answer(reader: Reader, octets: &[u8], out: &mut [u8], at: usize) -> usize
         Reader::StatusReport => answer_status_report(octets, out, at),
         Reader::Unknown => at,
     }
-}
-
-fn canonical(reader: Reader, octets: &[u8], lent: &mut [u8]) -> Written {
-    match reader {
-        Reader::Deliver => canonical::canonical_deliver(octets, lent),
-        Reader::Submit => canonical::canonical_submit(octets, lent),
-        Reader::SubmitReportAck => canonical::canonical_submit_report_ack(octets, lent),
-        Reader::SubmitReportError => canonical::canonical_submit_report_error(octets, lent),
-        Reader::DeliverReportAck => canonical::canonical_deliver_report_ack(octets, lent),
-        Reader::DeliverReportError => canonical::canonical_deliver_report_error(octets, lent),
-        Reader::StatusReport => canonical::canonical_status_report(octets, lent),
-        Reader::Unknown => Written::Done(0),
-    }
-}
-
-// The octets that are read and written back.
-pub fn answer_again(reader: Reader, octets: &[u8], show: bool, out: &mut [u8], at: usize) -> usize {
-    let mut lent = [0u8; 255];
-    let w = canonical(reader, octets, &mut lent);
-    writing::written(out, at, w, &lent, show)
 }

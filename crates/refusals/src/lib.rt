@@ -1,6 +1,7 @@
 // The refusals in words: the name of each, and what it means. In the lists a refusal stands at its number; none has number 0.
 use octets::Outcome;
 use octets::Refusal;
+use page::Page;
 
 // The number of an outcome's refusal; 0 if there is none.
 pub fn number_of(outcome: Outcome) -> u8 {
@@ -11,12 +12,12 @@ pub fn number_of(outcome: Outcome) -> u8 {
 }
 
 // The name of a refusal.
-pub fn put_name(out: &mut [u8], at: usize, r: Refusal) -> usize {
+pub fn put_name(out: &mut Page, at: usize, r: Refusal) -> usize {
     put_name_of(out, at, r.number())
 }
 
 // The same of a refusal's number.
-pub fn put_name_of(out: &mut [u8], at: usize, number: u8) -> usize {
+pub fn put_name_of(out: &mut Page, at: usize, number: u8) -> usize {
     let names = b"\n\
         LengthTooLarge\n\
         OctetsEnd\n\
@@ -45,7 +46,7 @@ pub fn put_name_of(out: &mut [u8], at: usize, number: u8) -> usize {
 }
 
 // What a refusal of a number means.
-fn put_meaning(out: &mut [u8], at: usize, number: u8) -> usize {
+fn put_meaning(out: &mut Page, at: usize, number: u8) -> usize {
     let meanings = b"\n\
         A record's length field passes its array, or a text reader's count passes 255\n\
         The octets end inside a field\n\
@@ -74,12 +75,12 @@ fn put_meaning(out: &mut [u8], at: usize, number: u8) -> usize {
 }
 
 // A refusal's number and what it means.
-pub fn put_refusal_words(out: &mut [u8], at: usize, why: Refusal) -> usize {
+pub fn put_refusal_words(out: &mut Page, at: usize, why: Refusal) -> usize {
     put_words_of(out, at, why.number())
 }
 
 // The same of a refusal's number.
-pub fn put_words_of(out: &mut [u8], at: usize, number: u8) -> usize {
+pub fn put_words_of(out: &mut Page, at: usize, number: u8) -> usize {
     let behind = page::put_decimal(out, at, number as u64);
     let space = page::put(out, behind, b" ");
     put_meaning(out, space, number)

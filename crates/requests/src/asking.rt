@@ -17,6 +17,7 @@ use lines::writing;
 use packing::Packed;
 use packing::pack_gsm7;
 use page::HexRead;
+use page::Page;
 use readings::Reader;
 use records::encoding;
 use records::keys;
@@ -109,16 +110,16 @@ fn fields_of(request: Request) -> usize {
 
 // ---- answers
 
-fn bad_octets(out: &mut [u8], at: usize) -> usize {
+fn bad_octets(out: &mut Page, at: usize) -> usize {
     writing::bad(out, at, b"octets")
 }
 
-fn bad_number(out: &mut [u8], at: usize) -> usize {
+fn bad_number(out: &mut Page, at: usize) -> usize {
     writing::bad(out, at, b"number")
 }
 
 // A report for people, several lines.
-fn show_report(reader: Reader, octets: &[u8], out: &mut [u8], at: usize) -> usize {
+fn show_report(reader: Reader, octets: &[u8], out: &mut Page, at: usize) -> usize {
     match reader {
         Reader::SubmitReportAck => people::show_submit_report_ack(octets, out, at),
         Reader::SubmitReportError => people::show_submit_report_error(octets, out, at),
@@ -129,7 +130,7 @@ fn show_report(reader: Reader, octets: &[u8], out: &mut [u8], at: usize) -> usiz
 }
 
 // The message for people, several lines.
-fn show_message(reader: Reader, octets: &[u8], out: &mut [u8], at: usize) -> usize {
+fn show_message(reader: Reader, octets: &[u8], out: &mut Page, at: usize) -> usize {
     match reader {
         Reader::Deliver => people::show_deliver(octets, out, at),
         Reader::Submit => people::show_submit(octets, out, at),
@@ -138,7 +139,7 @@ fn show_message(reader: Reader, octets: &[u8], out: &mut [u8], at: usize) -> usi
     }
 }
 
-fn answer_read(reader: Reader, text: &[u8], show: bool, out: &mut [u8], at: usize) -> usize {
+fn answer_read(reader: Reader, text: &[u8], show: bool, out: &mut Page, at: usize) -> usize {
     let mut octets = [0u8; 4096];
     let HexRead::Octets(n) = page::read_hex(values::digits_of(text), &mut octets) else {
         return bad_octets(out, at);
@@ -149,7 +150,7 @@ fn answer_read(reader: Reader, text: &[u8], show: bool, out: &mut [u8], at: usiz
     readings::answer(reader, part(&octets, 0, n), out, at)
 }
 
-fn answer_rewrite(reader: Reader, text: &[u8], show: bool, out: &mut [u8], at: usize) -> usize {
+fn answer_rewrite(reader: Reader, text: &[u8], show: bool, out: &mut Page, at: usize) -> usize {
     let mut octets = [0u8; 4096];
     let HexRead::Octets(n) = page::read_hex(values::digits_of(text), &mut octets) else {
         return bad_octets(out, at);
@@ -158,14 +159,14 @@ fn answer_rewrite(reader: Reader, text: &[u8], show: bool, out: &mut [u8], at: u
 }
 
 // A refusal, or the text that was unpacked; no refusal is number 0.
-fn unpacked(refusal: u8, text: &[u8], show: bool, out: &mut [u8], at: usize) -> usize {
+fn unpacked(refusal: u8, text: &[u8], show: bool, out: &mut Page, at: usize) -> usize {
     if refusal != 0 {
         return writing::refused_by_number(out, at, refusal, show);
     }
     writing::octets(out, at, b"ok text=", text)
 }
 
-fn unpack(octets: &[u8], septets: usize, show: bool, out: &mut [u8], at: usize) -> usize {
+fn unpack(octets: &[u8], septets: usize, show: bool, out: &mut Page, at: usize) -> usize {
     let read = unpack_gsm7(octets, septets);
     let outcome = read.outcome;
     let text = read.text;
@@ -173,7 +174,7 @@ fn unpack(octets: &[u8], septets: usize, show: bool, out: &mut [u8], at: usize) 
     unpacked(refusal, part(&text, 0, read.text_length), show, out, at)
 }
 
-fn answer_unpack(count: &[u8], text: &[u8], show: bool, out: &mut [u8], at: usize) -> usize {
+fn answer_unpack(count: &[u8], text: &[u8], show: bool, out: &mut Page, at: usize) -> usize {
     let NumberRead::Is(septets) = values::number(count) else {
         return bad_number(out, at);
     };
@@ -190,7 +191,7 @@ fn unpacked_with_header(
     header: &[u8],
     text: &[u8],
     show: bool,
-    out: &mut [u8],
+    out: &mut Page,
     at: usize,
 ) -> usize {
     if refusal != 0 {
@@ -200,7 +201,7 @@ fn unpacked_with_header(
     writing::octets(out, next, b" text=", text)
 }
 
-fn unpack_header(octets: &[u8], septets: usize, show: bool, out: &mut [u8], at: usize) -> usize {
+fn unpack_header(octets: &[u8], septets: usize, show: bool, out: &mut Page, at: usize) -> usize {
     let read = unpack_gsm7_with_header(octets, septets);
     let outcome = read.outcome;
     let header = read.header;
@@ -215,7 +216,7 @@ fn unpack_header(octets: &[u8], septets: usize, show: bool, out: &mut [u8], at: 
     )
 }
 
-fn answer_unpack_header(count: &[u8], text: &[u8], show: bool, out: &mut [u8], at: usize) -> usize {
+fn answer_unpack_header(count: &[u8], text: &[u8], show: bool, out: &mut Page, at: usize) -> usize {
     let NumberRead::Is(septets) = values::number(count) else {
         return bad_number(out, at);
     };
@@ -227,14 +228,14 @@ fn answer_unpack_header(count: &[u8], text: &[u8], show: bool, out: &mut [u8], a
 }
 
 // How many septets were packed, and the octets.
-fn septets_and_octets(septets: usize, octets: &[u8], out: &mut [u8], at: usize) -> usize {
+fn septets_and_octets(septets: usize, octets: &[u8], out: &mut Page, at: usize) -> usize {
     let p1 = page::put(out, at, b"ok septets=");
     let p2 = page::put_decimal(out, p1, septets as u64);
     writing::octets(out, p2, b" octets=", octets)
 }
 
 // What a packer answered, and the octets that it wrote.
-fn packed(p: Packed, lent: &[u8], show: bool, out: &mut [u8], at: usize) -> usize {
+fn packed(p: Packed, lent: &[u8], show: bool, out: &mut Page, at: usize) -> usize {
     let outcome = p.outcome;
     let refusal = number_of(outcome);
     if refusal != 0 {
@@ -243,13 +244,13 @@ fn packed(p: Packed, lent: &[u8], show: bool, out: &mut [u8], at: usize) -> usiz
     septets_and_octets(p.septets, part(lent, 0, p.octets), out, at)
 }
 
-fn pack(octets: &[u8], show: bool, out: &mut [u8], at: usize) -> usize {
+fn pack(octets: &[u8], show: bool, out: &mut Page, at: usize) -> usize {
     let mut lent = [0u8; 255];
     let p = pack_gsm7(octets, &mut lent);
     packed(p, &lent, show, out, at)
 }
 
-fn answer_pack(text: &[u8], show: bool, out: &mut [u8], at: usize) -> usize {
+fn answer_pack(text: &[u8], show: bool, out: &mut Page, at: usize) -> usize {
     let mut octets = [0u8; 4096];
     let HexRead::Octets(n) = page::read_hex(values::digits_of(text), &mut octets) else {
         return bad_octets(out, at);
@@ -257,14 +258,14 @@ fn answer_pack(text: &[u8], show: bool, out: &mut [u8], at: usize) -> usize {
     pack(part(&octets, 0, n), show, out, at)
 }
 
-fn pack_header(header: &[u8], octets: &[u8], show: bool, out: &mut [u8], at: usize) -> usize {
+fn pack_header(header: &[u8], octets: &[u8], show: bool, out: &mut Page, at: usize) -> usize {
     let mut lent = [0u8; 255];
     let p = pack_gsm7_with_header(header, octets, &mut lent);
     packed(p, &lent, show, out, at)
 }
 
 // The same of a header that is read already.
-fn answer_pack_behind(header: &[u8], text: &[u8], show: bool, out: &mut [u8], at: usize) -> usize {
+fn answer_pack_behind(header: &[u8], text: &[u8], show: bool, out: &mut Page, at: usize) -> usize {
     let mut octets = [0u8; 4096];
     let HexRead::Octets(n) = page::read_hex(values::digits_of(text), &mut octets) else {
         return bad_octets(out, at);
@@ -272,7 +273,7 @@ fn answer_pack_behind(header: &[u8], text: &[u8], show: bool, out: &mut [u8], at
     pack_header(header, part(&octets, 0, n), show, out, at)
 }
 
-fn answer_pack_header(header: &[u8], text: &[u8], show: bool, out: &mut [u8], at: usize) -> usize {
+fn answer_pack_header(header: &[u8], text: &[u8], show: bool, out: &mut Page, at: usize) -> usize {
     let mut octets = [0u8; 4096];
     let HexRead::Octets(n) = page::read_hex(values::digits_of(header), &mut octets) else {
         return bad_octets(out, at);
@@ -281,7 +282,7 @@ fn answer_pack_header(header: &[u8], text: &[u8], show: bool, out: &mut [u8], at
 }
 
 // The octets of an address whose text is hexadecimal digits.
-fn write_address(ton: u8, npi: u8, text: &[u8], show: bool, out: &mut [u8], at: usize) -> usize {
+fn write_address(ton: u8, npi: u8, text: &[u8], show: bool, out: &mut Page, at: usize) -> usize {
     let mut address = [0u8; 290];
     let address_length = values::octets_of(text, &mut address);
     let a = SMSAddress {
@@ -300,7 +301,7 @@ fn answer_address(
     npi: &[u8],
     text: &[u8],
     show: bool,
-    out: &mut [u8],
+    out: &mut Page,
     at: usize,
 ) -> usize {
     let OctetRead::Is(t) = values::small_number(ton) else {
@@ -325,7 +326,7 @@ fn coding_number(dcs: u8) -> usize {
     }
 }
 
-fn answer_coding(text: &[u8], out: &mut [u8], at: usize) -> usize {
+fn answer_coding(text: &[u8], out: &mut Page, at: usize) -> usize {
     let OctetRead::Is(dcs) = values::octet(text) else {
         return writing::bad(out, at, b"coding");
     };
@@ -352,7 +353,7 @@ fn read_calendar(
 }
 
 // A refusal, or the digits of a time.
-fn digits_or_refusal(refusal: u8, digits: &[u8], show: bool, out: &mut [u8], at: usize) -> usize {
+fn digits_or_refusal(refusal: u8, digits: &[u8], show: bool, out: &mut Page, at: usize) -> usize {
     if refusal != 0 {
         return writing::refused_by_number(out, at, refusal, show);
     }
@@ -360,7 +361,7 @@ fn digits_or_refusal(refusal: u8, digits: &[u8], show: bool, out: &mut [u8], at:
     page::put(out, next, digits)
 }
 
-fn time_digits(c: [u8; 6], zone: i8, show: bool, out: &mut [u8], at: usize) -> usize {
+fn time_digits(c: [u8; 6], zone: i8, show: bool, out: &mut Page, at: usize) -> usize {
     let time = timestamp_digits(c[0], c[1], c[2], c[3], c[4], c[5], zone);
     let outcome = time.outcome;
     let digits = time.digits;
@@ -372,7 +373,7 @@ fn answer_digits(
     starts: &[usize; 20],
     ends: &[usize; 20],
     show: bool,
-    out: &mut [u8],
+    out: &mut Page,
     at: usize,
 ) -> usize {
     let mut c = [0u8; 6];
@@ -393,7 +394,7 @@ fn answer_text(
     first: &[u8],
     second: &[u8],
     show: bool,
-    out: &mut [u8],
+    out: &mut Page,
     at: usize,
 ) -> usize {
     match request {
@@ -412,7 +413,7 @@ fn answer_fields(
     second: &[u8],
     third: &[u8],
     show: bool,
-    out: &mut [u8],
+    out: &mut Page,
     at: usize,
 ) -> usize {
     match request {
@@ -430,7 +431,7 @@ fn answer_first_fields(
     starts: &[usize; 20],
     ends: &[usize; 20],
     show: bool,
-    out: &mut [u8],
+    out: &mut Page,
     at: usize,
 ) -> usize {
     let first = field(line, starts, ends, 1);
@@ -447,7 +448,7 @@ fn answer_request(
     ends: &[usize; 20],
     count: usize,
     show: bool,
-    out: &mut [u8],
+    out: &mut Page,
     at: usize,
 ) -> usize {
     match request {
@@ -475,7 +476,7 @@ fn answer_named(
     ends: &[usize; 20],
     count: usize,
     show: bool,
-    out: &mut [u8],
+    out: &mut Page,
     at: usize,
 ) -> usize {
     let reason = reason_against(request, count);
@@ -487,7 +488,7 @@ fn answer_named(
 }
 
 // The answer to a line, without its end.
-pub fn answer(line: &[u8], out: &mut [u8], at: usize, show: bool) -> usize {
+pub fn answer(line: &[u8], out: &mut Page, at: usize, show: bool) -> usize {
     let mut starts = [0usize; 20];
     let mut ends = [0usize; 20];
     let count = fields::split(line, &mut starts, &mut ends);

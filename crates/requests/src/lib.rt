@@ -4,6 +4,7 @@ mod asking;
 use libc::STDIN_FILENO;
 use libc::STDOUT_FILENO;
 use lines::fields;
+use page::Page;
 
 // The octets that a line may have.
 const MOST_IN_LINE: usize = 8192;
@@ -18,7 +19,7 @@ struct Held {
 }
 
 // Appends the answer to a line.
-pub fn answer_line(line: &[u8], out: &mut [u8], at: usize, show: bool) -> usize {
+pub fn answer_line(line: &[u8], out: &mut Page, at: usize, show: bool) -> usize {
     let next = asking::answer(line, out, at, show);
     page::put(out, next, b"\n")
 }
@@ -31,7 +32,7 @@ fn add(line: &mut [u8], length: usize, octets: &[u8]) -> usize {
     if MOST_IN_LINE - length < octets.len() {
         return MOST_IN_LINE + 1;
     }
-    page::put(line, length, octets)
+    page::append(line, length, octets)
 }
 
 // The length of a line without the CR of its end.
@@ -60,7 +61,7 @@ fn make_room(out: &[u8], at: usize) -> usize {
 }
 
 // Answers the line held.
-fn answer_held(line: &[u8], length: usize, out: &mut [u8], at: usize, show: bool) -> usize {
+fn answer_held(line: &[u8], length: usize, out: &mut Page, at: usize, show: bool) -> usize {
     if MOST_IN_LINE < length {
         let next = page::put(out, at, b"bad line too long\n");
         return make_room(out, next);
@@ -70,7 +71,7 @@ fn answer_held(line: &[u8], length: usize, out: &mut [u8], at: usize, show: bool
 }
 
 // Answers the lines that end in these octets, and holds the rest.
-fn answer_octets(octets: &[u8], line: &mut [u8], out: &mut [u8], held: Held, show: bool) -> Held {
+fn answer_octets(octets: &[u8], line: &mut [u8], out: &mut Page, held: Held, show: bool) -> Held {
     let mut n = held.length;
     let mut at = held.at;
     let mut from = 0;
@@ -94,7 +95,7 @@ struct Turn {
 }
 
 // Reads once, and answers what came.
-fn answer_some(input: &mut [u8], line: &mut [u8], out: &mut [u8], held: Held, show: bool) -> Turn {
+fn answer_some(input: &mut [u8], line: &mut [u8], out: &mut Page, held: Held, show: bool) -> Turn {
     let got = libc::read(STDIN_FILENO, input);
     if got <= 0 {
         return Turn { held, more: false };
@@ -108,7 +109,7 @@ fn answer_some(input: &mut [u8], line: &mut [u8], out: &mut [u8], held: Held, sh
 }
 
 // Reads and answers to the end of the input. The turns are counted down from a number that no input uses up.
-fn answer_all(input: &mut [u8], line: &mut [u8], out: &mut [u8], show: bool) -> Held {
+fn answer_all(input: &mut [u8], line: &mut [u8], out: &mut Page, show: bool) -> Held {
     let mut n = 0;
     let mut at = 0;
     let mut turns = u64::MAX;
@@ -126,7 +127,7 @@ fn answer_all(input: &mut [u8], line: &mut [u8], out: &mut [u8], show: bool) -> 
 }
 
 // Answers a last line that has no end.
-fn answer_last(line: &[u8], out: &mut [u8], held: Held, show: bool) -> usize {
+fn answer_last(line: &[u8], out: &mut Page, held: Held, show: bool) -> usize {
     if held.length == 0 {
         return held.at;
     }

@@ -1,7 +1,6 @@
 -- `characters::put_utf16` is safe and ends.
 -- Assumes nothing.
 use Prim.Native.Nat.{_-_}
-use mathlib.Core.Path.{_≡_, refl}
 use native.Mathlib.Omega.{arith}
 use borrow.Author.Needs.{needs}
 use lib.ListN.{length}
@@ -9,7 +8,7 @@ use Rattle.characters.proofs.put_utf16.Statement.{statement}
 use Rattle.characters.proofs.put_utf16.Tie as tie
 
 abbrev Inv-loop : tie.InvT-loop
-Inv-loop out₀ at octets place₀ i₀ out place i = length out ≡ length out₀
+Inv-loop out₀ at octets place₀ i₀ out place i = Unit
 
 abbrev μ-loop : tie.MeasureT-loop
 μ-loop out₀ at octets place₀ i₀ out place i = length octets - i
@@ -20,7 +19,7 @@ put-utf16-spec =
     (tie.spec
     Inv-loop
     μ-loop
-    (λ c. refl)
+    (λ c. tt)
     (λ c. omega arith)
     (λ c. omega arith)
     (λ c. search needs)
@@ -28,6 +27,5 @@ put-utf16-spec =
     (λ c κs. omega arith)
     (λ c. omega arith)
     (λ c. omega arith)
-    (λ c. search needs)
-    (λ c. search needs)
+    (λ c. tt)
     (λ c. tt))

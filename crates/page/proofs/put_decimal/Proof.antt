@@ -35,10 +35,10 @@ loop-again c =
 
 returns : tie.Need-returns Inv-loop μ-loop
 returns c =
-    let l = c .before .before .before .before .before .before .before .loop in
-    let digits : drop (l .first) (l .text) ≡ decimalText (c .before .before .before .before .before .before .before .before .before .args .n) =
-    rw (digits-none (l .first) (l .rest) (c .before .before .before .before .before .before .loop-test .left)) at (l .inv .2) in
-    rw (take-all (20 - l .first) (drop (l .first) (l .text)) (simp length-drop (omega arith)), digits) at (c .before .before .put .ensures)
+    let l = c .before .before .before .before .before .loop in
+    let digits : drop (l .first) (l .text) ≡ decimalText (c .before .before .before .before .before .before .args .n) =
+    rw (digits-none (l .first) (l .rest) (c .before .before .before .before .loop-test .left)) at (l .inv .2) in
+    rw (take-all (20 - l .first) (drop (l .first) (l .text)) (simp length-drop (omega arith)), digits) at (c .put .ensures)
 
 pub put-decimal-spec : {M : Type 1} → statement M
 put-decimal-spec =
@@ -60,5 +60,4 @@ put-decimal-spec =
     (λ c. omega arith)
     (λ c. search needs)
     (λ c κs. tt)
-    (λ c. search needs)
     returns)

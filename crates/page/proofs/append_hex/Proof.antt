@@ -1,4 +1,4 @@
--- `page::put_hex` meets its contract: the digits of the octets that are left are stored pair by pair.
+-- `page::append_hex` meets its contract: the digits of the octets that are left are stored pair by pair.
 -- Assumes nothing.
 use Prim.Native.Nat.{_+_, _*_, _-_, _≤_}
 use mathlib.Core.Path.{_≡_, refl, _∙_}
@@ -9,8 +9,8 @@ use lib.Seq.{sets}
 use Rattle.octets.proofs.Laws.{Left, left-start, left-step, left-end, wrote-one, wrote-then}
 use Rattle.page.specs.Page.{hexText}
 use Rattle.page.proofs.Laws.{word-fits, word-left-out, length-hex, hex-next, hex-end}
-use Rattle.page.proofs.put_hex.Statement.{statement}
-use Rattle.page.proofs.put_hex.Tie as tie
+use Rattle.page.proofs.append_hex.Statement.{statement}
+use Rattle.page.proofs.append_hex.Tie as tie
 
 abbrev Inv-loop : tie.InvT-loop
 Inv-loop out₀ at octets next₀ i₀ out next i =
@@ -39,8 +39,8 @@ returns-3 c =
     let e = left-end (l .inv .4) (hex-end (l .i) os (omega arith)) in
     word-fits _ _ _ (omega (arith, length-hex os, l .inv .1, l .inv .3)) (record { place = e .0; list = e .1 })
 
-pub put-hex-spec : {M : Type 1} → statement M
-put-hex-spec =
+pub append-hex-spec : {M : Type 1} → statement M
+append-hex-spec =
     tie.close
     (tie.spec
     Inv-loop

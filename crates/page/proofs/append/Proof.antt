@@ -1,13 +1,13 @@
--- `page::put` meets its contract: the tests say whether the word fits.
+-- `page::append` meets its contract: the tests say whether the word fits.
 -- Assumes nothing.
 use native.Mathlib.Omega.{arith}
 use borrow.Author.Needs.{needs}
 use Rattle.page.proofs.Laws.{word-fits, word-left-out}
-use Rattle.page.proofs.put.Statement.{statement}
-use Rattle.page.proofs.put.Tie as tie
+use Rattle.page.proofs.append.Statement.{statement}
+use Rattle.page.proofs.append.Tie as tie
 
-pub put-spec : {M : Type 1} → statement M
-put-spec =
+pub append-spec : {M : Type 1} → statement M
+append-spec =
     tie.close
     (tie.spec
     (λ c. word-left-out _ _ _ (omega arith))
