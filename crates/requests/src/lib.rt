@@ -9,8 +9,11 @@ use page::Page;
 // The octets that a line may have.
 const MOST_IN_LINE: usize = 8192;
 
-// The output is written out when fewer octets than these are left free: an answer has fewer.
-const LEAST_FREE: usize = 16384;
+// The line that is held.
+type Line = [u8; 8192];
+
+// The output is written out when it has as many octets: fewer than 16,384 are left free then, and an answer has fewer.
+const MOST_HELD: usize = 49153;
 
 // How many octets of a line are held, and where the next answer goes. One octet more than a line may have says that it has too many.
 struct Held {
@@ -25,7 +28,7 @@ pub fn answer_line(line: &[u8], out: &mut Page, at: usize, show: bool) -> usize 
 }
 
 // Adds octets to a line; how many it has then.
-fn add(line: &mut [u8], length: usize, octets: &[u8]) -> usize {
+fn add(line: &mut Line, length: usize, octets: &[u8]) -> usize {
     if MOST_IN_LINE < length {
         return length;
     }
@@ -36,11 +39,11 @@ fn add(line: &mut [u8], length: usize, octets: &[u8]) -> usize {
 }
 
 // The length of a line without the CR of its end.
-fn without_cr(line: &[u8], length: usize) -> usize {
+fn without_cr(line: &Line, length: usize) -> usize {
     if length == 0 {
         return 0;
     }
-    if line.len() < length {
+    if MOST_IN_LINE < length {
         return length;
     }
     if line[length - 1] == b'\r' {
@@ -49,19 +52,22 @@ fn without_cr(line: &[u8], length: usize) -> usize {
     length
 }
 
-// Writes the answers out if the next may not fit; the place for it.
-fn make_room(out: &[u8], at: usize) -> usize {
-    if at <= out.len() {
-        if LEAST_FREE <= out.len() - at {
-            return at;
-        }
-    }
+// Writes the answers out.
+fn write_out(out: &Page, at: usize) {
     io::write_all(STDOUT_FILENO, fields::part(out, 0, at));
+}
+
+// Writes the answers out if the next may not fit; the place for it.
+fn make_room(out: &Page, at: usize) -> usize {
+    if at < MOST_HELD {
+        return at;
+    }
+    write_out(out, at);
     0
 }
 
 // Answers the line held.
-fn answer_held(line: &[u8], length: usize, out: &mut Page, at: usize, show: bool) -> usize {
+fn answer_held(line: &Line, length: usize, out: &mut Page, at: usize, show: bool) -> usize {
     if MOST_IN_LINE < length {
         let next = page::put(out, at, b"bad line too long\n");
         return make_room(out, next);
@@ -71,7 +77,7 @@ fn answer_held(line: &[u8], length: usize, out: &mut Page, at: usize, show: bool
 }
 
 // Answers the lines that end in these octets, and holds the rest.
-fn answer_octets(octets: &[u8], line: &mut [u8], out: &mut Page, held: Held, show: bool) -> Held {
+fn answer_octets(octets: &[u8], line: &mut Line, out: &mut Page, held: Held, show: bool) -> Held {
     let mut n = held.length;
     let mut at = held.at;
     let mut from = 0;
@@ -95,7 +101,7 @@ struct Turn {
 }
 
 // Reads once, and answers what came.
-fn answer_some(input: &mut [u8], line: &mut [u8], out: &mut Page, held: Held, show: bool) -> Turn {
+fn answer_some(input: &mut Page, line: &mut Line, out: &mut Page, held: Held, show: bool) -> Turn {
     let got = libc::read(STDIN_FILENO, input);
     if got <= 0 {
         return Turn { held, more: false };
@@ -109,7 +115,7 @@ fn answer_some(input: &mut [u8], line: &mut [u8], out: &mut Page, held: Held, sh
 }
 
 // Reads and answers to the end of the input. The turns are counted down from a number that no input uses up.
-fn answer_all(input: &mut [u8], line: &mut [u8], out: &mut Page, show: bool) -> Held {
+fn answer_all(input: &mut Page, line: &mut Line, out: &mut Page, show: bool) -> Held {
     let mut n = 0;
     let mut at = 0;
     let mut turns = u64::MAX;
@@ -127,7 +133,7 @@ fn answer_all(input: &mut [u8], line: &mut [u8], out: &mut Page, show: bool) -> 
 }
 
 // Answers a last line that has no end.
-fn answer_last(line: &[u8], out: &mut Page, held: Held, show: bool) -> usize {
+fn answer_last(line: &Line, out: &mut Page, held: Held, show: bool) -> usize {
     if held.length == 0 {
         return held.at;
     }
@@ -141,7 +147,7 @@ fn answer_requests(show: bool) {
     let mut out = io::large_buffer();
     let held = answer_all(&mut input, &mut line, &mut out, show);
     let at = answer_last(&line, &mut out, held, show);
-    io::write_all(STDOUT_FILENO, fields::part(&out, 0, at));
+    write_out(&out, at);
 }
 
 fn say(words: &[u8]) {

