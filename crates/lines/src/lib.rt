@@ -1,4 +1,3 @@
-// A line of a request taken apart into fields and values, and an answer put together.
-pub mod fields;
+// What the fields of a request may hold, and how an answer is put together.
 pub mod values;
 pub mod writing;

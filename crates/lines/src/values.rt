@@ -1,14 +1,14 @@
 // What a field or the value of a key may hold: numbers, octets, times and validity periods.
-ghost use Prim.Native.Nat.{_≤_};
-use crate::fields::begins;
-use crate::fields::behind;
-use crate::fields::part;
-use crate::fields::same;
 use coding::UserData;
 use optional::OptionalOctet;
 use page::HexRead;
 use time::Time;
-use validity::ValidityPeriod;
+use words::begins;
+use words::behind;
+use words::least;
+use words::part;
+use words::same;
+use words::word_number;
 
 // The digits that a number may have.
 const MOST_DIGITS: usize = 9;
@@ -151,17 +151,23 @@ fn is_seven_octets(value: &[u8]) -> bool {
     value.len() == 14 && page::is_hex_text(value)
 }
 
+// The form of a validity period: 0 for relative, 1 for absolute, 2 for enhanced, 3 for none of these.
+pub fn period_form(value: &[u8]) -> usize {
+    word_number(b"relative:\nabsolute:\nenhanced:\n", part(value, 0, 9))
+}
+
+// What stands behind the form of a validity period.
+pub fn period_value(value: &[u8]) -> &[u8] {
+    behind(value, 9)
+}
+
 pub fn is_period(value: &[u8]) -> bool {
-    if begins(value, b"relative:") {
-        return is_octet(behind(value, 9));
+    match period_form(value) {
+        0 => is_octet(period_value(value)),
+        1 => is_time(period_value(value)),
+        2 => is_seven_octets(period_value(value)),
+        _ => is_absent(value),
     }
-    if begins(value, b"absolute:") {
-        return is_time(behind(value, 9));
-    }
-    if begins(value, b"enhanced:") {
-        return is_seven_octets(behind(value, 9));
-    }
-    is_absent(value)
 }
 
 // ---- values that have their form
@@ -182,27 +188,6 @@ pub fn octet_of(value: &[u8]) -> u8 {
         OctetRead::Is(x) => x,
         OctetRead::NotOne => 0,
     }
-}
-
-pub fn optional_number_of(value: &[u8]) -> OptionalOctet {
-    match small_number(value) {
-        OctetRead::Is(n) => OptionalOctet::Present(n),
-        OctetRead::NotOne => OptionalOctet::Absent,
-    }
-}
-
-pub fn optional_octet_of(value: &[u8]) -> OptionalOctet {
-    match octet(value) {
-        OctetRead::Is(x) => OptionalOctet::Present(x),
-        OctetRead::NotOne => OptionalOctet::Absent,
-    }
-}
-
-// The smaller of two.
-fn least(a: usize, b: usize) -> usize
-    ensures { λ r. ⌜ r ≤ a ⌝ }
-{
-    if a < b { a } else { b }
 }
 
 // Stores the octets of hexadecimal digits, those that fit; how many there are in all.
@@ -232,34 +217,4 @@ pub fn time_of(value: &[u8]) -> Time {
         digits,
         length: value.len(),
     }
-}
-
-pub fn period_of(value: &[u8]) -> ValidityPeriod {
-    if begins(value, b"relative:") {
-        return ValidityPeriod::Relative(octet_of(behind(value, 9)));
-    }
-    if begins(value, b"absolute:") {
-        return ValidityPeriod::Absolute;
-    }
-    if begins(value, b"enhanced:") {
-        return ValidityPeriod::Enhanced;
-    }
-    ValidityPeriod::None
-}
-
-// The digits of an absolute validity period; none beside another.
-pub fn period_digits_of(value: &[u8]) -> Time {
-    if begins(value, b"absolute:") {
-        return time_of(behind(value, 9));
-    }
-    time_of(part(value, 0, 0))
-}
-
-// The octets of an enhanced validity period; zeros beside another.
-pub fn period_octets_of(value: &[u8]) -> [u8; 7] {
-    let mut octets = [0u8; 7];
-    if begins(value, b"enhanced:") {
-        octets_of(behind(value, 9), &mut octets);
-    }
-    octets
 }

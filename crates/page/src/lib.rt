@@ -1,4 +1,4 @@
-// A page: a lent buffer that words are appended to at a place; octets as hexadecimal, in and out; and lists of words.
+// A page: a lent buffer that words are appended to at a place; octets as hexadecimal, in and out.
 ghost use mathlib.Core.Path.{_≡_};
 ghost use mathlib.Core.Bool.{true};
 ghost use mathlib.Core.List.{[], _∷_};
@@ -153,71 +153,4 @@ pub fn read_hex(text: &[u8], out: &mut [u8]) -> HexRead
         return HexRead::TooLong;
     }
     HexRead::Octets(put_octets_of(text, out))
-}
-
-// ---- lists of words, each of which ends with a line feed
-
-// Where word n of a list begins, counted from 0; the end of the list if there are fewer.
-fn word_start(words: &[u8], n: usize) -> usize
-    ensures { λ r. ⌜ r ≤ length (now (words .entry)) ⌝ }
-{
-    let mut before = n;
-    let mut i = 0;
-    while i < words.len() {
-        if before == 0 {
-            return i;
-        }
-        if words[i] == b'\n' {
-            before -= 1;
-        }
-        i += 1;
-    }
-    i
-}
-
-// Where the word that begins at `start` ends.
-fn word_end(words: &[u8], start: usize) -> usize
-    requires { ⌜ start ≤ length (now words) ⌝ }
-    ensures { λ r. ⌜ (start ≤ r) × (r ≤ length (now (words .entry))) ⌝ }
-{
-    let mut i = start;
-    while i < words.len() {
-        if words[i] == b'\n' {
-            return i;
-        }
-        i += 1;
-    }
-    i
-}
-
-// Word n of a list, counted from 0; no octets if there are fewer.
-pub fn word(words: &[u8], n: usize) -> &[u8] {
-    let start = word_start(words, n);
-    let end = word_end(words, start);
-    &words[start..end]
-}
-
-// Where the word begins whose first octet is given, behind that octet; the end of the list if there is none.
-fn start_behind(words: &[u8], octet: u8) -> usize
-    ensures { λ r. ⌜ r ≤ length (now (words .entry)) ⌝ }
-{
-    let mut i = 0;
-    while i < words.len() {
-        if words[i] == octet {
-            return i + 1;
-        }
-        let end = word_end(words, i);
-        if words.len() <= end {
-            return end;
-        }
-        i = end + 1;
-    }
-    words.len()
-}
-
-// The words of an octet in a list whose words each stand behind an octet; no octets if there are none.
-pub fn words_of(words: &[u8], octet: u8) -> &[u8] {
-    let start = start_behind(words, octet);
-    let end = word_end(words, start);
-    &words[start..end]
 }

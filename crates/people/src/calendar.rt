@@ -96,7 +96,7 @@ fn put_date_and_time(out: &mut Page, at: usize, digits: &[u8]) -> usize {
     let mut place = at;
     let mut i = 0;
     while i < 6 {
-        let next = page::put(out, place, page::word(separators, i));
+        let next = page::put(out, place, words::word(separators, i));
         place = page::put(out, next, two_digits(digits, i));
         i += 1;
     }
@@ -146,7 +146,7 @@ fn put_count(out: &mut Page, at: usize, n: u64, unit: usize) -> usize
     let units = b" minute\n minutes\n hour\n hours\n day\n days\n week\n weeks\n";
     let number = page::put_decimal(out, at, n);
     let name = if n == 1 { unit } else { unit + 1 };
-    page::put(out, number, page::word(units, name))
+    page::put(out, number, words::word(units, name))
 }
 
 // Minutes as hours and minutes.

@@ -50,5 +50,5 @@ pub fn put_label(out: &mut Page, at: usize, label: usize) -> usize {
         data      \n\
         refused   \n";
     let indent = page::put(out, at, b"  ");
-    page::put(out, indent, page::word(labels, label))
+    page::put(out, indent, words::word(labels, label))
 }

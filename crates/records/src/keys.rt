@@ -1,6 +1,5 @@
 // The keys of an `enc-` request: which a kind of message has, where a line gives them, and the form of each value.
 ghost use Prim.Native.Nat.{_≤_};
-use lines::fields;
 use lines::values;
 
 // The kinds of message that can be written.
@@ -71,7 +70,7 @@ fn key_named(name: &[u8]) -> usize {
         mti\nvpf\nton\nnpi\nudl\n\
         mr\npid\ndcs\nfcs\npi\nst\n\
         address\nscts\ndt\nvp\nud\n";
-    fields::word_number(names, name)
+    words::word_number(names, name)
 }
 
 // ---- the keys of a kind
@@ -187,19 +186,19 @@ pub fn find_keys(
 ) -> Keys {
     let mut i = 1;
     while i < count {
-        if fields::MOST <= i {
+        if words::MOST <= i {
             return Keys::Unknown;
         }
         let start = starts[i];
         let end = ends[i];
-        let equals = fields::find(fields::part(line, 0, end), start, b'=');
+        let equals = words::find(words::part(line, 0, end), start, b'=');
         if end <= equals {
             return Keys::Unknown;
         }
         if line.len() <= equals {
             return Keys::Unknown;
         }
-        let key = key_named(fields::part(line, start, equals));
+        let key = key_named(words::part(line, start, equals));
         if ALL <= key {
             return Keys::Unknown;
         }
@@ -219,9 +218,9 @@ pub fn find_keys(
 // The value of a key.
 pub fn value<'a>(line: &'a [u8], from: &[usize; 24], to: &[usize; 24], key: usize) -> &'a [u8] {
     if ALL <= key {
-        return fields::part(line, 0, 0);
+        return words::part(line, 0, 0);
     }
-    fields::part(line, from[key], to[key])
+    words::part(line, from[key], to[key])
 }
 
 // ---- the form of each value
@@ -291,18 +290,18 @@ pub fn wrong_value(kind: Kind, line: &[u8], from: &[usize; 24], to: &[usize; 24]
 // The name of a key whose value stands at `from`: what stands before the =.
 pub fn name_before(line: &[u8], from: usize) -> &[u8] {
     if from == 0 {
-        return fields::part(line, 0, 0);
+        return words::part(line, 0, 0);
     }
     let end = from - 1;
     let mut start = end;
     while 0 < start {
         if line.len() < start {
-            return fields::part(line, 0, 0);
+            return words::part(line, 0, 0);
         }
         if line[start - 1] == b' ' {
-            return fields::part(line, start, end);
+            return words::part(line, start, end);
         }
         start -= 1;
     }
-    fields::part(line, start, end)
+    words::part(line, start, end)
 }

@@ -42,7 +42,7 @@ pub fn put_name_of(out: &mut Page, at: usize, number: u8) -> usize {
         ZoneOutOfRange\n\
         TooManySeptets\n\
         OutputTooShort\n";
-    page::put(out, at, page::word(names, number as usize))
+    page::put(out, at, words::word(names, number as usize))
 }
 
 // What a refusal of a number means.
@@ -71,7 +71,7 @@ fn put_meaning(out: &mut Page, at: usize, number: u8) -> usize {
         The zone passes 79 either way\n\
         Header and text take more than 255 septets\n\
         A lent output is too short\n";
-    page::put(out, at, page::word(meanings, number as usize))
+    page::put(out, at, words::word(meanings, number as usize))
 }
 
 // A refusal's number and what it means.

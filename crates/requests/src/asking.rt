@@ -3,12 +3,6 @@ use address::SMSAddress;
 use coding::UserDataCoding;
 use header::pack_gsm7_with_header;
 use header::unpack_gsm7_with_header;
-use lines::fields;
-use lines::fields::begins;
-use lines::fields::behind;
-use lines::fields::field;
-use lines::fields::part;
-use lines::fields::word_number;
 use lines::values;
 use lines::values::NumberRead;
 use lines::values::OctetRead;
@@ -25,6 +19,12 @@ use records::keys::Kind;
 use refusals::number_of;
 use text::unpack_gsm7;
 use timestamp::timestamp_digits;
+use words::begins;
+use words::behind;
+use words::field;
+use words::part;
+use words::word;
+use words::word_number;
 
 pub enum Request {
     Read(Reader),
@@ -331,7 +331,7 @@ fn answer_coding(text: &[u8], out: &mut Page, at: usize) -> usize {
         return writing::bad(out, at, b"coding");
     };
     let names = b"ok 7bit\nok 8bit\nok ucs2\nok compressed\n";
-    page::put(out, at, page::word(names, coding_number(dcs)))
+    page::put(out, at, word(names, coding_number(dcs)))
 }
 
 // Reads the six values of the calendar, the fields behind the first.
@@ -482,7 +482,7 @@ fn answer_named(
     let reason = reason_against(request, count);
     if reason != 0 {
         let reasons = b"\nunknown request\nnumber of fields\n";
-        return writing::bad(out, at, page::word(reasons, reason));
+        return writing::bad(out, at, word(reasons, reason));
     }
     answer_request(request, line, starts, ends, count, show, out, at)
 }
@@ -491,7 +491,7 @@ fn answer_named(
 pub fn answer(line: &[u8], out: &mut Page, at: usize, show: bool) -> usize {
     let mut starts = [0usize; 20];
     let mut ends = [0usize; 20];
-    let count = fields::split(line, &mut starts, &mut ends);
+    let count = words::split(line, &mut starts, &mut ends);
     if count == 0 {
         return writing::bad(out, at, b"empty line");
     }

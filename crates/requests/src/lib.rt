@@ -3,7 +3,6 @@ mod asking;
 
 use libc::STDIN_FILENO;
 use libc::STDOUT_FILENO;
-use lines::fields;
 use page::Page;
 
 // The octets that a line may have.
@@ -54,7 +53,7 @@ fn without_cr(line: &Line, length: usize) -> usize {
 
 // Writes the answers out.
 fn write_out(out: &Page, at: usize) {
-    io::write_all(STDOUT_FILENO, fields::part(out, 0, at));
+    io::write_all(STDOUT_FILENO, words::part(out, 0, at));
 }
 
 // Writes the answers out if the next may not fit; the place for it.
@@ -72,7 +71,7 @@ fn answer_held(line: &Line, length: usize, out: &mut Page, at: usize, show: bool
         let next = page::put(out, at, b"bad line too long\n");
         return make_room(out, next);
     }
-    let next = answer_line(fields::part(line, 0, length), out, at, show);
+    let next = answer_line(words::part(line, 0, length), out, at, show);
     make_room(out, next)
 }
 
@@ -82,8 +81,8 @@ fn answer_octets(octets: &[u8], line: &mut Line, out: &mut Page, held: Held, sho
     let mut at = held.at;
     let mut from = 0;
     while from < octets.len() {
-        let end = fields::find(octets, from, b'\n');
-        n = add(line, n, fields::part(octets, from, end));
+        let end = words::find(octets, from, b'\n');
+        n = add(line, n, words::part(octets, from, end));
         if octets.len() <= end {
             return Held { length: n, at };
         }
@@ -107,7 +106,7 @@ fn answer_some(input: &mut Page, line: &mut Line, out: &mut Page, held: Held, sh
         return Turn { held, more: false };
     }
     let n = io::count(got, input);
-    let next = answer_octets(fields::part(input, 0, n), line, out, held, show);
+    let next = answer_octets(words::part(input, 0, n), line, out, held, show);
     Turn {
         held: next,
         more: true,
@@ -213,7 +212,7 @@ pub fn run() {
     }
     let mut word = [0u8; 8];
     let n = os::arg(1, &mut word);
-    if count == 2 && fields::same(fields::part(&word, 0, n), b"show") {
+    if count == 2 && words::same(words::part(&word, 0, n), b"show") {
         answer_requests(true);
         return;
     }

@@ -1,10 +1,10 @@
--- `lines::fields::word_number` is safe and ends.
+-- `words::word_number` is safe and ends.
 -- Assumes nothing.
 use Prim.Native.Nat.{_-_, _≤_}
 use native.Mathlib.Omega.{arith}
 use lib.ListN.{length}
-use Rattle.lines.proofs.fields.word_number.Statement.{statement}
-use Rattle.lines.proofs.fields.word_number.Tie as tie
+use Rattle.words.proofs.word_number.Statement.{statement}
+use Rattle.words.proofs.word_number.Tie as tie
 
 abbrev Inv-loop : tie.InvT-loop
 Inv-loop words word n₀ start₀ n start = n ≤ start

@@ -1,10 +1,10 @@
--- `page::word_start` meets its contract. The loop stays in the list.
+-- `words::word_start` meets its contract. The loop stays in the list.
 -- Assumes nothing.
 use Prim.Native.Nat.{_-_, _≤_}
 use native.Mathlib.Omega.{arith}
 use lib.ListN.{length}
-use Rattle.page.proofs.word_start.Statement.{statement}
-use Rattle.page.proofs.word_start.Tie as tie
+use Rattle.words.proofs.word_start.Statement.{statement}
+use Rattle.words.proofs.word_start.Tie as tie
 
 abbrev Inv-loop : tie.InvT-loop
 Inv-loop words n before₀ i₀ before i = i ≤ length words

@@ -1,10 +1,10 @@
--- `page::start_behind` meets its contract.
+-- `words::start_behind` meets its contract.
 -- Assumes nothing.
 use Prim.Native.Nat.{_-_}
 use native.Mathlib.Omega.{arith}
 use lib.ListN.{length}
-use Rattle.page.proofs.start_behind.Statement.{statement}
-use Rattle.page.proofs.start_behind.Tie as tie
+use Rattle.words.proofs.start_behind.Statement.{statement}
+use Rattle.words.proofs.start_behind.Tie as tie
 
 abbrev Inv-loop : tie.InvT-loop
 Inv-loop words octet i₀ i = Unit {0}

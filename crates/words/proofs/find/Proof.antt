@@ -1,19 +1,19 @@
--- `page::word_end` meets its contract. The loop stays behind the start and in the list.
+-- `words::find` is safe and ends.
 -- Assumes nothing.
 use Prim.Native.Nat.{_-_, _≤_}
 use native.Mathlib.Omega.{arith}
 use lib.ListN.{length}
-use Rattle.page.proofs.word_end.Statement.{statement}
-use Rattle.page.proofs.word_end.Tie as tie
+use Rattle.words.proofs.find.Statement.{statement}
+use Rattle.words.proofs.find.Tie as tie
 
 abbrev Inv-loop : tie.InvT-loop
-Inv-loop words start i₀ i = (start ≤ i) × (i ≤ length words)
+Inv-loop octets from octet i₀ i = from ≤ i
 
 abbrev μ-loop : tie.MeasureT-loop
-μ-loop words start i₀ i = length words - i
+μ-loop octets from octet i₀ i = length octets - i
 
-pub word-end-spec : {M : Type 1} → statement M
-word-end-spec =
+pub find-spec : {M : Type 1} → statement M
+find-spec =
     tie.close
     (tie.spec
     Inv-loop

@@ -15,7 +15,7 @@ fn coding_number(coding: UserDataCoding) -> usize {
 fn put_coding_name(out: &mut Page, at: usize, dcs: u8) -> usize {
     let names = b"7-bit (DCS \n8-bit (DCS \nUCS2 (DCS \ncompressed (DCS \n";
     let n = coding_number(coding::user_data_coding(dcs));
-    page::put(out, at, page::word(names, n))
+    page::put(out, at, words::word(names, n))
 }
 
 // A coding's name with its TP-DCS: `7-bit (DCS 00)`.
@@ -27,7 +27,7 @@ pub fn put_coding(out: &mut Page, at: usize, dcs: u8) -> usize {
 
 // The words of an octet in a list, or that it is reserved.
 fn put_meaning(out: &mut Page, at: usize, list: &[u8], octet: u8) -> usize {
-    let words = page::words_of(list, octet);
+    let words = words::words_of(list, octet);
     if words.len() == 0 {
         return page::put(out, at, b"Reserved");
     }
@@ -47,7 +47,7 @@ fn put_status_group(out: &mut Page, at: usize, status: u8) -> usize {
         temporary error, still trying: \n\
         permanent error, not trying any more: \n\
         temporary error, not trying any more: \n";
-    page::put(out, at, page::word(groups, status as usize / 32))
+    page::put(out, at, words::word(groups, status as usize / 32))
 }
 
 // The statuses that have a meaning of their own; those from 60 on are those from 20 on.

@@ -1,9 +1,9 @@
--- `lines::fields::split` is safe and ends.
+-- `words::split` is safe and ends.
 -- Assumes nothing.
 use Prim.Native.Nat.{_-_}
 use native.Mathlib.Omega.{arith}
-use Rattle.lines.proofs.fields.split.Statement.{statement}
-use Rattle.lines.proofs.fields.split.Tie as tie
+use Rattle.words.proofs.split.Statement.{statement}
+use Rattle.words.proofs.split.Tie as tie
 
 abbrev Inv-loop : tie.InvT-loop
 Inv-loop line starts₀ ends₀ count₀ at₀ starts ends count at = Unit {0}

@@ -1,10 +1,10 @@
--- `lines::fields::skip_spaces` is safe and ends.
+-- `words::skip_spaces` is safe and ends.
 -- Assumes nothing.
 use Prim.Native.Nat.{_-_}
 use native.Mathlib.Omega.{arith}
 use lib.ListN.{length}
-use Rattle.lines.proofs.fields.skip_spaces.Statement.{statement}
-use Rattle.lines.proofs.fields.skip_spaces.Tie as tie
+use Rattle.words.proofs.skip_spaces.Statement.{statement}
+use Rattle.words.proofs.skip_spaces.Tie as tie
 
 abbrev Inv-loop : tie.InvT-loop
 Inv-loop line from i₀ i = Unit {0}

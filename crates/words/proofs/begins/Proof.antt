@@ -1,19 +1,19 @@
--- `lines::fields::same` is safe and ends.
+-- `words::begins` is safe and ends.
 -- Assumes nothing.
 use Prim.Native.Nat.{_-_}
 use native.Mathlib.Omega.{arith}
 use lib.ListN.{length}
-use Rattle.lines.proofs.fields.same.Statement.{statement}
-use Rattle.lines.proofs.fields.same.Tie as tie
+use Rattle.words.proofs.begins.Statement.{statement}
+use Rattle.words.proofs.begins.Tie as tie
 
 abbrev Inv-loop : tie.InvT-loop
-Inv-loop word other i₀ i = Unit {0}
+Inv-loop word with i₀ i = Unit {0}
 
 abbrev μ-loop : tie.MeasureT-loop
-μ-loop word other i₀ i = length word - i
+μ-loop word with i₀ i = length with - i
 
-pub same-spec : {M : Type 1} → statement M
-same-spec =
+pub begins-spec : {M : Type 1} → statement M
+begins-spec =
     tie.close
     (tie.spec
     Inv-loop
