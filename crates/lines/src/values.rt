@@ -1,154 +1,52 @@
 // What a field or the value of a key may hold: numbers, octets, times and validity periods.
 use coding::UserData;
-use optional::OptionalOctet;
-use page::HexRead;
 use time::Time;
 use words::begins;
 use words::behind;
 use words::least;
 use words::part;
-use words::same;
 use words::word_number;
 
 // The digits that a number may have.
 const MOST_DIGITS: usize = 9;
 
-pub enum NumberRead {
-    Is(u64),
-    NotOne,
-}
+// What a text that is no such number counts as: more than any of them.
+const NO_NUMBER: u64 = 1000000000;
 
-pub enum OctetRead {
-    Is(u8),
-    NotOne,
-}
-
-pub enum ZoneRead {
-    Is(i8),
-    NotOne,
-}
-
-// A decimal number of at most nine digits.
-pub fn number(text: &[u8]) -> NumberRead {
+// The value of a decimal number of at most nine digits.
+pub fn decimal(text: &[u8]) -> u64 {
     if text.len() == 0 {
-        return NumberRead::NotOne;
+        return NO_NUMBER;
     }
     if MOST_DIGITS < text.len() {
-        return NumberRead::NotOne;
+        return NO_NUMBER;
     }
-    let mut n: u64 = 0;
+    let mut n = 0;
     let mut i = 0;
     while i < text.len() {
         let c = text[i];
         if c < b'0' {
-            return NumberRead::NotOne;
+            return NO_NUMBER;
         }
         if b'9' < c {
-            return NumberRead::NotOne;
+            return NO_NUMBER;
         }
         n = n * 10 + (c - b'0') as u64;
         i += 1;
     }
-    NumberRead::Is(n)
-}
-
-// A number to 255.
-pub fn small_number(text: &[u8]) -> OctetRead {
-    let NumberRead::Is(n) = number(text) else {
-        return OctetRead::NotOne;
-    };
-    if 255 < n {
-        return OctetRead::NotOne;
-    }
-    OctetRead::Is(n as u8)
-}
-
-// A number from -128 to 127.
-pub fn zone(text: &[u8]) -> ZoneRead {
-    if begins(text, b"-") {
-        let NumberRead::Is(n) = number(behind(text, 1)) else {
-            return ZoneRead::NotOne;
-        };
-        return below_zero(n);
-    }
-    let NumberRead::Is(n) = number(text) else {
-        return ZoneRead::NotOne;
-    };
-    if 127 < n {
-        return ZoneRead::NotOne;
-    }
-    ZoneRead::Is(n as i8)
-}
-
-// The number as far below zero as n is above.
-fn below_zero(n: u64) -> ZoneRead {
-    if 128 < n {
-        return ZoneRead::NotOne;
-    }
-    if n == 128 {
-        return ZoneRead::Is(-128);
-    }
-    ZoneRead::Is(-(n as i8))
-}
-
-// Two hexadecimal digits.
-pub fn octet(text: &[u8]) -> OctetRead {
-    let mut read = [0u8; 1];
-    let HexRead::Octets(n) = page::read_hex(text, &mut read) else {
-        return OctetRead::NotOne;
-    };
-    if n != 1 {
-        return OctetRead::NotOne;
-    }
-    OctetRead::Is(read[0])
+    n
 }
 
 pub fn is_absent(value: &[u8]) -> bool {
-    same(value, b"-")
+    value.len() == 1 && value[0] == b'-'
 }
 
 // The hexadecimal digits of a field: none where it is -.
-pub fn digits_of(field: &[u8]) -> &[u8] {
+fn digits_of(field: &[u8]) -> &[u8] {
     if is_absent(field) {
         return part(field, 0, 0);
     }
     field
-}
-
-// ---- the forms of a value
-
-pub fn is_flag(value: &[u8]) -> bool {
-    same(value, b"0") || same(value, b"1")
-}
-
-pub fn is_small_number(value: &[u8]) -> bool {
-    match small_number(value) {
-        OctetRead::Is(_) => true,
-        OctetRead::NotOne => false,
-    }
-}
-
-pub fn is_octet(value: &[u8]) -> bool {
-    match octet(value) {
-        OctetRead::Is(_) => true,
-        OctetRead::NotOne => false,
-    }
-}
-
-pub fn is_octets(value: &[u8]) -> bool {
-    page::is_hex_text(digits_of(value))
-}
-
-// The digits of a time are any octets; behind x: they are hexadecimal.
-pub fn is_time(value: &[u8]) -> bool {
-    if begins(value, b"x:") {
-        return is_octets(behind(value, 2));
-    }
-    true
-}
-
-fn is_seven_octets(value: &[u8]) -> bool {
-    value.len() == 14 && page::is_hex_text(value)
 }
 
 // The form of a validity period: 0 for relative, 1 for absolute, 2 for enhanced, 3 for none of these.
@@ -161,7 +59,41 @@ pub fn period_value(value: &[u8]) -> &[u8] {
     behind(value, 9)
 }
 
-pub fn is_period(value: &[u8]) -> bool {
+// ---- the forms of a value
+
+fn is_flag(value: &[u8]) -> bool {
+    value.len() == 1 && decimal(value) < 2
+}
+
+// A number from -128 to 127.
+fn is_zone(value: &[u8]) -> bool {
+    if begins(value, b"-") {
+        return decimal(behind(value, 1)) <= 128;
+    }
+    decimal(value) <= 127
+}
+
+fn is_octet(value: &[u8]) -> bool {
+    value.len() == 2 && page::is_hex_text(value)
+}
+
+fn is_octets(value: &[u8]) -> bool {
+    page::is_hex_text(digits_of(value))
+}
+
+// The digits of a time are any octets; behind x: they are hexadecimal.
+fn is_time(value: &[u8]) -> bool {
+    if begins(value, b"x:") {
+        return is_octets(behind(value, 2));
+    }
+    true
+}
+
+fn is_seven_octets(value: &[u8]) -> bool {
+    value.len() == 14 && page::is_hex_text(value)
+}
+
+fn is_period(value: &[u8]) -> bool {
     match period_form(value) {
         0 => is_octet(period_value(value)),
         1 => is_time(period_value(value)),
@@ -170,24 +102,54 @@ pub fn is_period(value: &[u8]) -> bool {
     }
 }
 
+// A value has a form, which a letter stands for: a word, a flag, a number to 255 or a count of nine digits, a zone, an octet, octets,
+// a time, a validity period, an absent value; N and X may be absent.
+pub fn has_form(form: u8, value: &[u8]) -> bool {
+    match form {
+        b'w' => true,
+        b'f' => is_flag(value),
+        b'n' => decimal(value) < 256,
+        b'N' => decimal(value) < 256 || is_absent(value),
+        b'c' => decimal(value) < NO_NUMBER,
+        b'z' => is_zone(value),
+        b'x' => is_octet(value),
+        b'X' => is_octet(value) || is_absent(value),
+        b'o' => is_octets(value),
+        b't' => is_time(value),
+        b'p' => is_period(value),
+        b'-' => is_absent(value),
+        _ => false,
+    }
+}
+
 // ---- values that have their form
 
 pub fn flag_of(value: &[u8]) -> bool {
-    same(value, b"1")
+    decimal(value) == 1
 }
 
 pub fn number_of(value: &[u8]) -> u8 {
-    match small_number(value) {
-        OctetRead::Is(n) => n,
-        OctetRead::NotOne => 0,
+    let n = decimal(value);
+    if n < 256 { n as u8 } else { 0 }
+}
+
+// The number as far below zero as n is above.
+fn below_zero(n: u64) -> i8 {
+    if n < 128 { -(n as i8) } else { -128 }
+}
+
+pub fn zone_of(value: &[u8]) -> i8 {
+    if begins(value, b"-") {
+        return below_zero(decimal(behind(value, 1)));
     }
+    let n = decimal(value);
+    if n < 128 { n as i8 } else { 127 }
 }
 
 pub fn octet_of(value: &[u8]) -> u8 {
-    match octet(value) {
-        OctetRead::Is(x) => x,
-        OctetRead::NotOne => 0,
-    }
+    let mut octet = [0u8; 1];
+    page::read_hex(value, &mut octet);
+    octet[0]
 }
 
 // Stores the octets of hexadecimal digits, those that fit; how many there are in all.

@@ -3,6 +3,7 @@ mod asking;
 
 use libc::STDIN_FILENO;
 use libc::STDOUT_FILENO;
+use lines::reasons;
 use page::Page;
 
 // The octets that a line may have.
@@ -18,12 +19,6 @@ const MOST_HELD: usize = 49153;
 struct Held {
     length: usize,
     at: usize,
-}
-
-// Appends the answer to a line.
-pub fn answer_line(line: &[u8], out: &mut Page, at: usize, show: bool) -> usize {
-    let next = asking::answer(line, out, at, show);
-    page::put(out, next, b"\n")
 }
 
 // Adds octets to a line; how many it has then.
@@ -56,23 +51,24 @@ fn write_out(out: &Page, at: usize) {
     io::write_all(STDOUT_FILENO, words::part(out, 0, at));
 }
 
-// Writes the answers out if the next may not fit; the place for it.
-fn make_room(out: &Page, at: usize) -> usize {
-    if at < MOST_HELD {
-        return at;
+// Ends an answer, and writes the answers out if the next may not fit; the place for it.
+fn end_answer(out: &mut Page, at: usize) -> usize {
+    let next = page::put(out, at, b"\n");
+    if next < MOST_HELD {
+        return next;
     }
-    write_out(out, at);
+    write_out(out, next);
     0
 }
 
 // Answers the line held.
 fn answer_held(line: &Line, length: usize, out: &mut Page, at: usize, show: bool) -> usize {
     if MOST_IN_LINE < length {
-        let next = page::put(out, at, b"bad line too long\n");
-        return make_room(out, next);
+        let next = reasons::bad(out, at, reasons::LINE_TOO_LONG);
+        return end_answer(out, next);
     }
-    let next = answer_line(words::part(line, 0, length), out, at, show);
-    make_room(out, next)
+    let next = asking::answer(words::part(line, 0, length), out, at, show);
+    end_answer(out, next)
 }
 
 // Answers the lines that end in these octets, and holds the rest.
@@ -149,40 +145,21 @@ fn answer_requests(show: bool) {
     write_out(&out, at);
 }
 
-fn say(words: &[u8]) {
-    io::write_all(STDOUT_FILENO, words);
-}
-
-// The arguments.
-fn say_arguments() {
-    say(
+// How the program is used.
+fn say_usage() {
+    io::write_all(
+        STDOUT_FILENO,
         b"\
 tpdutool         answers requests on standard input, a line each, with a line each
 tpdutool show    answers for people, several lines a message
 tpdutool help    says this
 
-",
-    );
-}
-
-// The requests that name a kind of message.
-fn say_messages() {
-    say(
-        b"\
 deliver HEX, submit HEX, submit-report-ack HEX, submit-report-error HEX,
 deliver-report-ack HEX, deliver-report-error HEX, status-report HEX
                              the fields of a message
 re-KIND HEX                  a message of one of these kinds, read and written back
 enc-KIND key=value ..        the octets of a record: deliver, submit, submit-report,
                              deliver-report, status-report
-",
-    );
-}
-
-// The other requests.
-fn say_parts() {
-    say(
-        b"\
 unpack COUNT HEX             the text of so many septets
 unpack-header COUNT HEX      the same behind a header
 pack HEX                     the septets of a text, which is given as UTF-8
@@ -194,13 +171,6 @@ digits Y M D H M S Z         the digits of a time
 docs/REQUESTS.md has the keys and the answers.
 ",
     );
-}
-
-// How the program is used.
-fn say_usage() {
-    say_arguments();
-    say_messages();
-    say_parts();
 }
 
 // Does what the arguments ask for: without one it answers requests, with `show` for people; else it says how it is used.

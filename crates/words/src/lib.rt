@@ -126,44 +126,56 @@ pub fn words_of(words: &[u8], octet: u8) -> &[u8] {
     word_from(words, start_behind(words, octet))
 }
 
-// ---- the fields of a line
+// ---- the fields of a line, which stand between spaces
 
-// A line's fields that are kept; one more counts as too many.
-pub const MOST: usize = 20;
-
-// The first place from `from` on that holds no space, or the end.
-fn skip_spaces(line: &[u8], from: usize) -> usize {
-    let mut i = from;
+// Where field n of a line begins, counted from 0; the end of the line if there are fewer.
+pub fn field_start(line: &[u8], n: usize) -> usize {
+    let mut before = n;
+    let mut last = b' ';
+    let mut i = 0;
     while i < line.len() {
-        if line[i] != b' ' {
-            return i;
+        if last == b' ' && line[i] != b' ' {
+            if before == 0 {
+                return i;
+            }
+            before -= 1;
         }
+        last = line[i];
         i += 1;
     }
     i
 }
 
-// Finds the fields; how many there are, at most one more than are kept.
-pub fn split(line: &[u8], starts: &mut [usize; 20], ends: &mut [usize; 20]) -> usize {
-    let mut count = 0;
-    let mut at = skip_spaces(line, 0);
-    while at < line.len() {
-        if MOST <= count {
-            return MOST + 1;
-        }
-        let end = find(line, at, b' ');
-        starts[count] = at;
-        ends[count] = end;
-        count += 1;
-        at = skip_spaces(line, end);
-    }
-    count
+// The field that begins at a place.
+pub fn field_from(line: &[u8], start: usize) -> &[u8] {
+    part(line, start, find(line, start, b' '))
 }
 
-// Field i of a line.
-pub fn field<'a>(line: &'a [u8], starts: &[usize; 20], ends: &[usize; 20], i: usize) -> &'a [u8] {
-    if MOST <= i {
+// Field n of a line, counted from 0; no octets if there are fewer.
+pub fn field(line: &[u8], n: usize) -> &[u8] {
+    field_from(line, field_start(line, n))
+}
+
+// How many fields a line has.
+pub fn fields(line: &[u8]) -> usize {
+    let mut n = 0;
+    let mut last = b' ';
+    let mut i = 0;
+    while i < line.len() {
+        if last == b' ' && line[i] != b' ' {
+            n += 1;
+        }
+        last = line[i];
+        i += 1;
+    }
+    n
+}
+
+// The last field of a line; no octets if it has none.
+pub fn last_field(line: &[u8]) -> &[u8] {
+    let count = fields(line);
+    if count == 0 {
         return part(line, 0, 0);
     }
-    part(line, starts[i], ends[i])
+    field(line, count - 1)
 }

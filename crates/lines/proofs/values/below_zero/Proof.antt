@@ -18,8 +18,7 @@ pub below-zero-spec : {M : Type 1} → statement M
 below-zero-spec =
     tie.close
     (tie.spec
-    (λ c. tt)
-    (λ c. tt)
     (λ c. record { sfits = omega arith })
-    (λ c. rw (toZ-pos w8 (c .before .before .args .n) (omega arith)) (negated (c .before .before .args .n) (omega arith)))
+    (λ c. rw (toZ-pos w8 (c .before .args .n) (omega arith)) (negated (c .before .args .n) (omega arith)))
+    (λ c. tt)
     (λ c. tt))

@@ -1,12 +1,12 @@
--- `lines::values::number` is safe and ends: the digits read so far are a number of as many digits.
+-- `lines::values::decimal` is safe and ends: the digits read so far are a number of as many digits.
 -- Assumes nothing.
 use Prim.Native.Nat.{_-_, _^_, _≤_, _<_}
 use native.Mathlib.Nat.{pow-le-pow-right, pow-succ'}
 use native.Mathlib.Numerals.{add-one}
 use native.Mathlib.Omega.{arith}
 use lib.ListN.{length}
-use Rattle.lines.proofs.values.number.Statement.{statement}
-use Rattle.lines.proofs.values.number.Tie as tie
+use Rattle.lines.proofs.values.decimal.Statement.{statement}
+use Rattle.lines.proofs.values.decimal.Tie as tie
 
 abbrev Inv-loop : tie.InvT-loop
 Inv-loop text n₀ i₀ n i = (length text ≤ 9) × (n < 10 ^ i)
@@ -21,8 +21,8 @@ module _ (c : tie.Else4 Inv-loop μ-loop) where
       let b : 10 ^ c .before .before .before .before .loop .i ≤ 10 ^ 8 = pow-le-pow-right {n = 10} (omega arith) {i = c .before .before .before .before .loop .i} {j = 8} (omega arith) in
       omega arith
 
-pub number-spec : {M : Type 1} → statement M
-number-spec =
+pub decimal-spec : {M : Type 1} → statement M
+decimal-spec =
     tie.close
     (tie.spec
     Inv-loop
