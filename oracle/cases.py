@@ -1,4 +1,4 @@
-"""Requests for the comparison and for the vectors, made from a seed.
+"""Requests for the comparison and for the recorded part of the stored run, made from a seed.
 
 Nothing here knows an answer. Messages and records are put together so that most are nearly right:
 whole, or with one or two things wrong at a boundary, since a request that fails in its first octet
