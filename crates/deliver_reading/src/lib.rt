@@ -10,7 +10,7 @@ use octets::Place;
 use octets::Refusal;
 use octets::Span;
 
-pub const MTI_DELIVER: u8 = 0;
+const MTI_DELIVER: u8 = 0;
 
 // The fields of one octet, and where the others start: the address, the time, and so many octets of user data.
 pub struct DeliverFields {

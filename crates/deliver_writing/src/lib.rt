@@ -13,7 +13,7 @@ use octets::Checked;
 use octets::Refusal;
 use octets::Written;
 
-pub const MTI_DELIVER: u8 = 0;
+const MTI_DELIVER: u8 = 0;
 
 // Writes parts that were checked; how many octets they take.
 fn put_parts(

@@ -15,7 +15,7 @@ use octets::Refusal;
 use octets::Written;
 use validity::ValidityPeriod;
 
-pub const MTI_SUBMIT: u8 = 1;
+const MTI_SUBMIT: u8 = 1;
 
 // The flags of the first octet.
 pub fn flags(rp: bool, udhi: bool, srr: bool, rd: bool) -> u8
