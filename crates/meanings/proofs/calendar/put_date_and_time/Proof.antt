@@ -1,11 +1,11 @@
--- `people::calendar::put_date_and_time` is safe and ends.
+-- `meanings::calendar::put_date_and_time` is safe and ends.
 -- Assumes nothing.
 use Prim.Native.Nat.{_-_}
 use native.Mathlib.Omega.{arith}
 use borrow.Author.Needs.{needs}
 use lib.ListN.{length}
-use Rattle.people.proofs.calendar.put_date_and_time.Statement.{statement}
-use Rattle.people.proofs.calendar.put_date_and_time.Tie as tie
+use Rattle.meanings.proofs.calendar.put_date_and_time.Statement.{statement}
+use Rattle.meanings.proofs.calendar.put_date_and_time.Tie as tie
 
 abbrev Inv-loop : tie.InvT-loop
 Inv-loop out₀ at digits separators place₀ i₀ out place i = Unit
