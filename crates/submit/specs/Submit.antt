@@ -1,4 +1,4 @@
--- SMS-SUBMIT (TS 23.040 §9.2.2.2): its line, its reader's answer, and what its writer makes.
+-- SMS-SUBMIT (TS 23.040 §9.2.2.2): the record of its line's fields, its reader's answer, and what its writer makes.
 use Prim.Native.Nat.{ℕ, _+_, _-_}
 use mathlib.Core.Bool.{Bool, true, false, _&&_}
 use mathlib.Core.List.{List, [], _++_}
