@@ -20,13 +20,13 @@ use Rattle.octets.specs.declared.Refusal.the-variants.{LengthTooLarge, AddressT
 use Rattle.octets.specs.declared.Written.{Written}
 use Rattle.octets.proofs.Checks.{made-unless}
 use Rattle.octets.proofs.Laws.{take-pad}
-use Rattle.address_writing.specs.Writing.{addressOctets, octetsOr, addressMaking, addressChecks}
-use Rattle.address_writing.specs.Parts.{checkOf}
-use Rattle.address_writing.proofs.Checks.{afterCheck, address-checked, octets-made, checks-passed}
+use Rattle.address.specs.Writing.{addressOctets, octetsOr, addressMaking, addressChecks}
+use Rattle.address.specs.Internal.{checkOf}
+use Rattle.address.proofs.Checks.{afterCheck, address-checked, octets-made, checks-passed}
 use Rattle.address.specs.declared.SMSAddress.{SMSAddress}
 use Rattle.address.specs.Address.{typeOfNumber, planOf, addressWith, textIn, addressIn, addressSize, canonicalAddress, textHeld, encoding}
 use Rattle.address.proofs.Shapes.{octets-read, octets-octets, read-fits}
-use Rattle.address.proofs.Writing.{encoding-parts}
+use Rattle.address.proofs.RecordWritten.{encoding-parts}
 
 -- a whole field: octets, as many as the first of them tells
 pub record Field (f : List ℕ) : Type 0 where

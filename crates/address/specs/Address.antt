@@ -13,9 +13,9 @@ use Rattle.octets.specs.Texts.{codes}
 use Rattle.octets.specs.declared.Refusal.the-variants.{LengthTooLarge}
 use Rattle.octets.specs.declared.Written.{Written}
 use Rattle.septets.specs.Septets.{septetsIn}
-use Rattle.text.specs.Alphabet.{indexOf}
-use Rattle.text.specs.Reading.{textOf}
-use Rattle.address_writing.specs.Writing.{digitCharacters, digitValue, isDigit, addressOctets, octetsOr, addressMaking}
+use Rattle.gsm7.specs.Alphabet.{indexOf}
+use Rattle.gsm7.specs.Reading.{textOf}
+use Rattle.address.specs.Writing.{digitCharacters, digitValue, isDigit, addressOctets, octetsOr, addressMaking}
 use Rattle.address.specs.declared.SMSAddress.{SMSAddress}
 
 -- ---- reading

@@ -1,4 +1,6 @@
 // Addresses (TS 23.040 §9.1.2.5).
+pub mod writing;
+
 ghost use mathlib.Core.Path.{_≡_};
 ghost use mathlib.Core.List.{[], map};
 ghost use Prim.Native.Nat.{_+_, _/_, _≤_, _<_};
@@ -6,8 +8,8 @@ ghost use lib.ListN.{length, getD, take, drop};
 ghost use Rattle.octets.specs.Lent.{Wrote, lend};
 ghost use Rattle.octets.specs.SemiOctets.{semiOctets};
 ghost use Rattle.address.specs.Address.{digitCharacter, withoutF, valueText, addressWith, addressIn, addressSize, encoding};
-ghost use Rattle.address.specs.Parts.{fieldAt};
-use address_writing::TYPE_OF_NUMBER_ALPHANUMERIC;
+ghost use Rattle.address.specs.Internal.{fieldAt};
+use crate::writing::TYPE_OF_NUMBER_ALPHANUMERIC;
 use octets::Octet;
 use octets::Place;
 use octets::Refusal;
@@ -69,7 +71,7 @@ fn value_text(ton: u8, count: usize, value: &[u8], text: &mut [u8; 290]) -> usiz
     ensures { λ r. ⌜ Wrote 0 (valueText ton count (now (value .entry))) (now (text .entry)) r (now (text .exit)) ⌝ }
 {
     if ton == TYPE_OF_NUMBER_ALPHANUMERIC {
-        let unpacked = text::unpack_septets(value, 0, count * 4 / 7);
+        let unpacked = gsm7::decode::unpack_septets(value, 0, count * 4 / 7);
         let shown = unpacked.text;
         let n = unpacked.text_length;
         return octets::put_octets(text, 0, &shown[..n]);
@@ -109,7 +111,7 @@ impl SMSAddress {
             return Written::Refused(Refusal::LengthTooLarge);
         }
         let address = self.address;
-        address_writing::encode_parts(self.ton, self.npi, &address[..n], out)
+        writing::encode_parts(self.ton, self.npi, &address[..n], out)
     }
 
     // The address field that starts at `at`.

@@ -20,7 +20,7 @@ use Rattle.coding.specs.Coding.{codingOf, dataOctets, dataChecks, dataWith}
 use Rattle.coding.proofs.Laws.{data-held, data-at-most, data-limit}
 use Rattle.time.specs.Time.{isTime, timeDigits, timeIn, digitsOf}
 use Rattle.time.proofs.Laws.{octets-back, digits-time, length-digits, time-held}
-use Rattle.address_writing.specs.Writing.{addressChecks}
+use Rattle.address.specs.Writing.{addressChecks}
 use Rattle.address.specs.Address.{canonicalAddress}
 use Rattle.address.proofs.Laws.{canonical-reads, octets-again, length-short, read-checked, Field as AddressField}
 use Rattle.layout.specs.Demand.{Demand3}
@@ -28,11 +28,11 @@ use Rattle.layout.specs.Layout.{messageType, kept, isSet, reached, read, canoni
 use Rattle.layout.proofs.Makes.{Makes}
 use Rattle.layout.proofs.Demand.{Answers, Writes, demand3, answers-plain, answers-two}
 use Rattle.layout.proofs.Rewriting.{Told}
-use Rattle.deliver.proofs.Writing.{fits, by-parts}
+use Rattle.deliver.proofs.RecordWritten.{fits, by-parts}
 use Rattle.deliver.specs.declared.SmsDeliver.{SmsDeliver}
 use Rattle.deliver.specs.Deliver.{delivered, line, deliver, answer, unread, delivering, Parts, parts}
-use Rattle.deliver_reading.specs.Line.{bits, behindCoding, behindAddress, line as fields}
-use Rattle.deliver_writing.specs.Writing.{octetsIn, making}
+use Rattle.deliver.specs.Line.{bits, behindCoding, behindAddress, line as fields}
+use Rattle.deliver.specs.Writing.{octetsIn, making}
 
 -- ---- the parts alone
 

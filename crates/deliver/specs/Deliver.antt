@@ -14,8 +14,8 @@ use Rattle.coding.specs.Coding.{dataWith, dataOf}
 use Rattle.time.specs.Time.{timeIn, digitsOf, capitals}
 use Rattle.address.specs.Address.{addressIn, addressWith, textHeld}
 use Rattle.layout.specs.Layout.{Format, Layout, plain, Reached, reached, halted, done, _then_, isSet, messageType}
-use Rattle.deliver_reading.specs.Line.{Fields, line as fields}
-use Rattle.deliver_writing.specs.Writing.{making}
+use Rattle.deliver.specs.Line.{Fields, line as fields}
+use Rattle.deliver.specs.Writing.{making}
 use Rattle.deliver.specs.declared.SmsDeliver.{SmsDeliver}
 use Rattle.deliver.specs.declared.DeliverRead.{DeliverRead}
 
@@ -38,7 +38,7 @@ delivered x = record {
   «tp_user_data» = dataWith (x .ud);
 }
 
--- the line of fields (deliver_reading/specs/Line.antt), and the record
+-- the line of fields (deliver/specs/Line.antt), and the record
 unfoldable pub line : Format SmsDeliver
 line = fields then λ x. done (delivered x)
 

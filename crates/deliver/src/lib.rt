@@ -1,15 +1,18 @@
 // SMS-DELIVER (TS 23.040 §9.2.2.1).
+pub mod reading;
+pub mod writing;
+
 ghost use mathlib.Core.Path.{_≡_};
 ghost use Prim.Native.Nat.{_+_};
 ghost use Rattle.octets.specs.Choice.{flag};
 ghost use Rattle.octets.specs.Lent.{lend};
 ghost use Rattle.layout.specs.Layout.{read};
-ghost use Rattle.deliver_reading.specs.Line.{fieldsAt, Inside};
+ghost use Rattle.deliver.specs.Line.{fieldsAt, Inside};
 ghost use Rattle.deliver.specs.Deliver.{delivered, deliver, blank as blankMessage, answer, unread, delivering};
+use crate::reading::DeliverFields;
+use crate::reading::DeliverFound;
 use address::SMSAddress;
 use coding::UserData;
-use deliver_reading::DeliverFields;
-use deliver_reading::DeliverFound;
 use octets::Outcome;
 use octets::Refusal;
 use octets::Written;
@@ -124,7 +127,7 @@ impl SmsDeliver {
         let text = self.tp_originating_address.address;
         let digits = self.tp_service_centre_timestamp.digits;
         let octets = self.tp_user_data.octets;
-        deliver_writing::encode_parts(
+        writing::encode_parts(
             flags,
             self.tp_mti,
             self.tp_originating_address.ton,
@@ -143,7 +146,7 @@ impl SmsDeliver {
     pub fn decode(data: &[u8]) -> DeliverRead
         ensures { λ r. ⌜ r ≡ answer (read deliver (now («data» .entry))) ⌝ }
     {
-        match deliver_reading::fields_of(data) {
+        match reading::fields_of(data) {
             DeliverFound::Refused(r) => refused(r),
             DeliverFound::Whole(f) => DeliverRead {
                 outcome: Outcome::Done,

@@ -18,15 +18,15 @@ use Rattle.layout.proofs.Makes.{Makes, makes-then}
 use Rattle.layout.proofs.Demand.{Answers, Writes, Stopped, demand3, stopped-in-line, demand3-stopping, answers-plain, answers-stopping}
 use Rattle.layout.proofs.Rewriting.{Told}
 use Rattle.layout.proofs.FirstOctet.{kept-type, kept-bit}
-use Rattle.optional.specs.Optional.{octetsHeld}
-use Rattle.optional.specs.Parameters.{Parameters}
-use Rattle.optional.specs.declared.OptionalOctet.{OptionalOctet}
-use Rattle.optional.specs.declared.OptionalOctet.the-variants.{Absent, Present}
+use Rattle.parameters.specs.Optional.{octetsHeld}
+use Rattle.parameters.specs.Parameters.{Parameters}
+use Rattle.parameters.specs.declared.OptionalOctet.{OptionalOctet}
+use Rattle.parameters.specs.declared.OptionalOctet.the-variants.{Absent, Present}
 use Rattle.parameters.specs.Line.{parameters}
-use Rattle.parameters_writing.proofs.Checking.{answers}
+use Rattle.parameters.proofs.Checking.{answers}
 use Rattle.parameters.proofs.Made.{Held, parameters-make, joined-append, past-append}
 use Rattle.deliver_report.specs.DeliverReport.{reported, rest, ackLine, errorLine, stopped, ack, error, answer, reporting, parts, partsOctets}
-use Rattle.deliver_report_writing.specs.Writing.{firstOctet, octetsIn, making}
+use Rattle.deliver_report.specs.Writing.{firstOctet, octetsIn, making}
 use Rattle.deliver_report.specs.declared.SmsDeliverReport.{SmsDeliverReport}
 
 abbrev Canonical : SmsDeliverReport → List Field → Type 0

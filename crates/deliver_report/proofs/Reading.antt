@@ -13,10 +13,10 @@ use Rattle.octets.specs.declared.Refusal.{Refusal}
 use Rattle.octets.specs.declared.Refusal.the-variants.{OctetsEnd}
 use Rattle.layout.specs.Layout.{halted, readFrom, indicatorAt}
 use Rattle.layout.proofs.Steps.{indicator-goes-on, indicator-ends, then-goes-on, then-ends, done-reached}
-use Rattle.optional.specs.declared.OptionalOctet.{OptionalOctet}
+use Rattle.parameters.specs.declared.OptionalOctet.{OptionalOctet}
 use Rattle.parameters.specs.Line.{parameters, parametersAnswer}
-use Rattle.parameters.specs.declared.ParametersRead.{ParametersRead}
-use Rattle.parameters.proofs.Reading.{Told, parameters-halted}
+use Rattle.parameters.specs.declared.reading.ParametersRead.{ParametersRead}
+use Rattle.parameters.proofs.StepsOfReader.{Told, parameters-halted}
 use Rattle.parameters.proofs.Outcomes.{Outcomes, outcomes-of}
 use Rattle.deliver_report.specs.DeliverReport.{reported, rest, ackLine, errorLine, stopped, ack, error, answer}
 use Rattle.deliver_report.specs.declared.DeliverReportRead.{DeliverReportRead}

@@ -12,11 +12,11 @@ use Rattle.octets.specs.declared.Refusal.the-variants.{LengthTooLarge, OctetsEn
 use Rattle.octets.specs.declared.Written.{Written}
 use Rattle.coding.specs.Coding.{codingOf, characterSet, dataOctets, dataWith, dataOf}
 use Rattle.layout.specs.Layout.{indicator, indicatorSize, kept, isSet, leading, Format, field, done, _then_, message, one, Reached, reached, halted, Layout, plain, stopping, stops, after, reading, readFrom, read, fieldsOf, canonicalOf}
-use Rattle.optional.specs.Parameters.{Parameters, noParameters}
-use Rattle.optional.specs.declared.OptionalOctet.{OptionalOctet}
-use Rattle.optional.specs.declared.OptionalOctet.the-variants.{Absent, Present}
+use Rattle.parameters.specs.Parameters.{Parameters, noParameters}
+use Rattle.parameters.specs.declared.OptionalOctet.{OptionalOctet}
+use Rattle.parameters.specs.declared.OptionalOctet.the-variants.{Absent, Present}
 use Rattle.parameters.specs.Line.{parameters}
-use Rattle.deliver_report_writing.specs.Writing.{octetsIn, partsChecks}
+use Rattle.deliver_report.specs.Writing.{octetsIn, partsChecks}
 use Rattle.deliver_report.specs.declared.DeliverReportRead.{DeliverReportRead}
 use Rattle.deliver_report.specs.declared.SmsDeliverReport.{SmsDeliverReport}
 

@@ -1,11 +1,13 @@
 // SMS-DELIVER-REPORT (TS 23.040 §9.2.2.1a), the acknowledgement of an SMS-DELIVER or SMS-STATUS-REPORT.
+pub mod writing;
+
 ghost use mathlib.Core.Path.{_≡_};
 ghost use mathlib.Core.Bool.{false};
 ghost use Prim.Native.Nat.{_-_, _≤_};
 ghost use lib.ListN.{length, take, drop};
 ghost use Rattle.octets.specs.Lent.{lend};
 ghost use Rattle.layout.specs.Layout.{read, readFrom};
-ghost use Rattle.optional.specs.Parameters.{noParameters};
+ghost use Rattle.parameters.specs.Parameters.{noParameters};
 ghost use Rattle.deliver_report.specs.DeliverReport.{reported, stopped as stoppedReport, rest, ack, error, answer, reporting};
 use coding::UserData;
 use octets::Octet;
@@ -13,8 +15,8 @@ use octets::Outcome;
 use octets::Place;
 use octets::Refusal;
 use octets::Written;
-use optional::OptionalOctet;
-use parameters::ParametersRead;
+use parameters::OptionalOctet;
+use parameters::reading::ParametersRead;
 
 const MTI_DELIVER: u8 = 0;
 // Bits 7 and 5-2 of the first octet of a report, which are unused.
@@ -113,10 +115,10 @@ fn report(
 fn decode_rest(data: &[u8], place: Place, udhi: bool, cause: OptionalOctet) -> DeliverReportRead
     ensures { λ r. ⌜ r ≡ answer (readFrom (rest udhi cause) (now («data» .entry)) (place .at)) ⌝ }
 {
-    let Octet::Read(indicator, next) = parameters::read_indicator(data, place) else {
+    let Octet::Read(indicator, next) = parameters::reading::read_indicator(data, place) else {
         return ended();
     };
-    match parameters::read_parameters(data, next, indicator) {
+    match parameters::reading::read_parameters(data, next, indicator) {
         ParametersRead::Refused(r) => refused(r),
         ParametersRead::Read(pid, dcs, udl, size, behind) => {
             report(udhi, cause, indicator, data, pid, dcs, udl, size, behind.at)
@@ -178,7 +180,7 @@ impl SmsDeliverReport {
         let pid = self.tp_pid;
         let dcs = self.tp_dcs;
         let udl = self.tp_user_data_length;
-        deliver_report_writing::encode_parts(
+        writing::encode_parts(
             self.tp_udhi,
             cause,
             self.tp_parameter_indicator,

@@ -21,7 +21,7 @@ use Rattle.coding.specs.Coding.{codingOf, dataOctets, dataWith, dataOf, dataChe
 use Rattle.coding.proofs.Laws.{data-held, data-passed}
 use Rattle.time.specs.Time.{isTime, timeDigits, timeOctets, timeIn, digitsOf, capitals}
 use Rattle.time.proofs.Laws.{digits-back, length-digits, time-means, time-held, time-size}
-use Rattle.address_writing.specs.Writing.{addressOctets, octetsOr, addressChecks}
+use Rattle.address.specs.Writing.{addressOctets, octetsOr, addressChecks}
 use Rattle.address.specs.Address.{addressIn, addressWith, addressSize, canonicalAddress, textHeld}
 use Rattle.address.proofs.Laws.{Spelled, address-passed}
 use Rattle.layout.specs.Layout.{first, octet, octets, any, address, userData, isSet, messageType, kept, Format, field, done, reached, reading, readFrom, read}
@@ -29,8 +29,8 @@ use Rattle.layout.proofs.Steps.{done-reached, then-goes-on}
 use Rattle.demands.proofs.LayoutBack.{field-read, field-last, message-read, done-read}
 use Rattle.deliver.specs.declared.SmsDeliver.{SmsDeliver}
 use Rattle.deliver.specs.Deliver.{delivered, line, deliver, flagsOf, delivering, parts, capitalised, tooLong}
-use Rattle.deliver_reading.specs.Line.{Fields, bits, behindCoding, behindAddress, line as fields}
-use Rattle.deliver_writing.specs.Writing.{octetsIn, making}
+use Rattle.deliver.specs.Line.{Fields, bits, behindCoding, behindAddress, line as fields}
+use Rattle.deliver.specs.Writing.{octetsIn, making}
 
 -- ---- the checks that a written record passed
 

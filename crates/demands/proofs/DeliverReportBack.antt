@@ -19,18 +19,18 @@ use Rattle.octets.proofs.Checks.{holds, both-hold, made-told}
 use Rattle.coding.specs.Coding.{dataWith, dataOf}
 use Rattle.layout.specs.Layout.{reached, readFrom, read}
 use Rattle.layout.proofs.Steps.{done-reached}
-use Rattle.optional.specs.Optional.{held}
-use Rattle.optional.specs.Parameters.{Parameters, parametersOctets}
-use Rattle.optional.specs.declared.OptionalOctet.{OptionalOctet}
-use Rattle.optional.specs.declared.OptionalOctet.the-variants.{Absent, Present}
-use Rattle.optional.proofs.Laws.{one-at-most}
-use Rattle.parameters_writing.specs.Checking.{indicatorChecks, dataChecks}
+use Rattle.parameters.specs.Optional.{held}
+use Rattle.parameters.specs.Parameters.{Parameters, parametersOctets}
+use Rattle.parameters.specs.declared.OptionalOctet.{OptionalOctet}
+use Rattle.parameters.specs.declared.OptionalOctet.the-variants.{Absent, Present}
+use Rattle.parameters.proofs.Laws.{one-at-most}
+use Rattle.parameters.specs.Checking.{indicatorChecks, dataChecks}
 use Rattle.parameters.specs.Line.{parameters}
 use Rattle.demands.proofs.ParametersBack.{octet-here, indicator-here, not-extended, parameters-here, parameters-limit}
 use Rattle.deliver_report.specs.DeliverReport.{reported, rest, outcomeOf, parametersOf, reporting, Parts, parts, partsOctets}
-use Rattle.deliver_report_writing.specs.Writing.{octetsIn, partsChecks}
+use Rattle.deliver_report.specs.Writing.{octetsIn, partsChecks}
 use Rattle.deliver_report.specs.declared.SmsDeliverReport.{SmsDeliverReport}
-use Rattle.deliver_report_writing.proofs.Writing.{size-is}
+use Rattle.deliver_report.proofs.CheckByCheck.{size-is}
 use Rattle.deliver_report.proofs.Reading.{outcomes}
 
 -- ---- the octets of parts that pass the checks

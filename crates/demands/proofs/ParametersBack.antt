@@ -21,12 +21,12 @@ use Rattle.coding.proofs.Laws.{data-passed}
 use Rattle.layout.specs.Layout.{octet, userData, indicator, indicatorSize, bit, isSet, Format, field, _then_, reached, reading, readFrom, leading}
 use Rattle.demands.proofs.LayoutBack.{field-read, field-here}
 use Rattle.layout.proofs.Steps.{then-goes-on}
-use Rattle.optional.specs.Optional.{octetsHeld, held, orZero}
-use Rattle.optional.specs.Parameters.{Parameters, parametersOctets}
-use Rattle.optional.specs.declared.OptionalOctet.{OptionalOctet}
-use Rattle.optional.specs.declared.OptionalOctet.the-variants.{Absent, Present}
-use Rattle.optional.proofs.Laws.{one-at-most}
-use Rattle.parameters_writing.specs.Checking.{indicatorChecks, dataChecks}
+use Rattle.parameters.specs.Optional.{octetsHeld, held, orZero}
+use Rattle.parameters.specs.Parameters.{Parameters, parametersOctets}
+use Rattle.parameters.specs.declared.OptionalOctet.{OptionalOctet}
+use Rattle.parameters.specs.declared.OptionalOctet.the-variants.{Absent, Present}
+use Rattle.parameters.proofs.Laws.{one-at-most}
+use Rattle.parameters.specs.Checking.{indicatorChecks, dataChecks}
 use Rattle.parameters.specs.Line.{announced, dataFor, parameters}
 use Rattle.parameters.proofs.Made.{three-bits}
 

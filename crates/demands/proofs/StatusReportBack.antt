@@ -22,21 +22,21 @@ use Rattle.coding.specs.Coding.{dataWith, dataOf}
 use Rattle.coding.proofs.Laws.{data-held}
 use Rattle.time.specs.Time.{isTime, timeDigits, timeOctets, timeIn, digitsOf, capitals}
 use Rattle.time.proofs.Laws.{digits-back, length-digits, time-means, time-held, time-size}
-use Rattle.address_writing.specs.Writing.{addressOctets, addressChecks, octetsOr}
+use Rattle.address.specs.Writing.{addressOctets, addressChecks, octetsOr}
 use Rattle.address.specs.Address.{addressIn, addressWith, addressSize, canonicalAddress, textHeld}
 use Rattle.address.proofs.Laws.{Spelled, address-passed}
 use Rattle.layout.specs.Layout.{octet, octets, any, address, isSet, messageType, kept, Format, field, one, done, reached, reading, readFrom, read}
 use Rattle.layout.proofs.Steps.{done-reached, end-not-reached, then-goes-on}
 use Rattle.demands.proofs.LayoutBack.{field-read, message-read}
-use Rattle.optional.specs.Optional.{octetsHeld, held}
-use Rattle.optional.specs.Parameters.{Parameters, parametersOctets}
-use Rattle.optional.specs.declared.OptionalOctet.{OptionalOctet}
-use Rattle.optional.specs.declared.OptionalOctet.the-variants.{Absent, Present}
-use Rattle.parameters_writing.specs.Checking.{indicatorChecks, dataChecks}
+use Rattle.parameters.specs.Optional.{octetsHeld, held}
+use Rattle.parameters.specs.Parameters.{Parameters, parametersOctets}
+use Rattle.parameters.specs.declared.OptionalOctet.{OptionalOctet}
+use Rattle.parameters.specs.declared.OptionalOctet.the-variants.{Absent, Present}
+use Rattle.parameters.specs.Checking.{indicatorChecks, dataChecks}
 use Rattle.demands.proofs.ParametersBack.{indicator-here, not-extended, parameters-here, parameters-limit}
-use Rattle.status_report_reading.specs.Line.{Fields, fieldsWith, bits, behindStatus, behindAddress, line as fields}
+use Rattle.status_report.specs.Line.{Fields, fieldsWith, bits, behindStatus, behindAddress, line as fields}
 use Rattle.status_report.specs.StatusReport.{reported, line, statusReport, firstOf, parametersOf, reporting, parts, capitalised, tooLong}
-use Rattle.status_report_writing.specs.Writing.{octetsIn, optionalChecks, checksBehind, making}
+use Rattle.status_report.specs.Writing.{octetsIn, optionalChecks, checksBehind, making}
 use Rattle.status_report.specs.declared.SmsStatusReport.{SmsStatusReport}
 
 -- ---- the checks that a written record passed

@@ -14,11 +14,11 @@ use Rattle.octets.specs.declared.Refusal.the-variants.{LengthTooLarge}
 use Rattle.octets.specs.declared.Written.{Written}
 use Rattle.coding.specs.Coding.{dataOf}
 use Rattle.submit.specs.declared.SmsSubmit.{SmsSubmit}
-use Rattle.validity.specs.declared.ValidityPeriod.{ValidityPeriod}
+use Rattle.validity_period.specs.declared.ValidityPeriod.{ValidityPeriod}
 use Rattle.submit.specs.Submit.{flagsOf, digitsLength, lengthsFit, submitting}
-use Rattle.submit_writing.specs.Writing.{making}
+use Rattle.submit.specs.Writing.{making}
 use Rattle.octets.specs.Choice.{lengthIf}
-use Rattle.validity.specs.Validity.{formatOf}
+use Rattle.validity_period.specs.Validity.{formatOf}
 use Rattle.submit.specs.Parts.{Destination, Parts, destinationOf, enhancedOf, parts}
 
 -- with what stands for an absent destination

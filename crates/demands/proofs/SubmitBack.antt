@@ -16,7 +16,7 @@ use Rattle.octets.proofs.Table.{allBelow, below}
 use Rattle.octets.specs.Choice.{if_then_else_, flag}
 use Rattle.time.specs.Time.{timeIn, timeDigits, timeOctets, capitals}
 use Rattle.time.proofs.Laws.{digits-back, length-digits, time-means, time-size}
-use Rattle.address_writing.specs.Writing.{addressOctets, octetsOr}
+use Rattle.address.specs.Writing.{addressOctets, octetsOr}
 use Rattle.address.specs.Address.{addressIn, addressWith}
 use Rattle.address.proofs.Laws.{address-passed}
 use Rattle.layout.specs.Layout.{isSet, messageType, reached, halted, read}
@@ -26,15 +26,15 @@ use Rattle.octets.specs.Lent.{made}
 use Rattle.octets.specs.declared.Refusal.the-variants.{LengthTooLarge, HeaderNotWhole, HeaderPassesCount}
 use Rattle.octets.specs.declared.Written.{Written}
 use Rattle.submit.specs.declared.SmsSubmit.{SmsSubmit}
-use Rattle.validity.specs.declared.ValidityPeriod.{ValidityPeriod}
+use Rattle.validity_period.specs.declared.ValidityPeriod.{ValidityPeriod}
 use Rattle.submit.specs.Parts.{parts}
 use Rattle.demands.proofs.SubmitWritten.{written-read}
-use Rattle.submit_writing.proofs.Writing.{all-passed}
-use Rattle.submit_reading.specs.Line.{fieldsWith, formatIn, headerSize, inCount}
+use Rattle.submit.proofs.CheckByCheck.{all-passed}
+use Rattle.submit.specs.Line.{fieldsWith, formatIn, headerSize, inCount}
 use Rattle.submit.specs.Submit.{submitted, submit, addressLength, digitsLength, lengthsFit, submitting}
 use Rattle.octets.specs.Choice.{lengthIf}
-use Rattle.validity.specs.Validity.{formatOf, periodIn, periodOctets, isAbsolute, timeHolds, periodSize, ofFormat}
-use Rattle.validity.proofs.Period.{digitsBeside, enhancedBeside, period-size}
+use Rattle.validity_period.specs.Validity.{formatOf, periodIn, periodOctets, isAbsolute, timeHolds, periodSize, ofFormat}
+use Rattle.validity_period.proofs.Period.{digitsBeside, enhancedBeside, period-size}
 
 -- ---- the first octet
 

@@ -15,16 +15,16 @@ use Rattle.octets.specs.declared.Written.{Written}
 use Rattle.octets.specs.Each.{Octets}
 use Rattle.octets.proofs.Checks.{made-if}
 use Rattle.coding.specs.Coding.{codingOf}
-use Rattle.address_writing.proofs.Checks.{checks-passed}
+use Rattle.address.proofs.Checks.{checks-passed}
 use Rattle.layout.specs.Layout.{isSet, kept, Field, reached, read, readFrom}
 use Rattle.layout.proofs.Laws.{within-read}
 use Rattle.layout.proofs.Makes.{Makes, makes}
-use Rattle.submit_reading.specs.Line.{headerSize, bits, behindCoding, behindFirst, line as fields}
+use Rattle.submit.specs.Line.{headerSize, bits, behindCoding, behindFirst, line as fields}
 use Rattle.submit.specs.declared.SmsSubmit.{SmsSubmit}
 use Rattle.submit.specs.Submit.{addressLength, digitsLength, lengthsFit, submitting, textWith, submitted, line, submit}
-use Rattle.validity.specs.Validity.{formatOf, periodSize}
-use Rattle.validity.proofs.Period.{period-size}
-use Rattle.submit_writing.proofs.Writing.{all-passed}
+use Rattle.validity_period.specs.Validity.{formatOf, periodSize}
+use Rattle.validity_period.proofs.Period.{period-size}
+use Rattle.submit.proofs.CheckByCheck.{all-passed}
 use Rattle.submit.proofs.Text.{readable-short}
 
 short : Makes (λ (r : SmsSubmit) (cs : List Field). r .«tp_user_data» .length ≤ 510) line

@@ -24,18 +24,18 @@ use Rattle.time.proofs.Laws.{time-means, length-digits, digits-back, time-size}
 use Rattle.layout.specs.Layout.{octets, any, time, reached, readFrom, read}
 use Rattle.layout.proofs.Steps.{done-reached}
 use Rattle.demands.proofs.LayoutBack.{field-here}
-use Rattle.optional.specs.Optional.{held}
-use Rattle.optional.specs.Parameters.{Parameters, parametersOctets}
-use Rattle.optional.specs.declared.OptionalOctet.{OptionalOctet}
-use Rattle.optional.specs.declared.OptionalOctet.the-variants.{Absent, Present}
-use Rattle.optional.proofs.Laws.{one-at-most}
-use Rattle.parameters_writing.specs.Checking.{indicatorChecks, dataChecks}
+use Rattle.parameters.specs.Optional.{held}
+use Rattle.parameters.specs.Parameters.{Parameters, parametersOctets}
+use Rattle.parameters.specs.declared.OptionalOctet.{OptionalOctet}
+use Rattle.parameters.specs.declared.OptionalOctet.the-variants.{Absent, Present}
+use Rattle.parameters.proofs.Laws.{one-at-most}
+use Rattle.parameters.specs.Checking.{indicatorChecks, dataChecks}
 use Rattle.parameters.specs.Line.{parameters}
 use Rattle.demands.proofs.ParametersBack.{octet-here, indicator-here, not-extended, parameters-here, parameters-limit}
 use Rattle.submit_report.specs.SubmitReport.{reported, rest, outcomeOf, parametersOf, reporting, Parts, parts, capitalised}
-use Rattle.submit_report_writing.specs.Writing.{octetsIn, making}
+use Rattle.submit_report.specs.Writing.{octetsIn, making}
 use Rattle.submit_report.specs.declared.SmsSubmitReport.{SmsSubmitReport}
-use Rattle.submit_report_writing.proofs.Writing.{size-is}
+use Rattle.submit_report.proofs.CheckByCheck.{size-is}
 use Rattle.submit_report.proofs.Reading.{outcomes}
 
 -- ---- the octets of parts that pass the checks

@@ -15,9 +15,9 @@ use Rattle.address.specs.Address.{addressSize, canonicalAddress}
 use Rattle.layout.specs.Layout.{octet, octets, any, require, done, address, userData, isSet, messageType, Reached, reached, halted, reading, readFrom, read}
 use Rattle.layout.proofs.Steps.{done-reached, then-goes-on, then-ends}
 use Rattle.demands.proofs.LayoutBack.{field-read, field-last, message-read}
-use Rattle.validity.specs.Validity.{periodSize}
-use Rattle.submit_reading.specs.Line.{Fields, fieldsWith, formatIn, headerSize, inCount, bits, behindCoding, behindFirst, line as fields}
-use Rattle.submit_reading.proofs.Reading.{kept-whole}
+use Rattle.validity_period.specs.Validity.{periodSize}
+use Rattle.submit.specs.Line.{Fields, fieldsWith, formatIn, headerSize, inCount, bits, behindCoding, behindFirst, line as fields}
+use Rattle.submit.proofs.FieldByField.{kept-whole}
 use Rattle.submit.specs.Submit.{submitted, line, submit}
 
 -- what must hold at the line's end

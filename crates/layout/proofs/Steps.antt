@@ -20,7 +20,7 @@ use Rattle.octets.specs.declared.Refusal.the-variants.{OctetsEnd, WrongMessageT
 use Rattle.octets.specs.declared.Span.{Span}
 use Rattle.octets.proofs.Places.{start, octet-read, octet-ended, span-there, span-inside, span-ended}
 use Rattle.address.specs.Address.{addressSize, canonicalAddress}
-use Rattle.address.specs.Parts.{fieldAt}
+use Rattle.address.specs.Internal.{fieldAt}
 use Rattle.layout.specs.Layout.{Limit, Kind, first, octet, octets, address, indicator, messageType, kept, indicatorSize, size, canon, cut, behind, Format, field, require, endOr, done, _then_, message, Reached, reached, halted, after, reading, readFrom, leadingAt, indicatorAt, stopping, stops, read}
 use Rattle.layout.proofs.Fields.{indicator-positive}
 use Rattle.layout.proofs.FirstOctet.{descends, kept-type}

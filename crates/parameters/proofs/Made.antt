@@ -13,11 +13,11 @@ use Rattle.coding.specs.Coding.{codingOf}
 use Rattle.coding.proofs.Laws.{data-at-most}
 use Rattle.layout.specs.Layout.{bit, isSet, Field, joined, pastLimit, anyPastLimit, _then_}
 use Rattle.layout.proofs.Makes.{Makes, makes-then}
-use Rattle.optional.specs.Optional.{octetsHeld, held, orZero}
-use Rattle.optional.specs.Parameters.{Parameters, parametersOctets}
-use Rattle.optional.specs.declared.OptionalOctet.{OptionalOctet}
-use Rattle.optional.specs.declared.OptionalOctet.the-variants.{Absent, Present}
-use Rattle.optional.proofs.Agreeing.{dataCount, Agreeing}
+use Rattle.parameters.specs.Optional.{octetsHeld, held, orZero}
+use Rattle.parameters.specs.Parameters.{Parameters, parametersOctets}
+use Rattle.parameters.specs.declared.OptionalOctet.{OptionalOctet}
+use Rattle.parameters.specs.declared.OptionalOctet.the-variants.{Absent, Present}
+use Rattle.parameters.proofs.Agreeing.{dataCount, Agreeing}
 use Rattle.parameters.specs.Line.{announced, dataFor, parameters}
 
 -- fields one after the other

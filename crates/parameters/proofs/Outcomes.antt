@@ -13,8 +13,8 @@ use Rattle.octets.proofs.Places.{start}
 use Rattle.layout.specs.Layout.{bit, messageType, Format, message, one, reached, halted, readFrom, Layout, plain, stopping, read}
 use Rattle.layout.proofs.FirstOctet.{kept-bit}
 use Rattle.layout.proofs.Steps.{message-goes-on, message-differs, message-ends, octet-goes-on, octet-ends, stopping-ends, stopping-differs, stopping-stops, stopping-goes-on}
-use Rattle.optional.specs.declared.OptionalOctet.{OptionalOctet}
-use Rattle.optional.specs.declared.OptionalOctet.the-variants.{Absent, Present}
+use Rattle.parameters.specs.declared.OptionalOctet.{OptionalOctet}
+use Rattle.parameters.specs.declared.OptionalOctet.the-variants.{Absent, Present}
 
 -- what both readers come to, by the octets that are there; `udhi` is the report's field for bit 6, `rest` what follows first octet and cause
 pub record Outcomes {R H : Type 0} (ack error : Layout R) (mti : ℕ) (udhi : ℕ → H) (rest : H → OptionalOctet → Format R) (stopped : R) (s : List ℕ) : Type 0 where

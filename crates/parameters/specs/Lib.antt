@@ -1,1 +1,4 @@
+pub mod Optional
+pub mod Parameters
 pub mod Line
+pub mod Checking

@@ -5,12 +5,12 @@ use mathlib.Core.List.{List, []}
 use lib.ListN.{length}
 use Rattle.coding.specs.Coding.{codingOf, dataOctets}
 use Rattle.layout.specs.Layout.{userData, isSet, Format, field, done, _then_, one, Reached, reached, halted}
-use Rattle.optional.specs.Optional.{orZero}
-use Rattle.optional.specs.Parameters.{Parameters}
-use Rattle.optional.specs.declared.OptionalOctet.{OptionalOctet}
-use Rattle.optional.specs.declared.OptionalOctet.the-variants.{Absent, Present}
-use Rattle.parameters.specs.declared.OptionalRead.{OptionalRead}
-use Rattle.parameters.specs.declared.ParametersRead.{ParametersRead}
+use Rattle.parameters.specs.Optional.{orZero}
+use Rattle.parameters.specs.Parameters.{Parameters}
+use Rattle.parameters.specs.declared.OptionalOctet.{OptionalOctet}
+use Rattle.parameters.specs.declared.OptionalOctet.the-variants.{Absent, Present}
+use Rattle.parameters.specs.declared.reading.OptionalRead.{OptionalRead}
+use Rattle.parameters.specs.declared.reading.ParametersRead.{ParametersRead}
 
 -- an octet that is there where its indicator bit announces it
 abbrev pub announced : Bool → Format OptionalOctet

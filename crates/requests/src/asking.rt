@@ -1,17 +1,17 @@
 // What a line asks for, and the answer.
-use lines::reasons;
-use lines::values;
-use lines::writing;
-use lines::writing::Lent;
+use answers::readings::Reader;
+use answers::readings::reader_named;
 use octets::Written;
-use page::Page;
-use readings::Reader;
-use readings::reader_named;
-use words::begins;
-use words::behind;
-use words::field;
-use words::last_field;
-use words::part;
+use output::Page;
+use request_line::reasons;
+use request_line::values;
+use request_line::writing;
+use request_line::writing::Lent;
+use text_fields::begins;
+use text_fields::behind;
+use text_fields::field;
+use text_fields::last_field;
+use text_fields::part;
 
 // A message to be read, or read and written back; a request that names no kind of message, or one for a record of a kind, by number.
 enum Request {
@@ -23,13 +23,13 @@ enum Request {
 
 fn request_named(name: &[u8]) -> Request {
     if begins(name, b"enc-") {
-        return Request::Record(keys::kind_named(behind(name, 4)));
+        return Request::Record(request_line::keys::kind_named(behind(name, 4)));
     }
     if begins(name, b"re-") {
         return Request::Rewrite(reader_named(behind(name, 3)));
     }
-    let request = parts::request_named(name);
-    if request < parts::ALL {
+    let request = answers::conversions::request_named(name);
+    if request < answers::conversions::ALL {
         return Request::Part(request);
     }
     Request::Read(reader_named(name))
@@ -48,8 +48,8 @@ fn against(request: Request, line: &[u8]) -> usize {
     match request {
         Request::Read(reader) => against_message(reader, line),
         Request::Rewrite(reader) => against_message(reader, line),
-        Request::Part(number) => parts::against_request(number, line),
-        Request::Record(kind) => keys::against_record(kind, line),
+        Request::Part(number) => answers::conversions::against_request(number, line),
+        Request::Record(kind) => request_line::keys::against_record(kind, line),
     }
 }
 
@@ -58,13 +58,13 @@ fn against(request: Request, line: &[u8]) -> usize {
 // The message for people, several lines.
 fn show_message(reader: Reader, octets: &[u8], out: &mut Page, at: usize) -> usize {
     match reader {
-        Reader::Deliver => people::show_deliver(octets, out, at),
-        Reader::Submit => people::show_submit(octets, out, at),
-        Reader::SubmitReportAck => people::show_submit_report_ack(octets, out, at),
-        Reader::SubmitReportError => people::show_submit_report_error(octets, out, at),
-        Reader::DeliverReportAck => people::show_deliver_report_ack(octets, out, at),
-        Reader::DeliverReportError => people::show_deliver_report_error(octets, out, at),
-        Reader::StatusReport => people::show_status_report(octets, out, at),
+        Reader::Deliver => display::show_deliver(octets, out, at),
+        Reader::Submit => display::show_submit(octets, out, at),
+        Reader::SubmitReportAck => display::show_submit_report_ack(octets, out, at),
+        Reader::SubmitReportError => display::show_submit_report_error(octets, out, at),
+        Reader::DeliverReportAck => display::show_deliver_report_ack(octets, out, at),
+        Reader::DeliverReportError => display::show_deliver_report_error(octets, out, at),
+        Reader::StatusReport => display::show_status_report(octets, out, at),
         Reader::Unknown => at,
     }
 }
@@ -73,7 +73,7 @@ fn answer_read(reader: Reader, octets: &[u8], show: bool, out: &mut Page, at: us
     if show {
         return show_message(reader, octets, out, at);
     }
-    readings::answer(reader, octets, out, at)
+    answers::readings::answer(reader, octets, out, at)
 }
 
 // Writes what is read back.
@@ -108,8 +108,8 @@ fn answer_octets(
     match request {
         Request::Read(reader) => answer_read(reader, octets, show, out, at),
         Request::Rewrite(reader) => answer_rewritten(reader, octets, show, out, at),
-        Request::Part(number) => parts::answer(number, line, octets, show, out, at),
-        Request::Record(kind) => records::answer(kind, line, show, out, at),
+        Request::Part(number) => answers::conversions::answer(number, line, octets, show, out, at),
+        Request::Record(kind) => answers::records::answer(kind, line, show, out, at),
     }
 }
 
@@ -129,7 +129,7 @@ pub fn answer(line: &[u8], out: &mut Page, at: usize, show: bool) -> usize {
     let request = request_named(name);
     let reason = against(request, line);
     if reason != reasons::NONE {
-        return keys::bad(out, at, reason);
+        return request_line::keys::bad(out, at, reason);
     }
     answer_request(request, line, show, out, at)
 }

@@ -3,8 +3,8 @@ mod asking;
 
 use libc::STDIN_FILENO;
 use libc::STDOUT_FILENO;
-use lines::reasons;
-use page::Page;
+use output::Page;
+use request_line::reasons;
 
 // The octets that a line may have.
 const MOST_IN_LINE: usize = 8192;
@@ -29,7 +29,7 @@ fn add(line: &mut Line, length: usize, octets: &[u8]) -> usize {
     if MOST_IN_LINE - length < octets.len() {
         return MOST_IN_LINE + 1;
     }
-    page::append(line, length, octets)
+    output::append(line, length, octets)
 }
 
 // The length of a line without the CR of its end.
@@ -48,12 +48,12 @@ fn without_cr(line: &Line, length: usize) -> usize {
 
 // Writes the answers out.
 fn write_out(out: &Page, at: usize) {
-    io::write_all(STDOUT_FILENO, words::part(out, 0, at));
+    io::write_all(STDOUT_FILENO, text_fields::part(out, 0, at));
 }
 
 // Ends an answer, and writes the answers out if the next may not fit; the place for it.
 fn end_answer(out: &mut Page, at: usize) -> usize {
-    let next = page::put(out, at, b"\n");
+    let next = output::put(out, at, b"\n");
     if next < MOST_HELD {
         return next;
     }
@@ -67,7 +67,7 @@ fn answer_held(line: &Line, length: usize, out: &mut Page, at: usize, show: bool
         let next = reasons::bad(out, at, reasons::LINE_TOO_LONG);
         return end_answer(out, next);
     }
-    let next = asking::answer(words::part(line, 0, length), out, at, show);
+    let next = asking::answer(text_fields::part(line, 0, length), out, at, show);
     end_answer(out, next)
 }
 
@@ -77,8 +77,8 @@ fn answer_octets(octets: &[u8], line: &mut Line, out: &mut Page, held: Held, sho
     let mut at = held.at;
     let mut from = 0;
     while from < octets.len() {
-        let end = words::find(octets, from, b'\n');
-        n = add(line, n, words::part(octets, from, end));
+        let end = text_fields::find(octets, from, b'\n');
+        n = add(line, n, text_fields::part(octets, from, end));
         if octets.len() <= end {
             return Held { length: n, at };
         }
@@ -102,7 +102,7 @@ fn answer_some(input: &mut Page, line: &mut Line, out: &mut Page, held: Held, sh
         return Turn { held, more: false };
     }
     let n = io::count(got, input);
-    let next = answer_octets(words::part(input, 0, n), line, out, held, show);
+    let next = answer_octets(text_fields::part(input, 0, n), line, out, held, show);
     Turn {
         held: next,
         more: true,
@@ -182,7 +182,7 @@ pub fn run() {
     }
     let mut word = [0u8; 8];
     let n = os::arg(1, &mut word);
-    if count == 2 && words::same(words::part(&word, 0, n), b"show") {
+    if count == 2 && text_fields::same(text_fields::part(&word, 0, n), b"show") {
         answer_requests(true);
         return;
     }

@@ -27,18 +27,18 @@ use Rattle.layout.specs.Layout.{Field, any, first, octet, octets, address, indi
 use Rattle.layout.proofs.Makes.{Makes, makes-then}
 use Rattle.layout.proofs.Demand.{Answers, answers-checked, Writes, demand3, answers-plain}
 use Rattle.layout.proofs.Rewriting.{Told}
-use Rattle.optional.specs.Optional.{octetsHeld}
-use Rattle.optional.specs.Parameters.{Parameters, parametersOctets, noParameters}
-use Rattle.optional.specs.declared.OptionalOctet.{OptionalOctet}
-use Rattle.optional.specs.declared.OptionalOctet.the-variants.{Absent, Present}
+use Rattle.parameters.specs.Optional.{octetsHeld}
+use Rattle.parameters.specs.Parameters.{Parameters, parametersOctets, noParameters}
+use Rattle.parameters.specs.declared.OptionalOctet.{OptionalOctet}
+use Rattle.parameters.specs.declared.OptionalOctet.the-variants.{Absent, Present}
 use Rattle.parameters.specs.Line.{parameters}
-use Rattle.parameters_writing.proofs.Checking.{answers}
+use Rattle.parameters.proofs.Checking.{answers}
 use Rattle.parameters.proofs.Made.{Held, parameters-make}
-use Rattle.status_report.proofs.Writing.{fits, by-parts}
+use Rattle.status_report.proofs.RecordWritten.{fits, by-parts}
 use Rattle.status_report.specs.declared.SmsStatusReport.{SmsStatusReport}
-use Rattle.status_report_reading.specs.Line.{Fields, fieldsWith, bits, behindStatus, behindAddress, line as fields}
+use Rattle.status_report.specs.Line.{Fields, fieldsWith, bits, behindStatus, behindAddress, line as fields}
 use Rattle.status_report.specs.StatusReport.{reported, line, statusReport, reporting, Parts, parts, answer, unread}
-use Rattle.status_report_writing.specs.Writing.{octetsIn, optionalChecks, making}
+use Rattle.status_report.specs.Writing.{octetsIn, optionalChecks, making}
 
 -- ---- the parts alone
 

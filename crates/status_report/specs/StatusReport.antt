@@ -14,11 +14,11 @@ use Rattle.coding.specs.Coding.{dataWith, dataOf}
 use Rattle.time.specs.Time.{timeIn, digitsOf, capitals}
 use Rattle.address.specs.Address.{addressIn, addressWith, textHeld}
 use Rattle.layout.specs.Layout.{isSet, Format, done, _then_, Reached, reached, halted, Layout, plain}
-use Rattle.optional.specs.Parameters.{Parameters}
-use Rattle.optional.specs.declared.OptionalOctet.{OptionalOctet}
-use Rattle.optional.specs.declared.OptionalOctet.the-variants.{Absent, Present}
-use Rattle.status_report_reading.specs.Line.{Fields, line as fields}
-use Rattle.status_report_writing.specs.Writing.{making}
+use Rattle.parameters.specs.Parameters.{Parameters}
+use Rattle.parameters.specs.declared.OptionalOctet.{OptionalOctet}
+use Rattle.parameters.specs.declared.OptionalOctet.the-variants.{Absent, Present}
+use Rattle.status_report.specs.Line.{Fields, line as fields}
+use Rattle.status_report.specs.Writing.{making}
 use Rattle.status_report.specs.declared.SmsStatusReport.{SmsStatusReport}
 use Rattle.status_report.specs.declared.StatusReportRead.{StatusReportRead}
 
@@ -43,7 +43,7 @@ reported x = record {
   «tp_user_data» = dataWith (x .held .ud);
 }
 
--- the line of fields (status_report_reading/specs/Line.antt), and the record
+-- the line of fields (status_report/specs/Line.antt), and the record
 unfoldable pub line : Format SmsStatusReport
 line = fields then λ x. done (reported x)
 

@@ -1,20 +1,23 @@
 // SMS-STATUS-REPORT (TS 23.040 §9.2.2.3).
+pub mod reading;
+pub mod writing;
+
 ghost use mathlib.Core.Path.{_≡_};
 ghost use Prim.Native.Nat.{_+_};
 ghost use Rattle.octets.specs.Choice.{flag};
 ghost use Rattle.octets.specs.Lent.{lend};
 ghost use Rattle.layout.specs.Layout.{read};
-ghost use Rattle.status_report_reading.specs.Line.{fieldsAt, Inside};
+ghost use Rattle.status_report.specs.Line.{fieldsAt, Inside};
 ghost use Rattle.status_report.specs.StatusReport.{reported, statusReport, blank as blankMessage, answer, unread, reporting};
+use crate::reading::MTI_STATUS_REPORT;
+use crate::reading::StatusReportFields;
+use crate::reading::StatusReportFound;
 use address::SMSAddress;
 use coding::UserData;
 use octets::Outcome;
 use octets::Refusal;
 use octets::Written;
-use optional::OptionalOctet;
-use status_report_reading::MTI_STATUS_REPORT;
-use status_report_reading::StatusReportFields;
-use status_report_reading::StatusReportFound;
+use parameters::OptionalOctet;
 use time::Time;
 
 pub struct SmsStatusReport {
@@ -137,7 +140,7 @@ impl SmsStatusReport {
         let pid = self.tp_pid;
         let dcs = self.tp_dcs;
         let udl = self.tp_user_data_length;
-        status_report_writing::encode_parts(
+        writing::encode_parts(
             first,
             self.tp_mr,
             self.tp_recipient_address.ton,
@@ -159,7 +162,7 @@ impl SmsStatusReport {
     pub fn decode(data: &[u8]) -> StatusReportRead
         ensures { λ r. ⌜ r ≡ answer (read statusReport (now («data» .entry))) ⌝ }
     {
-        match status_report_reading::fields_of(data) {
+        match reading::fields_of(data) {
             StatusReportFound::Refused(r) => refused(r),
             StatusReportFound::Whole(f) => StatusReportRead {
                 outcome: Outcome::Done,

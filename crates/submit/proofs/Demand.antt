@@ -22,7 +22,7 @@ use Rattle.octets.proofs.Checks.{check-holds, no-checks}
 use Rattle.coding.specs.Coding.{codingOf, dataOctets, dataWith, dataChecks}
 use Rattle.coding.proofs.Laws.{data-held, data-at-most, data-limit}
 use Rattle.time.specs.Time.{timeIn}
-use Rattle.address_writing.specs.Writing.{addressOctets, octetsOr, addressChecks}
+use Rattle.address.specs.Writing.{addressOctets, octetsOr, addressChecks}
 use Rattle.address.specs.Address.{typeOfNumber, planOf, textIn, addressIn, addressWith, canonicalAddress}
 use Rattle.address.proofs.Laws.{Field as AddressField, canonical-reads, canonical-field, text-short, address-equal, read-checked}
 use Rattle.layout.specs.Demand.{Demand3}
@@ -31,16 +31,16 @@ use Rattle.layout.proofs.Demand.{Answers, Writes, demand3, answers-plain, answe
 use Rattle.layout.proofs.Rewriting.{Told}
 use Rattle.layout.proofs.Makes.{Makes, makes-then}
 use Rattle.submit.specs.declared.SmsSubmit.{SmsSubmit}
-use Rattle.submit_reading.specs.Line.{fieldsWith, formatIn, headerSize, inCount, bits, behindCoding, behindFirst, line as fields}
-use Rattle.submit_reading.proofs.Reading.{kept-whole}
+use Rattle.submit.specs.Line.{fieldsWith, formatIn, headerSize, inCount, bits, behindCoding, behindFirst, line as fields}
+use Rattle.submit.proofs.FieldByField.{kept-whole}
 use Rattle.submit.specs.Submit.{textWith, submitted, line, submit, answer, unread, flagsOf, lengthsFit, submitting}
-use Rattle.submit_writing.specs.Writing.{making}
+use Rattle.submit.specs.Writing.{making}
 use Rattle.octets.specs.Choice.{lengthIf}
-use Rattle.validity.specs.Validity.{periodIn, ofFormat, periodOctets, timeHolds}
+use Rattle.validity_period.specs.Validity.{periodIn, ofFormat, periodOctets, timeHolds}
 use Rattle.submit.specs.Parts.{Destination, Parts, parts}
-use Rattle.validity.proofs.Period.{digitsCount, digitsBeside, Held, period-held}
+use Rattle.validity_period.proofs.Period.{digitsCount, digitsBeside, Held, period-held}
 use Rattle.submit.proofs.Text.{readable-short}
-use Rattle.submit.proofs.Writing.{by-parts}
+use Rattle.submit.proofs.RecordWritten.{by-parts}
 
 -- the octets of the parts
 abbrev addressOf : Option Destination → List ℕ

@@ -8,12 +8,12 @@ use Rattle.octets.specs.SemiOctets.{semiOctets, inPairs}
 use Rattle.octets.specs.Texts.{codes}
 use Rattle.octets.specs.declared.Refusal.the-variants.{OctetsEnd, WrongMessageType, HeaderNotWhole, HeaderPassesCount}
 use Rattle.coding.specs.Coding.{codingOf, characterSet, dataOctets}
-use Rattle.text.specs.Alphabet.{indexOf}
-use Rattle.address_writing.specs.Writing.{digitCharacters, digitValue, isDigit, addressOctets}
+use Rattle.gsm7.specs.Alphabet.{indexOf}
+use Rattle.address.specs.Writing.{digitCharacters, digitValue, isDigit, addressOctets}
 use Rattle.address.specs.Address.{digitCharacter, withoutF, valueText, textIn, canonicalAddress}
 use Rattle.layout.specs.Layout.{kept, halted, after, reading, readFrom, fieldsOf, read, canonicalOf}
-use Rattle.validity.specs.Validity.{periodSize}
-use Rattle.submit_reading.specs.Line.{headerSize, inCount, behindCoding, behindFirst, line as fields}
+use Rattle.validity_period.specs.Validity.{periodSize}
+use Rattle.submit.specs.Line.{headerSize, inCount, behindCoding, behindFirst, line as fields}
 use Rattle.submit.specs.Submit.{line, submit}
 
 -- MR 07, "12" in a field with an F, PID and DCS 0

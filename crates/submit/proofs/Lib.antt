@@ -1,5 +1,7 @@
+pub mod CheckByCheck
+pub mod FieldByField
 pub mod Text
-pub mod Reading
-pub mod Writing
+pub mod RecordRead
+pub mod RecordWritten
 pub mod Demand
 pub mod Known

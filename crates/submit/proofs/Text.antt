@@ -14,11 +14,11 @@ use Rattle.coding.specs.Coding.{dataOctets}
 use Rattle.coding.specs.declared.UserDataCoding.{UserDataCoding}
 use Rattle.coding.specs.declared.UserDataCoding.the-variants.{Gsm7Bit, EightBit, Ucs2, Compressed}
 use Rattle.septets.specs.Septets.{septetsIn, headerSeptets, fillBits}
-use Rattle.text.specs.declared.Unpacked.{Unpacked}
-use Rattle.text.specs.Reading.{textOf, unpacked, shown}
-use Rattle.text.proofs.Reading.{unpacked-done}
-use Rattle.text.proofs.Laws.{text-short}
-use Rattle.submit_reading.specs.Line.{inCount}
+use Rattle.gsm7.specs.declared.decode.Unpacked.{Unpacked}
+use Rattle.gsm7.specs.Reading.{textOf, unpacked, shown}
+use Rattle.gsm7.proofs.Reading.{unpacked-done}
+use Rattle.gsm7.proofs.DecodingLaws.{text-short}
+use Rattle.submit.specs.Line.{inCount}
 use Rattle.submit.specs.Submit.{readable}
 
 module _ (os : List ℕ) (h n : ℕ) (whole : h ≤ length os) (counted : headerSeptets h ≤ n) (few : n ≤ 255) (size : length os ≡ (n * 7 + 7) / 8) where

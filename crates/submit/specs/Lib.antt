@@ -1,2 +1,4 @@
+pub mod Writing
+pub mod Line
 pub mod Submit
 pub mod Parts

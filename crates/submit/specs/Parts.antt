@@ -10,9 +10,9 @@ use Rattle.coding.specs.Coding.{dataOf}
 use Rattle.address.specs.Address.{textHeld}
 use Rattle.address.specs.declared.SMSAddress.{SMSAddress}
 use Rattle.submit.specs.declared.SmsSubmit.{SmsSubmit}
-use Rattle.validity.specs.declared.ValidityPeriod.{ValidityPeriod}
+use Rattle.validity_period.specs.declared.ValidityPeriod.{ValidityPeriod}
 use Rattle.submit.specs.Submit.{addressLength, digitsLength, headerLength}
-use Rattle.validity.specs.Validity.{formatOf}
+use Rattle.validity_period.specs.Validity.{formatOf}
 
 pub record Destination : Type 0 where
   pub ton : ℕ

@@ -15,14 +15,14 @@ use Rattle.coding.specs.Coding.{codingOf, dataWith, dataOf}
 use Rattle.coding.specs.declared.UserDataCoding.{UserDataCoding}
 use Rattle.coding.specs.declared.UserDataCoding.the-variants.{Gsm7Bit, EightBit, Ucs2, Compressed}
 use Rattle.septets.specs.Septets.{septetsIn, headerSeptets, fillBits}
-use Rattle.text.specs.Reading.{textOf}
+use Rattle.gsm7.specs.Reading.{textOf}
 use Rattle.time.specs.Time.{timeIn}
 use Rattle.address.specs.Address.{addressIn, addressWith}
 use Rattle.layout.specs.Layout.{Format, Layout, plain, Reached, reached, halted, done, _then_, isSet, messageType}
-use Rattle.validity.specs.Validity.{periodIn, ofFormat, isAbsolute}
-use Rattle.validity.specs.declared.ValidityPeriod.{ValidityPeriod}
-use Rattle.submit_reading.specs.Line.{Fields, formatIn, line as fields}
-use Rattle.submit_writing.specs.Writing.{making}
+use Rattle.validity_period.specs.Validity.{periodIn, ofFormat, isAbsolute}
+use Rattle.validity_period.specs.declared.ValidityPeriod.{ValidityPeriod}
+use Rattle.submit.specs.Line.{Fields, formatIn, line as fields}
+use Rattle.submit.specs.Writing.{making}
 use Rattle.submit.specs.declared.SmsSubmit.{SmsSubmit}
 use Rattle.submit.specs.declared.SubmitRead.{SubmitRead}
 use Rattle.submit.specs.declared.SubmitText.{SubmitText}
@@ -65,7 +65,7 @@ submitted x = record {
   «tp_user_data» = textWith (readable (codingOf (x .dcs)) (x .udl) (x .header) (x .ud));
 }
 
--- the line of fields (submit_reading/specs/Line.antt), and the record
+-- the line of fields (submit/specs/Line.antt), and the record
 unfoldable pub line : Format SmsSubmit
 line = fields then λ x. done (submitted x)
 

@@ -1,4 +1,7 @@
 // SMS-SUBMIT (TS 23.040 §9.2.2.2).
+pub mod reading;
+pub mod writing;
+
 ghost use mathlib.Core.Path.{_≡_};
 ghost use mathlib.Core.Bool.{true};
 ghost use mathlib.Core.List.{[], _++_};
@@ -8,21 +11,21 @@ ghost use Rattle.octets.specs.Choice.{lengthIf};
 ghost use Rattle.octets.specs.Lent.{Wrote, lend};
 ghost use Rattle.coding.specs.Coding.{dataOctets};
 ghost use Rattle.septets.specs.Septets.{headerSeptets, fillBits, septetsIn};
-ghost use Rattle.text.specs.Reading.{textOf};
+ghost use Rattle.gsm7.specs.Reading.{textOf};
 ghost use Rattle.layout.specs.Layout.{read};
-ghost use Rattle.submit_reading.specs.Line.{inCount, fieldsAt, Inside};
+ghost use Rattle.submit.specs.Line.{inCount, fieldsAt, Inside};
 ghost use Rattle.submit.specs.Submit.{submit, submitted, blank as blankMessage, answer, unread, readable, textWith, submitting};
+use crate::reading::SubmitFields;
+use crate::reading::SubmitFound;
 use address::SMSAddress;
 use coding::UserData;
 use coding::UserDataCoding;
 use octets::Outcome;
 use octets::Refusal;
 use octets::Written;
-use submit_reading::SubmitFields;
-use submit_reading::SubmitFound;
 use time::Time;
-use validity::VALIDITY_PERIOD_FORMAT_ABSOLUTE;
-use validity::ValidityPeriod;
+use validity_period::VALIDITY_PERIOD_FORMAT_ABSOLUTE;
+use validity_period::ValidityPeriod;
 
 // The readable form of user data: octets, and how many there are.
 pub struct SubmitText {
@@ -102,7 +105,11 @@ fn put_text(septets: usize, h: usize, data: &[u8], text: &mut [u8; 510]) -> usiz
     ensures { λ r. ⌜ Wrote 0 (take h (now («data» .entry)) ++ textOf (septetsIn (drop h (now («data» .entry))) (fillBits h) (septets - headerSeptets h))) (now (text .entry)) r (now (text .exit)) ⌝ }
 {
     let in_header = septets::header_septets(h);
-    let unpacked = text::unpack_septets(&data[h..], in_header * 7 - h * 8, septets - in_header);
+    let unpacked = gsm7::decode::unpack_septets(
+        &data[h..],
+        in_header * 7 - h * 8,
+        septets - in_header,
+    );
     let at = octets::put_octets(text, 0, &data[..h]);
     let shown = unpacked.text;
     let n = unpacked.text_length;
@@ -174,9 +181,9 @@ fn message(data: &[u8], f: SubmitFields) -> SmsSubmit
         tp_destination_address: SMSAddress::decode(data, f.address),
         tp_pid: f.pid,
         tp_dcs: dcs,
-        tp_validity_period: validity::period_in(format, vp),
-        validity_period_digits: validity::digits_in(format, vp),
-        validity_period_octets: validity::enhanced_in(format, vp),
+        tp_validity_period: validity_period::period_in(format, vp),
+        validity_period_digits: validity_period::digits_in(format, vp),
+        validity_period_octets: validity_period::enhanced_in(format, vp),
         tp_user_data_length: udl,
         tp_user_data_raw: coding::data_with(ud),
         has_user_data_header: first / 64 % 2 == 1,
@@ -189,7 +196,7 @@ fn message(data: &[u8], f: SubmitFields) -> SmsSubmit
 pub fn decode_sms_submit_tpdu(data: &[u8]) -> SubmitRead
     ensures { λ r. ⌜ r ≡ answer (read submit (now («data» .entry))) ⌝ }
 {
-    match submit_reading::fields_of(data) {
+    match reading::fields_of(data) {
         SubmitFound::Refused(r) => refused(r),
         SubmitFound::Whole(f) => {
             let octets_read = f.data + f.octets;
@@ -230,12 +237,12 @@ impl SmsSubmit {
         if !fit {
             return Written::Refused(Refusal::LengthTooLarge);
         }
-        let flags = submit_writing::flags(self.tp_rp, self.tp_udhi, self.tp_srr, self.tp_rd);
+        let flags = writing::flags(self.tp_rp, self.tp_udhi, self.tp_srr, self.tp_rd);
         let text = self.tp_destination_address.address;
         let digits = self.validity_period_digits.digits;
         let enhanced = self.validity_period_octets;
         let octets = self.tp_user_data_raw.octets;
-        submit_writing::encode_parts(
+        writing::encode_parts(
             flags,
             self.tp_mti,
             self.tp_vpf,

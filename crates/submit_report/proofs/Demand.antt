@@ -23,18 +23,18 @@ use Rattle.layout.proofs.Makes.{Makes, makes-then}
 use Rattle.layout.proofs.Demand.{Answers, Writes, Stopped, demand3, stopped-apart, demand3-stopping, answers-plain, answers-stopping}
 use Rattle.layout.proofs.Rewriting.{Told}
 use Rattle.layout.proofs.FirstOctet.{kept-type, kept-bit}
-use Rattle.optional.specs.Optional.{octetsHeld}
-use Rattle.optional.specs.Parameters.{Parameters}
-use Rattle.optional.specs.declared.OptionalOctet.{OptionalOctet}
-use Rattle.optional.specs.declared.OptionalOctet.the-variants.{Absent, Present}
-use Rattle.parameters_writing.specs.Checking.{indicatorChecks, dataChecks}
+use Rattle.parameters.specs.Optional.{octetsHeld}
+use Rattle.parameters.specs.Parameters.{Parameters}
+use Rattle.parameters.specs.declared.OptionalOctet.{OptionalOctet}
+use Rattle.parameters.specs.declared.OptionalOctet.the-variants.{Absent, Present}
+use Rattle.parameters.specs.Checking.{indicatorChecks, dataChecks}
 use Rattle.parameters.specs.Line.{parameters}
-use Rattle.parameters_writing.proofs.Checking.{answers}
+use Rattle.parameters.proofs.Checking.{answers}
 use Rattle.parameters.proofs.Made.{Held, parameters-make, joined-append, past-append}
 use Rattle.submit_report.specs.SubmitReport.{reported, rest, ackLine, errorLine, stopped, ack, error, answer, reporting, Parts, parts, partsOctets}
-use Rattle.submit_report_writing.specs.Writing.{octetsIn, making}
+use Rattle.submit_report.specs.Writing.{octetsIn, making}
 use Rattle.submit_report.specs.declared.SmsSubmitReport.{SmsSubmitReport}
-use Rattle.submit_report.proofs.Writing.{by-parts}
+use Rattle.submit_report.proofs.RecordWritten.{by-parts}
 
 abbrev Canonical : SmsSubmitReport → List Field → Type 0
 Canonical = Writes parts reporting partsOctets

@@ -15,10 +15,10 @@ use Rattle.octets.specs.declared.Span.{Span}
 use Rattle.octets.proofs.Places.{span-there, span-inside}
 use Rattle.layout.specs.Layout.{any, halted, readFrom, indicatorAt}
 use Rattle.layout.proofs.Steps.{indicator-goes-on, indicator-ends, span-goes-on, span-ends, then-goes-on, then-ends, done-reached}
-use Rattle.optional.specs.declared.OptionalOctet.{OptionalOctet}
+use Rattle.parameters.specs.declared.OptionalOctet.{OptionalOctet}
 use Rattle.parameters.specs.Line.{parameters, parametersAnswer}
-use Rattle.parameters.specs.declared.ParametersRead.{ParametersRead}
-use Rattle.parameters.proofs.Reading.{Told, parameters-told, parameters-halted, indicator-within}
+use Rattle.parameters.specs.declared.reading.ParametersRead.{ParametersRead}
+use Rattle.parameters.proofs.StepsOfReader.{Told, parameters-told, parameters-halted, indicator-within}
 use Rattle.parameters.proofs.Outcomes.{Outcomes, outcomes-of}
 use Rattle.submit_report.specs.SubmitReport.{reported, rest, ackLine, errorLine, stopped, ack, error, answer}
 use Rattle.submit_report.specs.declared.SubmitReportRead.{SubmitReportRead}

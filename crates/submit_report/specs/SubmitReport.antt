@@ -12,11 +12,11 @@ use Rattle.octets.specs.declared.Written.{Written}
 use Rattle.coding.specs.Coding.{dataWith, dataOf}
 use Rattle.time.specs.Time.{timeIn, digitsOf, capitals}
 use Rattle.layout.specs.Layout.{indicator, bit, leading, Format, field, time, done, _then_, message, one, Reached, reached, halted, Layout, plain, stopping}
-use Rattle.optional.specs.Parameters.{Parameters, noParameters}
-use Rattle.optional.specs.declared.OptionalOctet.{OptionalOctet}
-use Rattle.optional.specs.declared.OptionalOctet.the-variants.{Absent, Present}
+use Rattle.parameters.specs.Parameters.{Parameters, noParameters}
+use Rattle.parameters.specs.declared.OptionalOctet.{OptionalOctet}
+use Rattle.parameters.specs.declared.OptionalOctet.the-variants.{Absent, Present}
 use Rattle.parameters.specs.Line.{parameters}
-use Rattle.submit_report_writing.specs.Writing.{octetsIn, making}
+use Rattle.submit_report.specs.Writing.{octetsIn, making}
 use Rattle.submit_report.specs.declared.SubmitReportRead.{SubmitReportRead}
 use Rattle.submit_report.specs.declared.SmsSubmitReport.{SmsSubmitReport}
 

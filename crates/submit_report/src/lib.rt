@@ -1,10 +1,13 @@
 // SMS-SUBMIT-REPORT (TS 23.040 §9.2.2.2a), the acknowledgement of an SMS-SUBMIT or SMS-COMMAND.
+pub mod writing;
+
 ghost use mathlib.Core.Path.{_≡_};
 ghost use Prim.Native.Nat.{_+_, _-_, _≤_};
 ghost use lib.ListN.{length, take, drop};
 ghost use Rattle.octets.specs.Lent.{lend};
 ghost use Rattle.layout.specs.Layout.{read, readFrom};
 ghost use Rattle.submit_report.specs.SubmitReport.{reported, causeAlone, stopped as stoppedReport, rest, ack, error, answer, reporting};
+use crate::writing::MTI_SUBMIT;
 use coding::UserData;
 use octets::Octet;
 use octets::Outcome;
@@ -12,9 +15,8 @@ use octets::Place;
 use octets::Refusal;
 use octets::Span;
 use octets::Written;
-use optional::OptionalOctet;
-use parameters::ParametersRead;
-use submit_report_writing::MTI_SUBMIT;
+use parameters::OptionalOctet;
+use parameters::reading::ParametersRead;
 use time::Time;
 
 // Bits 7 and 5-2 of the first octet of a report, which are unused.
@@ -117,13 +119,13 @@ fn report(
 fn decode_rest(data: &[u8], place: Place, udhi: u8, cause: OptionalOctet) -> SubmitReportRead
     ensures { λ r. ⌜ r ≡ answer (readFrom (rest udhi cause) (now («data» .entry)) (place .at)) ⌝ }
 {
-    let Octet::Read(indicator, next) = parameters::read_indicator(data, place) else {
+    let Octet::Read(indicator, next) = parameters::reading::read_indicator(data, place) else {
         return ended();
     };
     let Span::There(scts, behind_time) = next.span(data, 7) else {
         return ended();
     };
-    match parameters::read_parameters(data, behind_time, indicator) {
+    match parameters::reading::read_parameters(data, behind_time, indicator) {
         ParametersRead::Refused(r) => refused(r),
         ParametersRead::Read(pid, dcs, udl, size, behind) => {
             report(
@@ -196,7 +198,7 @@ impl SmsSubmitReport {
         let pid = self.tp_pid;
         let dcs = self.tp_dcs;
         let udl = self.tp_user_data_length;
-        submit_report_writing::encode_parts(
+        writing::encode_parts(
             self.tp_udhi,
             cause,
             self.tp_parameter_indicator,

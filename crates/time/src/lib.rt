@@ -1,4 +1,6 @@
 // Times (TS 23.040 §9.2.3.11): fourteen digits and seven octets.
+pub mod timestamp;
+
 ghost use mathlib.Core.Path.{_≡_};
 ghost use mathlib.Core.Bool.{true};
 ghost use mathlib.Core.List.{[]};

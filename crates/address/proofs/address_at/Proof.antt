@@ -12,7 +12,7 @@ use lib.Seq.{getD-drop}
 use Rattle.octets.specs.Places.{spanAt}
 use Rattle.octets.proofs.Places.{octet-read, octet-ended}
 use Rattle.address.specs.Address.{addressSize}
-use Rattle.address.specs.Parts.{fieldAt}
+use Rattle.address.specs.Internal.{fieldAt}
 use Rattle.address.proofs.address_at.Statement.{statement}
 use Rattle.address.proofs.address_at.Tie as tie
 

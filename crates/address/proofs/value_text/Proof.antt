@@ -12,14 +12,14 @@ use lib.Seq.{length-take-le}
 use Rattle.octets.specs.SemiOctets.{semiOctets}
 use Rattle.octets.proofs.Laws.{take-pad}
 use Rattle.septets.specs.Septets.{septetsIn}
-use Rattle.text.specs.declared.Unpacked.{Unpacked}
-use Rattle.text.specs.Reading.{shown, textOf, unpacked}
-use Rattle.text.proofs.Reading.{unpacked-done}
-use Rattle.text.proofs.Laws.{text-short}
+use Rattle.gsm7.specs.declared.decode.Unpacked.{Unpacked}
+use Rattle.gsm7.specs.Reading.{shown, textOf, unpacked}
+use Rattle.gsm7.proofs.Reading.{unpacked-done}
+use Rattle.gsm7.proofs.DecodingLaws.{text-short}
 use Rattle.address.specs.Address.{digitCharacter, withoutF, valueText}
 use Rattle.address.proofs.value_text.Reads as reads
 use Rattle.address.proofs.value_text.Lts as lts
-use Rattle.text.proofs.unpack_septets.Reads as unpack-septets-reads
+use Rattle.gsm7.proofs.decode.unpack_septets.Reads as unpack-septets-reads
 use Rattle.octets.proofs.put_octets.Reads as put-octets-reads
 use Rattle.address.proofs.digits_text.Reads as digits-text-reads
 use Rattle.address.proofs.value_text.Statement.{statement}

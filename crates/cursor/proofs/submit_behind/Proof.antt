@@ -41,8 +41,8 @@ use Rattle.submit.specs.Submit.{submit, answer}
 use Rattle.submit.specs.declared.SubmitRead.{SubmitRead}
 use Rattle.submit.proofs.SubmitRead as S
 use Rattle.submit.proofs.SubmitRead.Laws as S′
-use Rattle.reading_on.specs.From.{behindPlace, submitFrom}
-use Rattle.reading_on.proofs.Places.{from-there}
+use Rattle.cursor.specs.From.{behindPlace, submitFrom}
+use Rattle.cursor.proofs.Places.{from-there}
 use Rattle.cursor.specs.declared.Cursor.{Cursor}
 use Rattle.cursor.proofs.Cursor as T
 use Rattle.cursor.proofs.Cursor.Laws as T′

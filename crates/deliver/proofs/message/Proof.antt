@@ -2,7 +2,7 @@
 -- Assumes nothing.
 use borrow.Author.Needs.{needs}
 use denote.Ref.{now}
-use Rattle.deliver.proofs.Reading.{message-is}
+use Rattle.deliver.proofs.RecordRead.{message-is}
 use Rattle.deliver.proofs.message.Statement.{statement}
 use Rattle.deliver.proofs.message.Tie as tie
 

@@ -2,7 +2,7 @@
 -- Assumes nothing.
 use mathlib.Core.Path.{sym, ap, _∙_}
 use borrow.Author.Needs.{needs}
-use Rattle.parameters.proofs.Reading.{parameters-behind}
+use Rattle.parameters.proofs.StepsOfReader.{parameters-behind}
 use Rattle.deliver_report.specs.DeliverReport.{answer}
 use Rattle.deliver_report.proofs.Reading.{no-indicator, no-parameters, whole}
 use Rattle.deliver_report.proofs.decode_rest.Statement.{statement}

@@ -2,7 +2,7 @@
 -- Assumes nothing.
 use borrow.Author.Needs.{needs}
 use denote.Ref.{now}
-use Rattle.status_report.proofs.Reading.{message-is}
+use Rattle.status_report.proofs.RecordRead.{message-is}
 use Rattle.status_report.proofs.message.Statement.{statement}
 use Rattle.status_report.proofs.message.Tie as tie
 

@@ -2,7 +2,7 @@
 -- Assumes nothing.
 use mathlib.Core.Path.{_∙_}
 use borrow.Author.Needs.{needs}
-use Rattle.submit.proofs.Reading.{answer-refused, answer-done}
+use Rattle.submit.proofs.RecordRead.{answer-refused, answer-done}
 use Rattle.submit.proofs.decode_sms_submit_tpdu.Statement.{statement}
 use Rattle.submit.proofs.decode_sms_submit_tpdu.Tie as tie
 

@@ -6,7 +6,7 @@ use borrow.Author.Needs.{needs}
 use denote.Ref.{now}
 use lib.ListN.{length-take}
 use lib.Seq.{length-take-le}
-use Rattle.submit.proofs.Reading.{data-room, message-is}
+use Rattle.submit.proofs.RecordRead.{data-room, message-is}
 use Rattle.submit.proofs.message.Statement.{statement}
 use Rattle.submit.proofs.message.Tie as tie
 

@@ -5,7 +5,7 @@ use borrow.Author.Needs.{needs}
 use borrow.Author.Tests.{leb-true}
 use Rattle.coding.specs.Coding.{dataOctets}
 use Rattle.coding.proofs.Laws.{data-at-most}
-use Rattle.submit_reading.specs.Line.{inCount}
+use Rattle.submit.specs.Line.{inCount}
 use Rattle.submit.specs.Submit.{readable}
 use Rattle.submit.proofs.put_readable.Statement.{statement}
 use Rattle.submit.proofs.put_readable.Tie as tie

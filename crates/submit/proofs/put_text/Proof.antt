@@ -9,10 +9,10 @@ use lib.ListN.{length, take, drop}
 use lib.Seq.{length-take-le}
 use Rattle.octets.proofs.Laws.{chain-start, wrote-then}
 use Rattle.septets.specs.Septets.{septetsIn, headerSeptets, fillBits}
-use Rattle.text.specs.Reading.{textOf}
+use Rattle.gsm7.specs.Reading.{textOf}
 use Rattle.submit.proofs.Text.{text-there}
 use Rattle.septets.proofs.header_septets.Reads as header-septets-reads
-use Rattle.text.proofs.unpack_septets.Reads as unpack-septets-reads
+use Rattle.gsm7.proofs.decode.unpack_septets.Reads as unpack-septets-reads
 use Rattle.octets.proofs.put_octets.Reads as put-octets-reads
 use Rattle.submit.proofs.put_text.Reads as reads
 use Rattle.submit.proofs.put_text.Lts as lts

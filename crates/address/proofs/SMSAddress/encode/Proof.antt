@@ -7,7 +7,7 @@ use lib.ListN.{length}
 use lib.Seq.{length-take-le}
 use Rattle.octets.specs.declared.Written.{Written}
 use Rattle.octets.proofs.Laws.{lent-refused}
-use Rattle.address.proofs.Writing.{encoding-long, encoding-parts}
+use Rattle.address.proofs.RecordWritten.{encoding-long, encoding-parts}
 use Rattle.address.proofs.SMSAddress.encode.Statement.{statement}
 use Rattle.address.proofs.SMSAddress.encode.Tie as tie
 

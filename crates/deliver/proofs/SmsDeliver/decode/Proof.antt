@@ -2,7 +2,7 @@
 -- Assumes nothing.
 use mathlib.Core.Path.{_∙_}
 use borrow.Author.Needs.{needs}
-use Rattle.deliver.proofs.Reading.{answer-refused, answer-done}
+use Rattle.deliver.proofs.RecordRead.{answer-refused, answer-done}
 use Rattle.deliver.proofs.SmsDeliver.decode.Statement.{statement}
 use Rattle.deliver.proofs.SmsDeliver.decode.Tie as tie
 

@@ -9,11 +9,11 @@ use lib.Seq.{length-take-le}
 use Rattle.octets.specs.declared.Written.{Written}
 use Rattle.octets.proofs.Laws.{lent-refused}
 use Rattle.deliver.specs.declared.SmsDeliver.{SmsDeliver}
-use Rattle.deliver.proofs.Writing.{too-long, by-parts, all-fit}
+use Rattle.deliver.proofs.RecordWritten.{too-long, by-parts, all-fit}
 use Rattle.deliver.proofs.SmsDeliver.encode.Reads as reads
 use Rattle.deliver.proofs.SmsDeliver.encode.Lts as lts
 use Rattle.deliver.proofs.flags.Reads as flags-reads
-use Rattle.deliver_writing.proofs.encode_parts.Reads as encode-parts-reads
+use Rattle.deliver.proofs.writing.encode_parts.Reads as encode-parts-reads
 use Rattle.deliver.proofs.SmsDeliver.encode.Statement.{statement}
 use Rattle.deliver.proofs.SmsDeliver.encode.Tie as tie
 

@@ -5,7 +5,7 @@ use native.Mathlib.Omega.{arith}
 use borrow.Author.Needs.{needs}
 use lib.ListN.{length, length-take}
 use lib.Seq.{length-take-le}
-use Rattle.deliver_report.proofs.Writing.{too-long, as-parts}
+use Rattle.deliver_report.proofs.RecordWritten.{too-long, as-parts}
 use Rattle.deliver_report.proofs.SmsDeliverReport.encode.Statement.{statement}
 use Rattle.deliver_report.proofs.SmsDeliverReport.encode.Tie as tie
 

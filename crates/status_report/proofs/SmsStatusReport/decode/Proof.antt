@@ -2,7 +2,7 @@
 -- Assumes nothing.
 use mathlib.Core.Path.{_∙_}
 use borrow.Author.Needs.{needs}
-use Rattle.status_report.proofs.Reading.{answer-refused, answer-done}
+use Rattle.status_report.proofs.RecordRead.{answer-refused, answer-done}
 use Rattle.status_report.proofs.SmsStatusReport.decode.Statement.{statement}
 use Rattle.status_report.proofs.SmsStatusReport.decode.Tie as tie
 

@@ -9,11 +9,11 @@ use lib.Seq.{length-take-le}
 use Rattle.octets.specs.declared.Written.{Written}
 use Rattle.octets.proofs.Laws.{lent-refused}
 use Rattle.status_report.specs.declared.SmsStatusReport.{SmsStatusReport}
-use Rattle.status_report.proofs.Writing.{too-long, by-parts, all-fit}
+use Rattle.status_report.proofs.RecordWritten.{too-long, by-parts, all-fit}
 use Rattle.status_report.proofs.SmsStatusReport.encode.Reads as reads
 use Rattle.status_report.proofs.SmsStatusReport.encode.Lts as lts
 use Rattle.status_report.proofs.first_octet.Reads as first-octet-reads
-use Rattle.status_report_writing.proofs.encode_parts.Reads as encode-parts-reads
+use Rattle.status_report.proofs.writing.encode_parts.Reads as encode-parts-reads
 use Rattle.status_report.proofs.SmsStatusReport.encode.Statement.{statement}
 use Rattle.status_report.proofs.SmsStatusReport.encode.Tie as tie
 

@@ -5,8 +5,8 @@ use native.Mathlib.Omega.{arith}
 use borrow.Author.Needs.{needs}
 use lib.ListN.{length, length-take}
 use lib.Seq.{length-take-le}
-use Rattle.submit_report.proofs.Writing.{data-too-long, time-too-long, as-parts}
-use Rattle.submit_report_writing.proofs.encode_parts.Reads as encode-parts-reads
+use Rattle.submit_report.proofs.RecordWritten.{data-too-long, time-too-long, as-parts}
+use Rattle.submit_report.proofs.writing.encode_parts.Reads as encode-parts-reads
 use Rattle.submit_report.proofs.SmsSubmitReport.encode.Reads as reads
 use Rattle.submit_report.proofs.SmsSubmitReport.encode.Lts as lts
 use Rattle.submit_report.proofs.SmsSubmitReport.encode.Statement.{statement}

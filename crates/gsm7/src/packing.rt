@@ -1,0 +1,106 @@
+// GSM 7-bit default alphabet text (TS 23.038 §6.2.1), written: the septets of a text packed in octets, with or without a header before them.
+ghost use mathlib.Core.Path.{_≡_};
+ghost use Prim.Native.Nat.{_≤_};
+ghost use mathlib.Core.List.{[]};
+ghost use mathlib.Core.Option.{some};
+ghost use lib.ListN.{length};
+ghost use Rattle.octets.specs.Lent.{Wrote, lend};
+ghost use Rattle.octets.specs.declared.Refusal.the-variants.{NotInAlphabet, TooManySeptets, OutputTooShort};
+ghost use Rattle.septets.specs.Septets.{Digits};
+ghost use Rattle.gsm7.specs.Packing.{notPacked, counted, octetsBehind, packedBehind, packing};
+use crate::encode::Scanned;
+use octets::Outcome;
+use octets::Refusal;
+
+// How many octets were written, and the number of septets that TP-User-Data-Length counts.
+pub struct Packed {
+    pub outcome: Outcome,
+    pub octets: usize,
+    pub septets: usize,
+}
+
+pub fn not_packed(r: Refusal) -> Packed
+    ensures { λ p. ⌜ p ≡ notPacked r ⌝ }
+{
+    Packed {
+        outcome: Outcome::Refused(r),
+        octets: 0,
+        septets: 0,
+    }
+}
+
+fn not_in_alphabet() -> Packed
+    ensures { λ p. ⌜ p ≡ notPacked NotInAlphabet ⌝ }
+{
+    not_packed(Refusal::NotInAlphabet)
+}
+
+fn too_many_septets() -> Packed
+    ensures { λ p. ⌜ p ≡ notPacked TooManySeptets ⌝ }
+{
+    not_packed(Refusal::TooManySeptets)
+}
+
+fn output_too_short() -> Packed
+    ensures { λ p. ⌜ p ≡ notPacked OutputTooShort ⌝ }
+{
+    not_packed(Refusal::OutputTooShort)
+}
+
+// The answer of a packer that wrote: how many octets, for how many septets.
+fn done(octets: usize, septets: usize) -> Packed
+    ensures { λ p. ⌜ p ≡ counted octets septets ⌝ }
+{
+    Packed {
+        outcome: Outcome::Done,
+        octets,
+        septets,
+    }
+}
+
+// Writes a header's octets, and the septets behind it and its fill bits; the place behind them.
+fn put_packed(header: &[u8], codes: &[u8], out: &mut [u8]) -> usize
+    requires { ⌜ (length (now header) ≤ 256) × (length (now codes) ≤ 255) × Digits 7 (now codes) × (length (octetsBehind (now header) (now codes)) ≤ length (now out)) ⌝ }
+    ensures { λ r. ⌜ Wrote 0 (octetsBehind (now (header .entry)) (now (codes .entry))) (now (out .entry)) r (now (out .exit)) ⌝ }
+{
+    let fill = septets::header_septets(header.len()) * 7 - header.len() * 8;
+    let at = octets::put_octets(out, 0, header);
+    septets::pack_octets(codes, fill, out, at)
+}
+
+// The septets packed behind a header's octets and its fill bits.
+fn pack_codes(header: &[u8], codes: &[u8], out: &mut [u8]) -> Packed
+    requires { ⌜ (length (now header) ≤ 256) × (length (now codes) ≤ 255) × Digits 7 (now codes) ⌝ }
+    ensures { λ r. ⌜ (r, now (out .exit)) ≡ lend notPacked (packedBehind (now (header .entry)) (some (now (codes .entry)))) (now (out .entry)) ⌝ }
+{
+    let septets = septets::header_septets(header.len()) + codes.len();
+    if 255 < septets {
+        return too_many_septets();
+    }
+    if out.len() < (septets * 7 + 7) / 8 {
+        return output_too_short();
+    }
+    done(put_packed(header, codes, out), septets)
+}
+
+// The text packed behind a header's octets and its fill bits; with no header, from the start.
+pub fn pack_septets(header: &[u8], text: &[u8], out: &mut [u8]) -> Packed
+    requires { ⌜ length (now header) ≤ 256 ⌝ }
+    ensures { λ r. ⌜ (r, now (out .exit)) ≡ lend notPacked (packing (now (header .entry)) (now (text .entry))) (now (out .entry)) ⌝ }
+{
+    let mut codes = [0u8; 255];
+    let Scanned::Counted(count) = crate::encode::scan_text(text, &mut codes) else {
+        return not_in_alphabet();
+    };
+    if 255 < count {
+        return too_many_septets();
+    }
+    pack_codes(header, &codes[..count], out)
+}
+
+// The text packed in octets.
+pub fn pack_gsm7(text: &[u8], out: &mut [u8]) -> Packed
+    ensures { λ r. ⌜ (r, now (out .exit)) ≡ lend notPacked (packing [] (now (text .entry))) (now (out .entry)) ⌝ }
+{
+    pack_septets(&text[..0], text, out)
+}

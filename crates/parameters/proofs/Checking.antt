@@ -1,0 +1,57 @@
+-- What the checks of indicator and parameters find.
+-- Assumes nothing.
+use Prim.Native.Nat.{ℕ}
+use mathlib.Core.Path.{_≡_, refl, _∙_}
+use mathlib.Core.Bool.{Bool, true, false, not, _||_}
+use mathlib.Core.List.{List, _++_}
+use borrow.Author.Tests.{eq-eqb, leb-true, leb-false, le-ltb, lt-ltb}
+use lib.Dec.{leb, ltb}
+use lib.ListN.{length}
+use Rattle.octets.specs.Choice.{if_then_else_}
+use Rattle.octets.specs.Checks.{Check, checked, found}
+use Rattle.octets.specs.declared.Checked.{Checked}
+use Rattle.octets.specs.declared.Refusal.the-variants.{IndicatorExtended, UserDataTooLong}
+use Rattle.octets.proofs.Checks.{passed, against, all-passed, one-against}
+use Rattle.layout.specs.Layout.{isSet}
+use Rattle.layout.proofs.Demand.{Answers}
+use Rattle.parameters.specs.Parameters.{Parameters}
+use Rattle.parameters.specs.declared.OptionalOctet.{OptionalOctet}
+use Rattle.parameters.specs.declared.OptionalOctet.the-variants.{Absent, Present}
+use Rattle.parameters.proofs.Agreeing.{dataCount, Agreeing}
+use Rattle.parameters.specs.Checking.{indicatorChecks, dataChecks}
+
+-- past 140 octets they are refused
+abbrev limited : ℕ → Checked
+limited n = if leb n 140 then Checked.Fine else Checked.Against UserDataTooLong
+
+data-found : (dcs udl : OptionalOctet) {n : ℕ} → n ≡ dataCount dcs udl → found (dataChecks dcs udl n) ≡ limited n
+unfolding dataChecks
+data-found dcs Absent e = rw e
+data-found dcs (Present udl) {n} e = rw (eq-eqb n _ e)
+
+-- ---- parameters that go with their indicator pass the checks, but for bit 7 and more than 140 octets
+
+module _ {pi : ℕ} {p : Parameters} (h : Agreeing pi p) where
+  indicator-found : found (indicatorChecks pi (p .pid) (p .dcs) (p .udl)) ≡ (if isSet 7 pi then Checked.Against IndicatorExtended else Checked.Fine)
+  unfolding indicatorChecks
+  indicator-found = rw (eq-eqb _ _ (h .bits)) (by (isSet 7 pi))
+    where
+      by : (b : Bool) → (if not b then Checked.Fine else Checked.Against IndicatorExtended) ≡ (if b then Checked.Against IndicatorExtended else Checked.Fine)
+      by true = refl
+      by false = refl
+
+  pub answers : {past : Bool} → past ≡ ltb 140 (length (p .ud)) → (octets : List ℕ)
+      → Answers (checked (indicatorChecks pi (p .pid) (p .dcs) (p .udl) ++ dataChecks (p .dcs) (p .udl) (length (p .ud))) octets) octets (isSet 7 pi || past)
+  answers limit octets = rw limit (by (isSet 7 pi) indicator-found (leb (length (p .ud)) 140) refl)
+    where
+      first : List Check
+      first = indicatorChecks pi (p .pid) (p .dcs) (p .udl)
+
+      more : List Check
+      more = dataChecks (p .dcs) (p .udl) (length (p .ud))
+
+      by : (b : Bool) → found first ≡ (if b then Checked.Against IndicatorExtended else Checked.Fine) → (t : Bool) → leb (length (p .ud)) 140 ≡ t
+          → Answers (checked (first ++ more) octets) octets (b || ltb 140 (length (p .ud)))
+      by true e t d = (IndicatorExtended, one-against octets (first ++ more) (against more first e))
+      by false e true d = rw (le-ltb 140 (length (p .ud)) (leb-true _ _ d)) (all-passed octets (first ++ more) (passed more first e ∙ data-found _ _ (h .counted) ∙ rw d))
+      by false e false d = rw (lt-ltb 140 (length (p .ud)) (leb-false _ _ d)) (UserDataTooLong, one-against octets (first ++ more) (passed more first e ∙ data-found _ _ (h .counted) ∙ rw d))

@@ -1,0 +1,189 @@
+// Characters of a text: those of UTF-16 as UTF-8, and control characters spelled out, so that a text stays on its line.
+ghost use mathlib.Core.Path.{_≡_};
+ghost use Prim.Native.Nat.{_+_, _*_, _<_, _≤_};
+ghost use lib.ListN.{take};
+ghost use Rattle.utf16.specs.Characters.{utf8 as utf8Of, characterOf, firstCharacter, replacement as theReplacement};
+use output::Page;
+
+// A character, and how many octets it took.
+pub struct Character {
+    pub code: u32,
+    pub size: usize,
+}
+
+// The octets of a character.
+pub struct Utf8Octets {
+    pub octets: [u8; 4],
+    pub length: usize,
+}
+
+// The UTF-8 of a character.
+fn utf8(c: u32) -> Utf8Octets
+    requires { ⌜ c < 0x110000 ⌝ }
+    ensures { λ r. ⌜ (take (r .length) (r .octets) ≡ utf8Of c) ⌝ }
+{
+    if c < 0x80 {
+        return Utf8Octets {
+            octets: [c as u8, 0, 0, 0],
+            length: 1,
+        };
+    }
+    if c < 0x800 {
+        return Utf8Octets {
+            octets: [(192 + c / 64) as u8, (128 + c % 64) as u8, 0, 0],
+            length: 2,
+        };
+    }
+    if c < 0x10000 {
+        return Utf8Octets {
+            octets: [
+                (224 + c / 4096) as u8,
+                (128 + c / 64 % 64) as u8,
+                (128 + c % 64) as u8,
+                0,
+            ],
+            length: 3,
+        };
+    }
+    Utf8Octets {
+        octets: [
+            (240 + c / 262144) as u8,
+            (128 + c / 4096 % 64) as u8,
+            (128 + c / 64 % 64) as u8,
+            (128 + c % 64) as u8,
+        ],
+        length: 4,
+    }
+}
+
+// A lone surrogate or a lone octet.
+fn replacement() -> Character
+    ensures { λ r. ⌜ r ≡ theReplacement ⌝ }
+{
+    Character {
+        code: 0xFFFD,
+        size: 2,
+    }
+}
+
+// The character that two units of UTF-16 begin with.
+fn character_of(high: u32, low: u32) -> Character
+    requires { ⌜ (high < 65536) × (low < 65536) ⌝ }
+    ensures { λ r. ⌜ (r ≡ characterOf high low) × (r .code < 0x110000) × (1 ≤ r .size) × (r .size ≤ 4) ⌝ }
+{
+    if high < 0xD800 {
+        return Character {
+            code: high,
+            size: 2,
+        };
+    }
+    if 0xDFFF < high {
+        return Character {
+            code: high,
+            size: 2,
+        };
+    }
+    if 0xDC00 <= high {
+        return replacement();
+    }
+    if low < 0xDC00 {
+        return replacement();
+    }
+    if 0xDFFF < low {
+        return replacement();
+    }
+    Character {
+        code: 0x10000 + (high - 0xD800) * 0x400 + (low - 0xDC00),
+        size: 4,
+    }
+}
+
+// Sixteen bits, high octet first.
+fn unit(high: u8, low: u8) -> u32
+    ensures { λ r. ⌜ (r ≡ high * 256 + low) × (r < 65536) ⌝ }
+{
+    high as u32 * 256 + low as u32
+}
+
+// The first character of UTF-16.
+fn first_character(octets: &[u8]) -> Character
+    ensures { λ r. ⌜ (r ≡ firstCharacter (now (octets .entry))) × (r .code < 0x110000) × (1 ≤ r .size) × (r .size ≤ 4) ⌝ }
+{
+    if octets.len() < 2 {
+        return replacement();
+    }
+    let high = unit(octets[0], octets[1]);
+    if octets.len() < 4 {
+        return character_of(high, 0);
+    }
+    character_of(high, unit(octets[2], octets[3]))
+}
+
+// The letter behind the backslash of an octet that is spelled out; 0 for one that stands for itself.
+fn escape_letter(octet: u8) -> u8 {
+    match octet {
+        b'\n' => b'n',
+        b'\r' => b'r',
+        0x0C => b'f',
+        b'\\' => b'\\',
+        0..=0x1F | 0x7F => b'x',
+        _ => 0,
+    }
+}
+
+// An octet that is spelled out in hexadecimal.
+fn put_hex_escape(out: &mut Page, at: usize, octet: u8) -> usize {
+    let escape = output::put(out, at, b"\\x");
+    output::put_hex_octet(out, escape, octet)
+}
+
+// An octet of a text.
+fn put_octet(out: &mut Page, at: usize, octet: u8) -> usize {
+    let letter = escape_letter(octet);
+    match letter {
+        0 => output::put(out, at, &[octet]),
+        b'x' => put_hex_escape(out, at, octet),
+        _ => output::put(out, at, &[b'\\', letter]),
+    }
+}
+
+// A text in UTF-8.
+pub fn put_text(out: &mut Page, at: usize, text: &[u8]) -> usize {
+    let mut place = at;
+    let mut i = 0;
+    while i < text.len() {
+        place = put_octet(out, place, text[i]);
+        i += 1;
+    }
+    place
+}
+
+// The first n octets, or all of them.
+pub fn first(octets: &[u8], n: usize) -> &[u8] {
+    if n <= octets.len() {
+        &octets[0..n]
+    } else {
+        octets
+    }
+}
+
+// A character of a text.
+fn put_character(out: &mut Page, at: usize, c: u32) -> usize
+    requires { ⌜ c < 0x110000 ⌝ }
+{
+    let shown = utf8(c);
+    let octets = shown.octets;
+    put_text(out, at, first(&octets, shown.length))
+}
+
+// A text in UTF-16, high octets first.
+pub fn put_utf16(out: &mut Page, at: usize, octets: &[u8]) -> usize {
+    let mut place = at;
+    let mut i = 0;
+    while i < octets.len() {
+        let c = first_character(&octets[i..]);
+        place = put_character(out, place, c.code);
+        i += c.size;
+    }
+    place
+}
