@@ -8,9 +8,9 @@ use native.Mathlib.Nat.{add-zero, zero-add, sub-zero, zero-sub, suc-sub-suc, add
 use borrow.Author.Tests.{le-leb, lt-leb}
 use lib.ListN.{length, take, drop, set, replicate, length-append, length-replicate, length-drop, drop-of-length-le}
 use lib.Seq.{sets, sets-eq, length-sets, length-take-le, take-at}
+use Rattle.octets.specs.Answers.{Said, gives, refuses}
 use Rattle.octets.specs.declared.Refusal.{Refusal}
 use Rattle.octets.specs.declared.Refusal.the-variants.{OutputTooShort}
-use Rattle.octets.specs.declared.Written.{Written}
 use Rattle.octets.specs.Arrays.{pad}
 use Rattle.octets.specs.Lent.{Making, refused, made, lend, Wrote}
 
@@ -121,5 +121,5 @@ module _ {A : Type 0} (blank : Refusal → A) {m : Making A} (l : List ℕ) wher
     lent-done h p = rw (e, le-leb (length xs) (length l) h, p, sets-start xs l h)
 
 -- the octets that a part of a writer stored
-pub lent-written : {m : Making Written} {n : ℕ} {xs l′ : List ℕ} (l : List ℕ) → m ≡ made xs (Written.Done (length xs)) → length xs ≤ length l → Wrote 0 xs l n l′ → _≡_ {A = Written × List ℕ} (Written.Done n, l′) (lend Written.Refused m l)
-lent-written l e h w = rw (w .place, zero-add) (lent-done Written.Refused l e h (w .list))
+pub lent-written : {m : Making (Said ℕ)} {n : ℕ} {xs l′ : List ℕ} (l : List ℕ) → m ≡ made xs (gives (length xs)) → length xs ≤ length l → Wrote 0 xs l n l′ → _≡_ {A = Said ℕ × List ℕ} (gives n, l′) (lend refuses m l)
+lent-written l e h w = rw (w .place, zero-add) (lent-done refuses l e h (w .list))
