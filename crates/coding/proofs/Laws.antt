@@ -8,10 +8,10 @@ use mathlib.Core.List.{List, [], _∷_, _++_}
 use borrow.Author.Tests.{eq-eqb, eqb-true, le-ltb, lt-ltb, leb-true, leb-false}
 use lib.Dec.{eqb, leb, ltb}
 use lib.ListN.{length as size}
+use Rattle.octets.specs.Answers.{fine}
 use Rattle.octets.specs.Checks.{Check, _unless_, checked, afterChecked}
 use Rattle.octets.specs.Choice.{if_then_else_}
 use Rattle.octets.specs.Lent.{refused}
-use Rattle.octets.specs.declared.Checked.{Checked}
 use Rattle.octets.specs.declared.Refusal.the-variants.{UserDataLengthDisagrees, UserDataTooLong}
 use Rattle.octets.proofs.Checks.{checked-then, holds}
 use Rattle.octets.proofs.Laws.{take-pad}
@@ -35,7 +35,7 @@ module _ (dcs udl n : ℕ) where
   data-checked checks xs = checked-then xs (dataChecks dcs udl n) checks
 
   -- data that pass have the number that UDL and DCS give, and are few
-  pub data-passed : checkedData dcs udl n ≡ Checked.Fine → (n ≡ dataOctets (codingOf dcs) udl) × (n ≤ 140)
+  pub data-passed : checkedData dcs udl n ≡ fine → (n ≡ dataOctets (codingOf dcs) udl) × (n ≤ 140)
   unfolding checkedData
   data-passed e =
       let (size, f) = holds UserDataLengthDisagrees (eqb n (dataOctets (codingOf dcs) udl)) ((UserDataTooLong unless leb n 140) ∷ []) e in

@@ -3,10 +3,10 @@ use Prim.Native.Nat.{ℕ, _+_, _*_, _/_, _%_}
 use mathlib.Core.List.{List, [], _∷_}
 use lib.Dec.{eqb, leb}
 use lib.ListN.{length as size, take}
+use Rattle.octets.specs.Answers.{Said}
 use Rattle.octets.specs.Arrays.{pad}
 use Rattle.octets.specs.Checks.{Check, _unless_, found}
 use Rattle.octets.specs.Choice.{if_then_else_}
-use Rattle.octets.specs.declared.Checked.{Checked}
 use Rattle.octets.specs.declared.Refusal.the-variants.{UserDataLengthDisagrees, UserDataTooLong}
 use Rattle.coding.specs.declared.UserData.{UserData}
 use Rattle.coding.specs.declared.UserDataCoding.{UserDataCoding}
@@ -36,7 +36,7 @@ dataOctets Compressed udl = udl
 abbrev pub dataChecks : ℕ → ℕ → ℕ → List Check
 dataChecks dcs udl n = (UserDataLengthDisagrees unless eqb n (dataOctets (codingOf dcs) udl)) ∷ (UserDataTooLong unless leb n 140) ∷ []
 
-unfoldable pub checkedData : ℕ → ℕ → ℕ → Checked
+unfoldable pub checkedData : ℕ → ℕ → ℕ → Said Unit
 checkedData dcs udl n = found (dataChecks dcs udl n)
 
 -- octets as the user data of a record
