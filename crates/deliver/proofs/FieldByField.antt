@@ -15,7 +15,7 @@ use Rattle.octets.proofs.Places.{octet-read, span-there, span-inside, start}
 use Rattle.coding.specs.Coding.{codingOf, dataOctets}
 use Rattle.coding.proofs.Laws.{data-at-most}
 use Rattle.address.specs.Address.{addressSize, canonicalAddress}
-use Rattle.address.specs.Internal.{fieldAt}
+use Rattle.address.specs.Internal.{addressSpan}
 use Rattle.layout.specs.Layout.{Format, any, upTo, address, userData, field, done, cut, kept, messageType, Reached, reached, halted, readFrom}
 use Rattle.layout.proofs.Steps.{message-goes-on, message-differs, message-ends, octet-goes-on, octet-ends, span-goes-on, span-ends, address-goes-on, address-ends, done-reached, address-inside}
 use Rattle.deliver.specs.declared.reading.DeliverFields.{DeliverFields}
@@ -90,11 +90,11 @@ module _ (s : List ℕ) where
     other-type d = sym (message-differs s start e 0 bits refl behindFirst d)
 
     module _ (m : messageType b ≡ 0) where
-      pub no-address : fieldAt s p ≡ Span.Ended → halted OctetsEnd ≡ readFrom line s 0
+      pub no-address : addressSpan s p ≡ Span.Ended → halted OctetsEnd ≡ readFrom line s 0
       unfolding line
       no-address d = sym (message-goes-on s start e 0 bits refl behindFirst m ∙ address-ends s p d (behindAddress (kept bits b)))
 
-      pub to-address : {oa : ℕ} {q : Place} → fieldAt s p ≡ Span.There oa q
+      pub to-address : {oa : ℕ} {q : Place} → addressSpan s p ≡ Span.There oa q
           → (oa + addressSize (drop oa s) ≤ length s) × (readFrom (behindAddress (kept bits b) (canonicalAddress (cut address (drop oa s)))) s (q .at) ≡ readFrom line s 0)
       unfolding line
       to-address d = (

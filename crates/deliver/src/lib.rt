@@ -76,7 +76,7 @@ fn message(data: &[u8], f: DeliverFields) -> SmsDeliver
     let start = f.data;
     let end = start + f.octets;
     let first = f.first;
-    let originator = SMSAddress::decode(data, f.address);
+    let originator = address::address_at(data, f.address);
     let timestamp = time::time_at(data, f.timestamp);
     let user_data = coding::data_with(&data[start..end]);
     SmsDeliver {

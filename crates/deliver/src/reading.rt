@@ -89,7 +89,7 @@ pub fn fields_of(data: &[u8]) -> DeliverFound
     if first % 4 != MTI_DELIVER {
         return DeliverFound::Refused(Refusal::WrongMessageType);
     }
-    let Span::There(address, place2) = address::address_at(data, place) else {
+    let Span::There(address, place2) = address::address_span(data, place) else {
         return DeliverFound::Refused(Refusal::OctetsEnd);
     };
     behind_address(data, first, address, place2)

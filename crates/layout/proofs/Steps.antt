@@ -20,7 +20,7 @@ use Rattle.octets.specs.declared.Refusal.the-variants.{OctetsEnd, WrongMessageT
 use Rattle.octets.specs.declared.Span.{Span}
 use Rattle.octets.proofs.Places.{start, octet-read, octet-ended, span-there, span-inside, span-ended}
 use Rattle.address.specs.Address.{addressSize, canonicalAddress}
-use Rattle.address.specs.Internal.{fieldAt}
+use Rattle.address.specs.Internal.{addressSpan}
 use Rattle.layout.specs.Layout.{Limit, Kind, first, octet, octets, address, indicator, messageType, kept, indicatorSize, size, canon, cut, behind, Format, field, require, endOr, done, _then_, message, Reached, reached, halted, after, reading, readFrom, leadingAt, indicatorAt, stopping, stops, read}
 use Rattle.layout.proofs.Fields.{indicator-positive}
 use Rattle.layout.proofs.FirstOctet.{descends, kept-type}
@@ -107,19 +107,19 @@ module _ (s : List ℕ) (p : Place) where
     pub span-ends : {R : Type 0} → spanAt s p n ≡ Span.Ended → (limit : Limit) (next : List ℕ → Format R) → readFrom (field (octets limit n) next) s (p .at) ≡ halted OctetsEnd
     span-ends e limit next = whole-short (octets limit n) e next
 
-  -- ---- by the answer of `address_at`
+  -- ---- by the answer of `address_span`
 
-  pub address-goes-on : {R : Type 0} {a : ℕ} {q : Place} → fieldAt s p ≡ Span.There a q → (next : List ℕ → Format R) → readFrom (field address next) s (p .at) ≡ readFrom (next (canonicalAddress (cut address (drop a s)))) s (q .at)
-  unfolding fieldAt spanAt
+  pub address-goes-on : {R : Type 0} {a : ℕ} {q : Place} → addressSpan s p ≡ Span.There a q → (next : List ℕ → Format R) → readFrom (field address next) s (p .at) ≡ readFrom (next (canonicalAddress (cut address (drop a s)))) s (q .at)
+  unfolding addressSpan spanAt
   address-goes-on e next = whole-there address e next ∙ rw (span-there s p _ e .1)
 
-  pub address-ends : {R : Type 0} → fieldAt s p ≡ Span.Ended → (next : List ℕ → Format R) → readFrom (field address next) s (p .at) ≡ halted OctetsEnd
-  unfolding fieldAt spanAt
+  pub address-ends : {R : Type 0} → addressSpan s p ≡ Span.Ended → (next : List ℕ → Format R) → readFrom (field address next) s (p .at) ≡ halted OctetsEnd
+  unfolding addressSpan spanAt
   address-ends e next = whole-short address e next
 
   -- it lies in the string, from a place that does
-  pub address-inside : {a : ℕ} {q : Place} → fieldAt s p ≡ Span.There a q → p .at ≤ length s → (a + addressSize (drop a s) ≤ length s) × (q .at ≤ length s)
-  unfolding fieldAt spanAt
+  pub address-inside : {a : ℕ} {q : Place} → addressSpan s p ≡ Span.There a q → p .at ≤ length s → (a + addressSize (drop a s) ≤ length s) × (q .at ≤ length s)
+  unfolding addressSpan spanAt
   address-inside {a} e h =
       let is : a ≡ p .at = span-there s p _ e .1 in
       let (x, y) = span-inside s p _ e h in

@@ -21,7 +21,7 @@ use Rattle.coding.specs.Coding.{codingOf, dataOctets}
 use Rattle.coding.specs.declared.UserDataCoding.{UserDataCoding}
 use Rattle.coding.proofs.Laws.{data-at-most}
 use Rattle.address.specs.Address.{addressSize, canonicalAddress}
-use Rattle.address.specs.Internal.{fieldAt}
+use Rattle.address.specs.Internal.{addressSpan}
 use Rattle.layout.specs.Layout.{any, upTo, address, userData, isSet, field, require, done, cut, kept, messageType, Reached, reached, halted, readFrom}
 use Rattle.layout.proofs.Steps.{message-goes-on, message-differs, message-ends, octet-goes-on, octet-ends, span-goes-on, span-ends, address-goes-on, address-ends, require-holds, require-fails, done-reached, address-inside}
 use Rattle.validity_period.specs.Validity.{periodSize}
@@ -105,11 +105,11 @@ module _ (s : List ℕ) where
       no-mr e = sym (to-first ∙ octet-ends s p e _)
 
       module _ {mr : ℕ} {p₂ : Place} (e₂ : octetAt s p ≡ Octet.Read mr p₂) where
-        pub no-address : fieldAt s p₂ ≡ Span.Ended → halted OctetsEnd ≡ readFrom line s 0
+        pub no-address : addressSpan s p₂ ≡ Span.Ended → halted OctetsEnd ≡ readFrom line s 0
         unfolding behindFirst
         no-address e = sym (to-first ∙ octet-goes-on s p e₂ _ ∙ address-ends s p₂ e _)
 
-        module _ {da : ℕ} {p₃ : Place} (e₃ : fieldAt s p₂ ≡ Span.There da p₃) where
+        module _ {da : ℕ} {p₃ : Place} (e₃ : addressSpan s p₂ ≡ Span.There da p₃) where
           pub no-pid : octetAt s p₃ ≡ Octet.Ended → halted OctetsEnd ≡ readFrom line s 0
           unfolding behindFirst
           no-pid e = sym (to-first ∙ octet-goes-on s p e₂ _ ∙ address-goes-on s p₂ e₃ _ ∙ octet-ends s p₃ e _)

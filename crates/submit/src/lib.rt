@@ -178,7 +178,7 @@ fn message(data: &[u8], f: SubmitFields) -> SmsSubmit
         tp_vpf: format,
         tp_mr: f.mr,
         has_destination_address: true,
-        tp_destination_address: SMSAddress::decode(data, f.address),
+        tp_destination_address: address::address_at(data, f.address),
         tp_pid: f.pid,
         tp_dcs: dcs,
         tp_validity_period: validity_period::period_in(format, vp),

@@ -121,7 +121,7 @@ pub fn fields_of(data: &[u8]) -> SubmitFound
     let Octet::Read(mr, place2) = place.octet(data) else {
         return SubmitFound::Refused(Refusal::OctetsEnd);
     };
-    let Span::There(address, place3) = address::address_at(data, place2) else {
+    let Span::There(address, place3) = address::address_span(data, place2) else {
         return SubmitFound::Refused(Refusal::OctetsEnd);
     };
     let Octet::Read(pid, place4) = place3.octet(data) else {

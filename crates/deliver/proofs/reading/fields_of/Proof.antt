@@ -10,14 +10,14 @@ returns-3 : tie.Need-returns-3
 returns-3 c =
     let i = c .before .before .before in
     let f = i .before .before in
-    (no-address _ (sym (f .before .before .octet .ensures) ∙ f .first .given .1) (i .if1 .left) (sym (c .before .before .address-at .ensures) ∙ c .enum-told2 .given .1), tt)
+    (no-address _ (sym (f .before .before .octet .ensures) ∙ f .first .given .1) (i .if1 .left) (sym (c .before .before .address-span .ensures) ∙ c .enum-told2 .given .1), tt)
 
 behind-address-requires : tie.Need-behind-address-requires
 behind-address-requires c κs =
     let a = c .before in
     let i = a .before .before .before in
     let f = i .before .before in
-    to-address _ (sym (f .before .before .octet .ensures) ∙ f .first .given .1) (i .if1 .left) (sym (a .before .before .address-at .ensures) ∙ a .address .given .1) .0
+    to-address _ (sym (f .before .before .octet .ensures) ∙ f .first .given .1) (i .if1 .left) (sym (a .before .before .address-span .ensures) ∙ a .address .given .1) .0
 
 returns-4 : tie.Need-returns-4
 returns-4 c =
@@ -25,7 +25,7 @@ returns-4 c =
     let i = a .before .before .before in
     let f = i .before .before in
     let r = c .behind-address .ensures in
-    (r .0 ∙ to-address _ (sym (f .before .before .octet .ensures) ∙ f .first .given .1) (i .if1 .left) (sym (a .before .before .address-at .ensures) ∙ a .address .given .1) .1, r .1)
+    (r .0 ∙ to-address _ (sym (f .before .before .octet .ensures) ∙ f .first .given .1) (i .if1 .left) (sym (a .before .before .address-span .ensures) ∙ a .address .given .1) .1, r .1)
 
 pub fields-of-spec : {M : Type 1} → statement M
 fields-of-spec =

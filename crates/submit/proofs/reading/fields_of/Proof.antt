@@ -17,7 +17,7 @@ returns-4 c =
     let m = c .before .before .before .before in
     let i = m .before .before .before in
     let f = i .before .before in
-    (no-address _ (sym (f .before .before .octet .ensures) ∙ f .first .given .1) (i .if1 .left) (sym (m .before .before .octet2 .ensures) ∙ m .mr .given .1) (sym (c .before .before .address-at .ensures) ∙ c .enum-told3 .given .1), tt)
+    (no-address _ (sym (f .before .before .octet .ensures) ∙ f .first .given .1) (i .if1 .left) (sym (m .before .before .octet2 .ensures) ∙ m .mr .given .1) (sym (c .before .before .address-span .ensures) ∙ c .enum-told3 .given .1), tt)
 
 returns-5 : tie.Need-returns-5
 returns-5 c =
@@ -25,7 +25,7 @@ returns-5 c =
     let m = a .before .before .before .before in
     let i = m .before .before .before in
     let f = i .before .before in
-    (no-pid _ (sym (f .before .before .octet .ensures) ∙ f .first .given .1) (i .if1 .left) (sym (m .before .before .octet2 .ensures) ∙ m .mr .given .1) (sym (a .before .before .address-at .ensures) ∙ a .address .given .1) (sym (c .before .before .octet3 .ensures) ∙ c .enum-told4 .given .1), tt)
+    (no-pid _ (sym (f .before .before .octet .ensures) ∙ f .first .given .1) (i .if1 .left) (sym (m .before .before .octet2 .ensures) ∙ m .mr .given .1) (sym (a .before .before .address-span .ensures) ∙ a .address .given .1) (sym (c .before .before .octet3 .ensures) ∙ c .enum-told4 .given .1), tt)
 
 returns-6 : tie.Need-returns-6
 returns-6 c =
@@ -34,7 +34,7 @@ returns-6 c =
     let m = a .before .before .before .before in
     let i = m .before .before .before in
     let f = i .before .before in
-    (no-dcs _ (sym (f .before .before .octet .ensures) ∙ f .first .given .1) (i .if1 .left) (sym (m .before .before .octet2 .ensures) ∙ m .mr .given .1) (sym (a .before .before .address-at .ensures) ∙ a .address .given .1) (sym (p .before .before .octet3 .ensures) ∙ p .pid .given .1) (sym (c .before .before .octet4 .ensures) ∙ c .enum-told5 .given .1), tt)
+    (no-dcs _ (sym (f .before .before .octet .ensures) ∙ f .first .given .1) (i .if1 .left) (sym (m .before .before .octet2 .ensures) ∙ m .mr .given .1) (sym (a .before .before .address-span .ensures) ∙ a .address .given .1) (sym (p .before .before .octet3 .ensures) ∙ p .pid .given .1) (sym (c .before .before .octet4 .ensures) ∙ c .enum-told5 .given .1), tt)
 
 behind-coding-requires : tie.Need-behind-coding-requires
 behind-coding-requires c κs =
@@ -44,7 +44,7 @@ behind-coding-requires c κs =
     let m = a .before .before .before .before in
     let i = m .before .before .before in
     let f = i .before .before in
-    room _ (sym (f .before .before .octet .ensures) ∙ f .first .given .1) (i .if1 .left) (sym (m .before .before .octet2 .ensures) ∙ m .mr .given .1) (sym (a .before .before .address-at .ensures) ∙ a .address .given .1) (sym (p .before .before .octet3 .ensures) ∙ p .pid .given .1) (sym (d .before .before .octet4 .ensures) ∙ d .dcs .given .1)
+    room _ (sym (f .before .before .octet .ensures) ∙ f .first .given .1) (i .if1 .left) (sym (m .before .before .octet2 .ensures) ∙ m .mr .given .1) (sym (a .before .before .address-span .ensures) ∙ a .address .given .1) (sym (p .before .before .octet3 .ensures) ∙ p .pid .given .1) (sym (d .before .before .octet4 .ensures) ∙ d .dcs .given .1)
 
 returns-7 : tie.Need-returns-7
 returns-7 c =
@@ -55,7 +55,7 @@ returns-7 c =
     let i = m .before .before .before in
     let f = i .before .before in
     let r = c .behind-coding .ensures in
-    (r .0 ∙ to-dcs _ (sym (f .before .before .octet .ensures) ∙ f .first .given .1) (i .if1 .left) (sym (m .before .before .octet2 .ensures) ∙ m .mr .given .1) (sym (a .before .before .address-at .ensures) ∙ a .address .given .1) (sym (p .before .before .octet3 .ensures) ∙ p .pid .given .1) (sym (d .before .before .octet4 .ensures) ∙ d .dcs .given .1) (λ j. f .before .before .before .shared-slice-known .given j .fits), r .1)
+    (r .0 ∙ to-dcs _ (sym (f .before .before .octet .ensures) ∙ f .first .given .1) (i .if1 .left) (sym (m .before .before .octet2 .ensures) ∙ m .mr .given .1) (sym (a .before .before .address-span .ensures) ∙ a .address .given .1) (sym (p .before .before .octet3 .ensures) ∙ p .pid .given .1) (sym (d .before .before .octet4 .ensures) ∙ d .dcs .given .1) (λ j. f .before .before .before .shared-slice-known .given j .fits), r .1)
 
 pub fields-of-spec : {M : Type 1} → statement M
 fields-of-spec =

@@ -1,4 +1,4 @@
--- `address::writing::put_text` meets its contract: the text has septets, and they are packed.
+-- `address::writing::put_septets` meets its contract: the text has septets, and they are packed.
 -- Assumes nothing.
 use Prim.Native.Nat.{ℕ, _≤_}
 use mathlib.Core.Path.{_≡_, refl, sym, ap, subst, _∙_}
@@ -15,12 +15,12 @@ use Rattle.gsm7.proofs.Adequate.{septets-digits}
 use Rattle.gsm7.proofs.Scanning.{scanned-some, scanned-not, codes-are}
 use Rattle.address.specs.Internal.{Spells}
 use Rattle.address.proofs.Checks.{septets-are}
-use Rattle.address.proofs.writing.put_text.Reads as reads
-use Rattle.address.proofs.writing.put_text.Lts as lts
+use Rattle.address.proofs.writing.put_septets.Reads as reads
+use Rattle.address.proofs.writing.put_septets.Lts as lts
 use Rattle.gsm7.proofs.encode.scan_text.Reads as scan-text-reads
 use Rattle.septets.proofs.pack_octets.Reads as pack-octets-reads
-use Rattle.address.proofs.writing.put_text.Statement.{statement}
-use Rattle.address.proofs.writing.put_text.Tie as tie
+use Rattle.address.proofs.writing.put_septets.Statement.{statement}
+use Rattle.address.proofs.writing.put_septets.Tie as tie
 
 -- where the septets are counted
 abbrev Counted : Type 0
@@ -59,8 +59,8 @@ pack-octets-requires c κs =
       rw (codes-septets k, ← septets-are _ (s .0) (s .1)) (k .before .before .before .before .before .before .before .pre .1),
     )
 
-pub put-text-spec : {M : Type 1} → statement M
-put-text-spec =
+pub put-septets-spec : {M : Type 1} → statement M
+put-septets-spec =
     tie.close
     (tie.spec
     (λ c κs. refl)

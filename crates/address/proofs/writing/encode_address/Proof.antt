@@ -1,32 +1,31 @@
--- `address::writing::encode_parts` meets its contract: check, measure, write.
+-- `address::writing::encode_address` meets its contract: check, measure, write.
 -- Assumes nothing.
-use mathlib.Core.Path.{_≡_, sym, _∙_}
+use mathlib.Core.Path.{_≡_, sym, ap, _∙_}
 use native.Mathlib.Omega.{arith}
 use denote.Ref.{now}
-use Rattle.octets.specs.declared.Written.{Written}
+use Rattle.octets.specs.Answers.{gives, refuses}
 use Rattle.octets.proofs.Laws.{kept-by, lent-refused, lent-short, lent-written}
-use Rattle.address.specs.declared.writing.AddressCheck.{AddressCheck}
-use Rattle.address.specs.Writing.{addressMaking}
+use Rattle.address.specs.Writing.{addressMaking, addressCheckSays}
 use Rattle.address.specs.Internal.{checkOf}
 use Rattle.address.proofs.Checks.{fine-small, fine-size, fine-made, refused-made}
-use Rattle.address.proofs.writing.encode_parts.Reads as reads
-use Rattle.address.proofs.writing.encode_parts.Lts as lts
+use Rattle.address.proofs.writing.encode_address.Reads as reads
+use Rattle.address.proofs.writing.encode_address.Lts as lts
 use Rattle.address.proofs.writing.check_address.Reads as check-address-reads
 use Rattle.address.proofs.writing.put_address.Reads as put-address-reads
-use Rattle.address.proofs.writing.encode_parts.Statement.{statement}
-use Rattle.address.proofs.writing.encode_parts.Tie as tie
+use Rattle.address.proofs.writing.encode_address.Statement.{statement}
+use Rattle.address.proofs.writing.encode_address.Tie as tie
 
 -- where the check has passed
 abbrev Passed : Type 0
 Passed = lts.After-known-told2 (check-address-reads.Asked, check-address-reads.Learnt, put-address-reads.Asked, put-address-reads.Learnt) reads.Pre reads.Post
 
-passed : (c : Passed) → let a = c .before .before .before .before .before .before .args in checkOf (addressMaking (a .ton) (a .npi) (now (a .text))) ≡ AddressCheck.Fine (c .before .count .given .0 .0)
-passed c = sym (c .before .before .before .check-address .ensures) ∙ c .before .count .given .1
+passed : (c : Passed) → let a = c .before .before .before .before .before .before .args in checkOf (addressMaking (a .ton) (a .npi) (now (a .text))) ≡ gives (c .before .count .given .0 .0)
+passed c = sym (c .before .before .before .check-address .ensures) ∙ ap addressCheckSays (c .before .count .given .1)
 
 too-short : tie.Need-returns
 too-short c =
     let f = passed (c .before) in
-    lent-short Written.Refused _ (fine-made _ _ _ _ f) (rw (fine-size _ _ _ _ f) (c .if1 .taken))
+    lent-short refuses _ (fine-made _ _ _ _ f) (rw (fine-size _ _ _ _ f) (c .if1 .taken))
 
 written : tie.Need-returns-3
 written c =
@@ -34,8 +33,8 @@ written c =
     let w = c .before .before .put-address .ensures in
     lent-written _ (fine-made _ _ _ _ f) (rw (fine-size _ _ _ _ f) (c .before .before .before .before .if1 .left)) w
 
-pub encode-parts-spec : {M : Type 1} → statement M
-encode-parts-spec =
+pub encode-address-spec : {M : Type 1} → statement M
+encode-address-spec =
     tie.close
     (tie.spec
     (λ c κs. tt)
@@ -45,6 +44,6 @@ encode-parts-spec =
     (λ c. omega (arith, fine-small _ _ _ _ (passed c)))
     too-short
     (λ c κs. (passed (c .before .before), omega arith))
-    (λ c. lent-refused Written.Refused _ _ (refused-made (sym (c .before .before .before .check-address .ensures) ∙ c .before .r .given .1)))
+    (λ c. lent-refused refuses _ _ (refused-made (sym (c .before .before .before .check-address .ensures) ∙ ap addressCheckSays (c .before .r .given .1))))
     (λ c. kept-by (c .before .before .put-address .ensures))
     written)
