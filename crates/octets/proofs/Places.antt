@@ -9,6 +9,7 @@ use borrow.Author.Tests.{ltb-true, ltb-false, leb-true, leb-false}
 use lib.Dec.{ltb, leb}
 use lib.ListN.{length, getD, take, drop, length-drop}
 use Rattle.octets.specs.Answers.{gives, refuses}
+use Rattle.octets.specs.declared.Refusal.{Refusal}
 use Rattle.octets.specs.declared.Refusal.the-variants.{OctetsEnd}
 use Rattle.octets.specs.declared.Place.{Place}
 use Rattle.octets.specs.Places.{octetAt, spanAt}
@@ -50,7 +51,7 @@ module _ (s : List ℕ) (p : Place) where
     pub span-part : {a : ℕ} {q : Place} → spanAt s p n ≡ gives (a, q) → take (q .at - a) (drop a s) ≡ take n (drop (p .at) s)
     span-part {a} {q} e = let (fits, from, next) = span-there e in let size : q .at - a ≡ n = omega arith in rw (size, from)
 
-    pub span-ended : spanAt s p n ≡ refuses OctetsEnd → length (drop (p .at) s) < n
+    pub span-ended : {why : Refusal} → spanAt s p n ≡ refuses why → length (drop (p .at) s) < n
     unfolding spanAt
     span-ended e =
         ⊎-elim (λ w. let z : _≡_ {A = ℕ} 0 1 = cc in absurd (omega arith)) (λ w. leb-false _ _ (w .0)) (chosen (leb n (length (drop (p .at) s))) e)
