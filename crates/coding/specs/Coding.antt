@@ -1,10 +1,11 @@
 -- TP-Data-Coding-Scheme (TS 23.038 §4) and TP-User-Data-Length (TS 23.040 §9.2.3.16).
 use Prim.Native.Nat.{ℕ, _+_, _*_, _/_, _%_}
+use mathlib.Core.Path.{_≡_}
 use mathlib.Core.List.{List, [], _∷_}
 use lib.Dec.{eqb, leb}
 use lib.ListN.{length as size, take}
 use Rattle.octets.specs.Answers.{Said}
-use Rattle.octets.specs.Arrays.{pad}
+use Rattle.octets.specs.Arrays.{pad, clearedArray}
 use Rattle.octets.specs.Checks.{Check, _unless_, found}
 use Rattle.octets.specs.Choice.{if_then_else_}
 use Rattle.octets.specs.declared.Refusal.the-variants.{UserDataLengthDisagrees, UserDataTooLong}
@@ -46,3 +47,11 @@ dataWith xs = record { octets = pad 255 xs; length = size xs }
 -- the user data that a record holds
 abbrev pub dataOf : UserData → List ℕ
 dataOf d = take (d .length) (d .octets)
+
+-- what lies after the length is no part of a record: set to zero
+abbrev pub clearedData : UserData → UserData
+clearedData d = record { length = d .length; octets = clearedArray 255 (d .length) (d .octets) }
+
+-- the array has the length of its type
+abbrev pub TypedData : UserData → Type 0
+TypedData d = size (d .octets) ≡ 255
