@@ -13,9 +13,8 @@ use Rattle.octets.specs.Lent.{refused, made}
 use Rattle.octets.specs.declared.Refusal.the-variants.{NotInAlphabet, TooManySeptets}
 use Rattle.septets.specs.Septets.{headerSeptets, octetCount}
 use Rattle.septets.proofs.Inverse.{length-packed, octets-with-header}
-use Rattle.gsm7.specs.declared.packing.Packed.{Packed}
 use Rattle.gsm7.specs.Writing.{septetsOf}
-use Rattle.gsm7.specs.Packing.{octetsBehind, packedAs, packedBehind, packing}
+use Rattle.gsm7.specs.Packing.{SaidCounts, octetsBehind, packedAs, packedBehind, packing}
 
 -- they take as many octets as all their septets: no packer passes 224
 pub length-behind : (header ss : List ℕ) → length (octetsBehind header ss) ≡ octetCount 0 (headerSeptets (length header) + length ss)
@@ -50,12 +49,12 @@ module _ (header text : List ℕ) where
     packing-done h = packing-some ∙ behind-done header ss h
 
   -- and where it gives octets
-  abbrev pub Made : List ℕ → Packed → Type 0
+  abbrev pub Made : List ℕ → SaidCounts → Type 0
   Made xs a =
       (ss : List ℕ) × (septetsOf text ≡ some ss) × (headerSeptets (length header) + length ss ≤ 255) × (xs ≡ octetsBehind header ss)
       × (a ≡ packedAs (octetsBehind header ss) (headerSeptets (length header) + length ss))
 
-  pub packing-made : (xs : List ℕ) (a : Packed) → packing header text ≡ made xs a
+  pub packing-made : (xs : List ℕ) (a : SaidCounts) → packing header text ≡ made xs a
       → Made xs a
   packing-made xs a p = by-septets (septetsOf text) refl
     where

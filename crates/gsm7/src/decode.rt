@@ -7,7 +7,7 @@ ghost use Rattle.octets.specs.Lent.{Wrote};
 ghost use Rattle.gsm7.specs.Alphabet.{alphabet as defaultAlphabet, extension, row, escaped};
 ghost use Rattle.octets.specs.declared.Refusal.the-variants.{LengthTooLarge, TooFewOctets};
 ghost use Rattle.septets.specs.Septets.{septetsIn};
-ghost use Rattle.gsm7.specs.Reading.{utf8, textOf, shown, unread, unpacked};
+ghost use Rattle.gsm7.specs.Reading.{utf8, textOf, unpackedSays, textGiven, textRefused, unpacked};
 use octets::Outcome;
 use octets::Refusal;
 
@@ -253,7 +253,7 @@ fn put(text: &mut [u8; 510], at: usize, c: u16) -> usize
 }
 
 fn refused(r: Refusal) -> Unpacked
-    ensures { λ u. ⌜ u ≡ unread r ⌝ }
+    ensures { λ u. ⌜ unpackedSays u ≡ textRefused r ⌝ }
 {
     Unpacked {
         outcome: Outcome::Refused(r),
@@ -296,7 +296,7 @@ fn put_text(
 // The text of counted septets that are all there.
 fn shown_text(data: &[u8], fill: usize, septets: usize) -> Unpacked
     requires { ⌜ (fill < 8) × (septets ≤ 255) ⌝ }
-    ensures { λ r. ⌜ r ≡ shown (textOf (septetsIn (now («data» .entry)) fill septets)) ⌝ }
+    ensures { λ r. ⌜ unpackedSays r ≡ textGiven (textOf (septetsIn (now («data» .entry)) fill septets)) ⌝ }
 {
     let alphabet = ALPHABET;
     let mut text = [0u8; 510];
@@ -309,13 +309,13 @@ fn shown_text(data: &[u8], fill: usize, septets: usize) -> Unpacked
 }
 
 fn too_long() -> Unpacked
-    ensures { λ u. ⌜ u ≡ unread LengthTooLarge ⌝ }
+    ensures { λ u. ⌜ unpackedSays u ≡ textRefused LengthTooLarge ⌝ }
 {
     refused(Refusal::LengthTooLarge)
 }
 
 fn too_few_octets() -> Unpacked
-    ensures { λ u. ⌜ u ≡ unread TooFewOctets ⌝ }
+    ensures { λ u. ⌜ unpackedSays u ≡ textRefused TooFewOctets ⌝ }
 {
     refused(Refusal::TooFewOctets)
 }
@@ -323,7 +323,7 @@ fn too_few_octets() -> Unpacked
 // The text of the counted septets, from `fill` bits into the octets.
 pub fn unpack_septets(data: &[u8], fill: usize, septets: usize) -> Unpacked
     requires { ⌜ fill < 8 ⌝ }
-    ensures { λ r. ⌜ r ≡ unpacked (now («data» .entry)) fill septets ⌝ }
+    ensures { λ r. ⌜ unpackedSays r ≡ unpacked (now («data» .entry)) fill septets ⌝ }
 {
     if 255 < septets {
         return too_long();
@@ -336,7 +336,7 @@ pub fn unpack_septets(data: &[u8], fill: usize, septets: usize) -> Unpacked
 
 // The text of exactly `septets` septets.
 pub fn unpack_gsm7(data: &[u8], septets: usize) -> Unpacked
-    ensures { λ r. ⌜ r ≡ unpacked (now («data» .entry)) 0 septets ⌝ }
+    ensures { λ r. ⌜ unpackedSays r ≡ unpacked (now («data» .entry)) 0 septets ⌝ }
 {
     unpack_septets(data, 0, septets)
 }

@@ -2,63 +2,72 @@
 -- Assumes nothing.
 use Prim.Native.Nat.{ℕ, _-_, _*_, _<_, _≤_}
 use mathlib.Core.Path.{_≡_, refl, sym}
+use mathlib.Core.Bool.{Bool, true, false}
 use mathlib.Core.List.{List}
 use native.Mathlib.Omega.{arith}
 use native.Mathlib.Nat.{le-refl}
-use borrow.Author.Tests.{lt-ltb, le-ltb, eq-eqb, ne-eqb}
+use borrow.Author.Tests.{lt-ltb, le-ltb, eq-eqb, ne-eqb, ltb-true, ltb-false}
+use lib.Dec.{ltb}
 use lib.ListN.{length, take, drop, length-drop}
 use lib.Seq.{take-all}
 use Rattle.octets.specs.Lent.{refused}
 use Rattle.octets.specs.declared.Refusal.the-variants.{LengthTooLarge, HeaderNotWhole, HeaderPassesCount, TooFewOctets}
-use Rattle.octets.specs.declared.Outcome.{Outcome}
-use Rattle.octets.specs.declared.Outcome.the-variants.{Done, Refused}
 use Rattle.septets.specs.Septets.{septetsIn, octetCount, headerSeptets, fillBits}
-use Rattle.gsm7.specs.declared.decode.Unpacked.{Unpacked}
-use Rattle.gsm7.specs.Reading.{textOf, unpacked, shown as shownText}
+use Rattle.gsm7.specs.Reading.{SaidText, textOf, unpacked, textGiven, textRefused}
 use Rattle.gsm7.specs.Packing.{packing}
-use Rattle.gsm7.proofs.Reading.{unpacked-reads, unpacked-ends}
-use Rattle.user_data_header.specs.Internal.{joined}
-use Rattle.user_data_header.specs.Header.{headerOctets, shown, unread, unpackedWithHeader, packingWithHeader}
+use Rattle.gsm7.proofs.Reading.{unpacked-few, unpacked-done}
+use Rattle.user_data_header.specs.Internal.{withHeader}
+use Rattle.user_data_header.specs.Header.{headerOctets, headerGiven, headerRefused, unpackedWithHeader, packingWithHeader}
 
 module _ (os : List ℕ) (n : ℕ) where
-  pub read-long : 255 < n → unpackedWithHeader os n ≡ unread LengthTooLarge
+  -- the octets of the header; those after it, the fill bits, and the septets of the text
+  abbrev h : ℕ
+  h = headerOctets os
+
+  abbrev rest : List ℕ
+  rest = drop h os
+
+  abbrev fill : ℕ
+  fill = fillBits h
+
+  abbrev left : ℕ
+  left = n - headerSeptets h
+
+  pub read-long : 255 < n → unpackedWithHeader os n ≡ headerRefused LengthTooLarge
   unfolding unpackedWithHeader
-  read-long h = rw (lt-ltb 255 n h)
+  read-long many = rw (lt-ltb 255 n many)
 
   module _ (few : n ≤ 255) where
-    pub read-short : length os < headerOctets os → unpackedWithHeader os n ≡ unread HeaderNotWhole
+    pub read-short : length os < h → unpackedWithHeader os n ≡ headerRefused HeaderNotWhole
     unfolding unpackedWithHeader
-    read-short h = rw (le-ltb 255 n few, lt-ltb _ _ h)
+    read-short short = rw (le-ltb 255 n few, lt-ltb _ _ short)
 
-    module _ (whole : headerOctets os ≤ length os) where
-      pub read-over : n < headerSeptets (headerOctets os) → unpackedWithHeader os n ≡ unread HeaderPassesCount
+    module _ (whole : h ≤ length os) where
+      pub read-over : n < headerSeptets h → unpackedWithHeader os n ≡ headerRefused HeaderPassesCount
       unfolding unpackedWithHeader
-      read-over h = rw (le-ltb 255 n few, le-ltb _ _ whole, lt-ltb _ _ h)
+      read-over over = rw (le-ltb 255 n few, le-ltb _ _ whole, lt-ltb _ _ over)
 
-      module _ (fits : headerSeptets (headerOctets os) ≤ n) where
-        pub read-few : length (drop (headerOctets os) os) < octetCount (fillBits (headerOctets os)) (n - headerSeptets (headerOctets os))
-            → unpackedWithHeader os n ≡ unread TooFewOctets
+      module _ (fits : headerSeptets h ≤ n) where
+        pub read-few : length rest < octetCount fill left → unpackedWithHeader os n ≡ headerRefused TooFewOctets
         unfolding unpackedWithHeader
-        read-few h = rw (le-ltb 255 n few, le-ltb _ _ whole, le-ltb _ _ fits, lt-ltb _ _ h)
+        read-few short = rw (le-ltb 255 n few, le-ltb _ _ whole, le-ltb _ _ fits, lt-ltb _ _ short)
 
-        pub read-done : octetCount (fillBits (headerOctets os)) (n - headerSeptets (headerOctets os)) ≤ length (drop (headerOctets os) os)
-            → unpackedWithHeader os n
-            ≡ shown (take (headerOctets os) os) (textOf (septetsIn (drop (headerOctets os) os) (fillBits (headerOctets os)) (n - headerSeptets (headerOctets os))))
+        pub read-done : octetCount fill left ≤ length rest → unpackedWithHeader os n ≡ headerGiven (take h os) (textOf (septetsIn rest fill left))
         unfolding unpackedWithHeader
-        read-done h = rw (le-ltb 255 n few, le-ltb _ _ whole, le-ltb _ _ fits, le-ltb _ _ h)
+        read-done enough = rw (le-ltb 255 n few, le-ltb _ _ whole, le-ltb _ _ fits, le-ltb _ _ enough)
 
-        -- by the outcome of reading the text, with k the header's octets and h its septets; the part that runs to the end is the rest
-        module _ (k h : ℕ) (u : Unpacked) (e : u ≡ unpacked (take (length os - k) (drop k os)) (h * 7 - k * 8) (n - h)) (k-is : k ≡ headerOctets os) (h-is : h ≡ headerSeptets k) where
-          rest-is : u ≡ unpacked (drop (headerOctets os) os) (fillBits (headerOctets os)) (n - headerSeptets (headerOctets os))
-          rest-is = rw (h-is, k-is, take-all (length os - headerOctets os) (drop (headerOctets os) os) (rw length-drop (le-refl _))) at e
+        -- by the outcome of reading the text, with k the header's octets and s its septets; what runs to the end is the rest
+        module _ (k s : ℕ) (u : SaidText) (e : u ≡ unpacked (take (length os - k) (drop k os)) (s * 7 - k * 8) (n - s)) (k-is : k ≡ h) (s-is : s ≡ headerSeptets k) where
+          text-is : u ≡ unpacked rest fill left
+          text-is = rw (s-is, k-is, take-all (length os - h) rest (rw length-drop (le-refl _))) at e
 
-          pub read-joined : joined (take k os) u (u .outcome) ≡ unpackedWithHeader os n
-          unfolding shown shownText
-          read-joined = rw k-is (by-outcome (u .outcome) refl)
+          pub read-joined : withHeader (take k os) u ≡ unpackedWithHeader os n
+          unfolding headerGiven textGiven textRefused
+          read-joined = rw (k-is, text-is) (by-test (ltb (length rest) (octetCount fill left)) refl)
             where
-              by-outcome : (o : Outcome) → u .outcome ≡ o → joined (take (headerOctets os) os) u o ≡ unpackedWithHeader os n
-              by-outcome Done p = let r = unpacked-reads _ _ _ (omega arith) rest-is p in rw (read-done (r .0), r .1)
-              by-outcome (Refused r) p = sym (read-few (unpacked-ends _ _ _ (omega arith) rest-is r p))
+              by-test : (t : Bool) → ltb (length rest) (octetCount fill left) ≡ t → withHeader (take h os) (unpacked rest fill left) ≡ unpackedWithHeader os n
+              by-test true p = rw (unpacked-few rest fill left (omega arith) (ltb-true _ _ p)) (sym (read-few (ltb-true _ _ p)))
+              by-test false p = rw (unpacked-done rest fill left (omega arith) (ltb-false _ _ p)) (sym (read-done (ltb-false _ _ p)))
 
 module _ (header text : List ℕ) where
   pub packing-bad : (length header ≡ headerOctets header → ⊥) → packingWithHeader header text ≡ refused HeaderNotWhole

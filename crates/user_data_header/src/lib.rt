@@ -4,9 +4,10 @@ ghost use Prim.Native.Nat.{_≤_};
 ghost use lib.ListN.{length, take};
 ghost use Rattle.octets.specs.Lent.{lend};
 ghost use Rattle.octets.specs.declared.Refusal.the-variants.{LengthTooLarge, HeaderNotWhole, HeaderPassesCount, TooFewOctets};
-ghost use Rattle.gsm7.specs.Packing.{notPacked};
-ghost use Rattle.user_data_header.specs.Header.{headerOctets, unread, unpackedWithHeader, packingWithHeader};
-ghost use Rattle.user_data_header.specs.Internal.{joined};
+ghost use Rattle.gsm7.specs.Reading.{unpackedSays};
+ghost use Rattle.gsm7.specs.Packing.{packedSays, notPacked};
+ghost use Rattle.user_data_header.specs.Header.{headerOctets, unpackedWithHeaderSays, headerRefused, unpackedWithHeader, packingWithHeader};
+ghost use Rattle.user_data_header.specs.Internal.{withHeader};
 use gsm7::decode::Unpacked;
 use gsm7::packing::Packed;
 use octets::Outcome;
@@ -22,7 +23,7 @@ pub struct UnpackedWithHeader {
 }
 
 fn refused(r: Refusal) -> UnpackedWithHeader
-    ensures { λ u. ⌜ u ≡ unread r ⌝ }
+    ensures { λ u. ⌜ unpackedWithHeaderSays u ≡ headerRefused r ⌝ }
 {
     UnpackedWithHeader {
         outcome: Outcome::Refused(r),
@@ -34,25 +35,25 @@ fn refused(r: Refusal) -> UnpackedWithHeader
 }
 
 fn too_long() -> UnpackedWithHeader
-    ensures { λ u. ⌜ u ≡ unread LengthTooLarge ⌝ }
+    ensures { λ u. ⌜ unpackedWithHeaderSays u ≡ headerRefused LengthTooLarge ⌝ }
 {
     refused(Refusal::LengthTooLarge)
 }
 
 fn header_not_whole() -> UnpackedWithHeader
-    ensures { λ u. ⌜ u ≡ unread HeaderNotWhole ⌝ }
+    ensures { λ u. ⌜ unpackedWithHeaderSays u ≡ headerRefused HeaderNotWhole ⌝ }
 {
     refused(Refusal::HeaderNotWhole)
 }
 
 fn header_passes_count() -> UnpackedWithHeader
-    ensures { λ u. ⌜ u ≡ unread HeaderPassesCount ⌝ }
+    ensures { λ u. ⌜ unpackedWithHeaderSays u ≡ headerRefused HeaderPassesCount ⌝ }
 {
     refused(Refusal::HeaderPassesCount)
 }
 
 fn too_few_octets() -> UnpackedWithHeader
-    ensures { λ u. ⌜ u ≡ unread TooFewOctets ⌝ }
+    ensures { λ u. ⌜ unpackedWithHeaderSays u ≡ headerRefused TooFewOctets ⌝ }
 {
     refused(Refusal::TooFewOctets)
 }
@@ -67,7 +68,7 @@ fn header_octets(data: &[u8]) -> usize
 // A header of `h` octets, and the text behind it as it was read.
 fn with_header(data: &[u8], h: usize, unpacked: Unpacked) -> UnpackedWithHeader
     requires { ⌜ (h ≤ length (now «data»)) × (h ≤ 255) ⌝ }
-    ensures { λ r. ⌜ r ≡ joined (take h (now («data» .entry))) unpacked (unpacked .outcome) ⌝ }
+    ensures { λ r. ⌜ unpackedWithHeaderSays r ≡ withHeader (take h (now («data» .entry))) (unpackedSays unpacked) ⌝ }
 {
     let outcome = unpacked.outcome;
     let Outcome::Done = outcome else {
@@ -85,7 +86,7 @@ fn with_header(data: &[u8], h: usize, unpacked: Unpacked) -> UnpackedWithHeader
 
 // The header of user data and the text behind it; `septets` is their TP-User-Data-Length.
 pub fn unpack_gsm7_with_header(data: &[u8], septets: usize) -> UnpackedWithHeader
-    ensures { λ r. ⌜ r ≡ unpackedWithHeader (now («data» .entry)) septets ⌝ }
+    ensures { λ r. ⌜ unpackedWithHeaderSays r ≡ unpackedWithHeader (now («data» .entry)) septets ⌝ }
 {
     if 255 < septets {
         return too_long();
@@ -108,7 +109,7 @@ pub fn unpack_gsm7_with_header(data: &[u8], septets: usize) -> UnpackedWithHeade
 
 // User data: the header, fill bits to the septet boundary, and the text. The header is whole, as long as its first octet says.
 pub fn pack_gsm7_with_header(header: &[u8], text: &[u8], out: &mut [u8]) -> Packed
-    ensures { λ r. ⌜ (r, now (out .exit)) ≡ lend notPacked (packingWithHeader (now (header .entry)) (now (text .entry))) (now (out .entry)) ⌝ }
+    ensures { λ r. ⌜ (packedSays r, now (out .exit)) ≡ lend notPacked (packingWithHeader (now (header .entry)) (now (text .entry))) (now (out .entry)) ⌝ }
 {
     if header.len() != header_octets(header) {
         return gsm7::packing::not_packed(Refusal::HeaderNotWhole);

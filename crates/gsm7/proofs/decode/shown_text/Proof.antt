@@ -2,7 +2,7 @@
 -- Assumes nothing.
 use mathlib.Core.Path.{refl}
 use native.Mathlib.Omega.{arith}
-use Rattle.gsm7.proofs.Reading.{shown-whole}
+use Rattle.gsm7.proofs.Reading.{text-stored}
 use Rattle.gsm7.proofs.DecodingLaws.{text-fits}
 use Rattle.gsm7.proofs.decode.shown_text.Statement.{statement}
 use Rattle.gsm7.proofs.decode.shown_text.Tie as tie
@@ -12,4 +12,4 @@ shown-text-spec =
     tie.close
     (tie.spec
     (λ c κs. (refl, c .before .before .before .pre .0, c .before .before .before .pre .1))
-    (λ c. shown-whole _ (text-fits _ _ _ (c .before .before .before .before .pre .1)) (c .put-text .ensures)))
+    (λ c. text-stored _ (text-fits _ _ _ (c .before .before .before .before .pre .1)) (c .put-text .ensures)))
