@@ -13,7 +13,7 @@ use Rattle.octets.specs.SemiOctets.{semiOctets}
 use Rattle.octets.proofs.Laws.{take-pad}
 use Rattle.septets.specs.Septets.{septetsIn}
 use Rattle.gsm7.specs.declared.decode.Unpacked.{Unpacked}
-use Rattle.gsm7.specs.Reading.{shown, textOf, unpacked}
+use Rattle.gsm7.specs.Reading.{unpackedSays, textGiven, textOf, unpacked}
 use Rattle.gsm7.proofs.Reading.{unpacked-done}
 use Rattle.gsm7.proofs.DecodingLaws.{text-short}
 use Rattle.address.specs.Address.{digitCharacter, withoutF, valueText}
@@ -26,14 +26,14 @@ use Rattle.address.proofs.value_text.Statement.{statement}
 use Rattle.address.proofs.value_text.Tie as tie
 
 -- the text of septets that are all there
-unpacked-text : (value : List ℕ) (count : ℕ) (u : Unpacked) → count ≤ 255 → (count + 1) / 2 ≤ length value → u ≡ unpacked value 0 (count * 4 / 7)
+unpacked-text : (value : List ℕ) (count : ℕ) (u : Unpacked) → count ≤ 255 → (count + 1) / 2 ≤ length value → unpackedSays u ≡ unpacked value 0 (count * 4 / 7)
     → (take (u .«text_length») (u .text) ≡ textOf (septetsIn value 0 (count * 4 / 7))) × (u .«text_length» ≤ 290)
-unfolding shown
+unfolding textGiven
 unpacked-text value count u small there e =
     let n = count * 4 / 7 in
     let text = textOf (septetsIn value 0 n) in
-    let d : u ≡ shown text = e ∙ unpacked-done value 0 n (omega arith) (omega arith) in
-    (ap (λ (v : Unpacked). take (v .«text_length») (v .text)) d ∙ take-pad 510 text, omega (arith, ap (λ (v : Unpacked). v .«text_length») d, text-short value 0 n))
+    let d : unpackedSays u ≡ textGiven text = e ∙ unpacked-done value 0 n (omega arith) (omega arith) in
+    (ap (λ v. take (v .2) (v .1)) d ∙ take-pad 510 text, omega (arith, ap (λ v. v .2) d, text-short value 0 n))
 
 value-is : (ton count : ℕ) (value : List ℕ) → ton ≡ 5 → valueText ton count value ≡ textOf (septetsIn value 0 (count * 4 / 7))
 unfolding valueText
@@ -53,7 +53,7 @@ Unpacks =
 
 shown-text : (c : Unpacks) → let a = c .before .before .before .args in let u = c .unpack-septets .result in
     (take (u .«text_length») (u .text) ≡ textOf (septetsIn (now (a .value)) 0 (a .count * 4 / 7))) × (u .«text_length» ≤ 290)
-shown-text c = let p = c .before .before .before .pre in unpacked-text _ _ _ (p .0) (p .1) (c .unpack-septets .ensures)
+shown-text c = let p = c .before .before .before .pre in unpacked-text _ _ (c .unpack-septets .result) (p .0) (p .1) (c .unpack-septets .ensures)
 
 pub value-text-spec : {M : Type 1} → statement M
 value-text-spec =
