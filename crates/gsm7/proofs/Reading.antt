@@ -37,28 +37,31 @@ septets-none os f k = refl
 pub rest : List ℕ → ℕ → ℕ → ℕ → List ℕ
 rest os f n i = textOf (septetsFrom os f i (n - i))
 
+-- one character more, where k is the septet at i
 module _ (os : List ℕ) (f n i : ℕ) where
   pub rest-done : n ≤ i → rest os f n i ≡ []
   unfolding rest textOf
   rest-done h = let e : n - i ≡ 0 = omega arith in rw (e, septets-none)
 
-  pub rest-plain : i < n → (septetAt os f i ≡ 0x1b → ⊥) → rest os f n i ≡ utf8 (character (septetAt os f i)) ++ rest os f n (i + 1)
-  unfolding rest textOf
-  rest-plain h p =
-      let e : n - i ≡ suc (n - suc i) = omega arith in
-      rw (e, septets-step, ne-eqb (septetAt os f i) 0x1b p, add-one)
+  module _ {k : ℕ} (is : k ≡ septetAt os f i) where
+    pub rest-plain : i < n → (k ≡ 0x1b → ⊥) → rest os f n i ≡ utf8 (character k) ++ rest os f n (i + 1)
+    unfolding rest textOf
+    rest-plain h p =
+        let e : n - i ≡ suc (n - suc i) = omega arith in
+        rw (e, septets-step, ← is, ne-eqb k 0x1b p, add-one)
 
-  pub rest-escape : i + 1 < n → septetAt os f i ≡ 0x1b → rest os f n i ≡ utf8 (escaped (septetAt os f (i + 1))) ++ rest os f n (i + 2)
-  unfolding rest textOf afterEscape
-  rest-escape h p =
-      let e : n - i ≡ suc (suc (n - suc (suc i))) = omega arith in
-      rw (e, septets-step, septets-step, eq-eqb (septetAt os f i) 0x1b p, add-one, add-two)
+    -- an escape, where c is the character of the septet after it
+    pub rest-escape : i + 1 < n → k ≡ 0x1b → {c m : ℕ} → m ≡ septetAt os f (i + 1) → c ≡ escaped m → rest os f n i ≡ utf8 c ++ rest os f n (i + 2)
+    unfolding rest textOf afterEscape
+    rest-escape h p q r =
+        let e : n - i ≡ suc (suc (n - suc (suc i))) = omega arith in
+        rw (r, q, e, septets-step, septets-step, ← is, eq-eqb k 0x1b p, add-one, add-two)
 
-  pub rest-last : i + 1 ≡ n → septetAt os f i ≡ 0x1b → rest os f n i ≡ utf8 0x20
-  unfolding rest textOf afterEscape
-  rest-last h p =
-      let e : n - i ≡ 1 = omega arith in
-      rw (e, septets-step, septets-none, eq-eqb (septetAt os f i) 0x1b p)
+    pub rest-last : i + 1 ≡ n → k ≡ 0x1b → rest os f n i ≡ utf8 0x20
+    unfolding rest textOf afterEscape
+    rest-last h p =
+        let e : n - i ≡ 1 = omega arith in
+        rw (e, septets-step, septets-none, ← is, eq-eqb k 0x1b p)
 
 pub septet-small : (os : List ℕ) (f k : ℕ) → septetAt os f k < 128
 unfolding septetAt

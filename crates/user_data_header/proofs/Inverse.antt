@@ -45,10 +45,9 @@ behind-reads header text ss long e few =
     let left : n - headerSeptets h ≡ length ss = omega arith in
     let size : length os ≡ h + octetCount (fillBits h) (length ss) = length-append header packed ∙ rw length-packed in
     let rest : drop h os ≡ packed = drop-at header packed h refl in
-    let enough : octetCount (fillBits (headerOctets os)) (n - headerSeptets (headerOctets os)) ≤ length (drop (headerOctets os) os) =
-    rw (first, left, rest, length-packed) (omega arith) in
-    read-done os n few (rw first (omega arith)) (rw first (omega arith)) enough
-    ∙ rw (first, left, rest, take-at header packed h refl) (ap (headerGiven header) (text-packed-text (fillBits h) text ss e))
+    let enough : octetCount (fillBits h) (n - headerSeptets h) ≤ length os - h = rw left (omega arith) in
+    read-done os n few (sym first) (omega arith) refl (omega arith) enough
+    ∙ rw (left, rest, take-at header packed h refl) (ap (headerGiven header) (text-packed-text (fillBits h) text ss e))
 
 pub packed-reads : (header text xs : List ℕ) (said : Said Unit) (octets septets : ℕ) → packingWithHeader header text ≡ made xs (said, octets, septets)
     → unpackedWithHeader xs septets ≡ headerGiven header text
@@ -72,7 +71,7 @@ module _ (os : List ℕ) (n : ℕ) where
   unfolding headerRefused
   not-refused r d e = let q = sym d ∙ ap (λ (u : SaidHeader). u .0) e in let z : _≡_ {A = ℕ} 0 1 = cc in absurd (omega arith)
 
-  packs : n ≤ 255 → h ≤ length os → headerSeptets h ≤ n → octetCount (fillBits h) (n - headerSeptets h) ≤ length (drop h os) → Packs os n
+  packs : n ≤ 255 → h ≤ length os → headerSeptets h ≤ n → octetCount (fillBits h) (n - headerSeptets h) ≤ length os - h → Packs os n
   packs few whole fits enough =
       let ss = septetsIn (drop h os) (fillBits h) (n - headerSeptets h) in
       let w = read-writable ss (septets-septets _ _ _) in
@@ -84,16 +83,16 @@ module _ (os : List ℕ) (n : ℕ) where
       let k = headerSeptets (length header) + length (w .0) in
       let under : k ≤ n = rw size (omega (arith, w .2, length-septets (drop h os) (fillBits h) (n - headerSeptets h))) in
       let made-is : packingWithHeader header text ≡ made xs (packedAs xs k) = packing-good header text (size ∙ rw first) ∙ packing-done header text (w .0) (w .1) (omega arith) in
-      (header, text, xs, k, read-done os n few whole fits enough, made-is, under, packed-reads header text xs fine (length xs) k made-is)
+      (header, text, xs, k, read-done os n few refl whole refl fits enough, made-is, under, packed-reads header text xs fine (length xs) k made-is)
 
   pub read-packs : unpackedWithHeader os n .0 ≡ fine → Packs os n
   read-packs d =
-      by-count (ltb 255 n) refl (ltb (length os) h) refl (ltb n (headerSeptets h)) refl (ltb (length (drop h os)) (octetCount (fillBits h) (n - headerSeptets h))) refl
+      by-count (ltb 255 n) refl (ltb (length os) h) refl (ltb n (headerSeptets h)) refl (ltb (length os - h) (octetCount (fillBits h) (n - headerSeptets h))) refl
     where
       by-count : (t : Bool) → ltb 255 n ≡ t → (u : Bool) → ltb (length os) h ≡ u → (v : Bool) → ltb n (headerSeptets h) ≡ v
-          → (w : Bool) → ltb (length (drop h os)) (octetCount (fillBits h) (n - headerSeptets h)) ≡ w → Packs os n
+          → (w : Bool) → ltb (length os - h) (octetCount (fillBits h) (n - headerSeptets h)) ≡ w → Packs os n
       by-count true p u q v r w s = not-refused _ d (read-long os n (ltb-true _ _ p))
-      by-count false p true q v r w s = not-refused _ d (read-short os n (ltb-false _ _ p) (ltb-true _ _ q))
-      by-count false p false q true r w s = not-refused _ d (read-over os n (ltb-false _ _ p) (ltb-false _ _ q) (ltb-true _ _ r))
-      by-count false p false q false r true s = not-refused _ d (read-few os n (ltb-false _ _ p) (ltb-false _ _ q) (ltb-false _ _ r) (ltb-true _ _ s))
+      by-count false p true q v r w s = not-refused _ d (read-short os n (ltb-false _ _ p) refl (ltb-true _ _ q))
+      by-count false p false q true r w s = not-refused _ d (read-over os n (ltb-false _ _ p) refl (ltb-false _ _ q) refl (ltb-true _ _ r))
+      by-count false p false q false r true s = not-refused _ d (read-few os n (ltb-false _ _ p) refl (ltb-false _ _ q) refl (ltb-false _ _ r) (ltb-true _ _ s))
       by-count false p false q false r false s = packs (ltb-false _ _ p) (ltb-false _ _ q) (ltb-false _ _ r) (ltb-false _ _ s)
