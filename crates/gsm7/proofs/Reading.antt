@@ -14,14 +14,14 @@ use Rattle.octets.specs.Lent.{Wrote}
 use Rattle.octets.specs.declared.Refusal.the-variants.{LengthTooLarge, TooFewOctets}
 use Rattle.octets.specs.Answers.{fine}
 use Rattle.octets.proofs.Laws.{sets-zeros}
-use Rattle.septets.specs.Septets.{numberOf, digitsOf, septetAt, septetsIn, octetCount}
+use Rattle.septets.specs.Septets.{numberOf, lowestDigits, septetAt, septetsIn, octetCount}
 use Rattle.septets.proofs.Number.{digits-step}
 use Rattle.gsm7.specs.Alphabet.{character, escaped}
 use Rattle.gsm7.specs.Reading.{utf8, textOf, afterEscape, SaidText, textGiven, textRefused, unpacked}
 
 -- n septets, from septet k on
 septetsFrom : List ℕ → ℕ → ℕ → ℕ → List ℕ
-septetsFrom os f k n = digitsOf 7 n (numberOf 8 os / 2 ^ (f + k * 7))
+septetsFrom os f k n = lowestDigits 7 n (numberOf 8 os / 2 ^ (f + k * 7))
 
 septets-step : (os : List ℕ) (f k n : ℕ) → septetsFrom os f k (suc n) ≡ septetAt os f k ∷ septetsFrom os f (suc k) n
 unfolding septetsFrom septetAt
@@ -30,7 +30,7 @@ septets-step os f k n =
     rw (digits-step, e)
 
 septets-none : (os : List ℕ) (f k : ℕ) → septetsFrom os f k 0 ≡ []
-unfolding septetsFrom digitsOf
+unfolding septetsFrom lowestDigits
 septets-none os f k = refl
 
 -- the text of septets i to n - 1

@@ -19,8 +19,8 @@ use Rattle.gsm7.specs.Reading.{textOf}
 use Rattle.gsm7.specs.Writing.{septetsOf}
 use Rattle.gsm7.specs.Packing.{SaidCounts, packedAs}
 use Rattle.gsm7.proofs.Adequate.{text-packed-text}
-use Rattle.gsm7.specs.Packing.{octetsBehind}
-use Rattle.gsm7.proofs.CaseByCase.{packing-made, packing-done}
+use Rattle.gsm7.specs.Packing.{octetsAfter}
+use Rattle.gsm7.proofs.PackingCases.{packing-made, packing-done}
 use Rattle.gsm7.proofs.EncodingLaws.{read-writable}
 use Rattle.user_data_header.specs.Header.{SaidHeader, headerOctets, headerGiven, headerRefused, unpackedWithHeader, packingWithHeader}
 use Rattle.user_data_header.proofs.Cases.{read-long, read-short, read-over, read-few, read-done, packing-bad, packing-good}
@@ -34,9 +34,9 @@ whole-header header text xs a p = by-test (eqb (length header) (headerOctets hea
     by-test false e = let r = packing-bad header text (eqb-false _ _ e) in let z : _≡_ {A = ℕ} 0 1 = cc in absurd (omega arith)
 
 -- what was packed reads back as the same header and text
-behind-reads : (header text ss : List ℕ) → length header ≡ headerOctets header → septetsOf text ≡ some ss → headerSeptets (length header) + length ss ≤ 255
-    → unpackedWithHeader (octetsBehind header ss) (headerSeptets (length header) + length ss) ≡ headerGiven header text
-behind-reads header text ss long e few =
+after-reads : (header text ss : List ℕ) → length header ≡ headerOctets header → septetsOf text ≡ some ss → headerSeptets (length header) + length ss ≤ 255
+    → unpackedWithHeader (octetsAfter header ss) (headerSeptets (length header) + length ss) ≡ headerGiven header text
+after-reads header text ss long e few =
     let h = length header in
     let packed = packedSeptets (fillBits h) ss in
     let os = header ++ packed in
@@ -55,7 +55,7 @@ packed-reads header text xs said octets septets p =
     let a : SaidCounts = (said, octets, septets) in
     let long = whole-header header text xs a p in
     let m = packing-made header text xs a (sym (packing-good header text long) ∙ p) in
-    ap₂ unpackedWithHeader (m .3) (ap (λ (b : SaidCounts). b .2) (m .4)) ∙ behind-reads header text (m .0) long (m .1) (m .2)
+    ap₂ unpackedWithHeader (m .3) (ap (λ (b : SaidCounts). b .2) (m .4)) ∙ after-reads header text (m .0) long (m .1) (m .2)
 
 -- what was read can be packed, in no more septets, and then reads as the same header and text
 abbrev Packs : List ℕ → ℕ → Type 0
@@ -79,7 +79,7 @@ module _ (os : List ℕ) (n : ℕ) where
       let text = textOf ss in
       let size : length header ≡ h = length-take-le h os whole in
       let first : getD header 0 0 ≡ getD os 0 0 = getD-take h os 0 0 (omega arith) in
-      let xs = octetsBehind header (w .0) in
+      let xs = octetsAfter header (w .0) in
       let k = headerSeptets (length header) + length (w .0) in
       let under : k ≤ n = rw size (omega (arith, w .2, length-septets (drop h os) (fillBits h) (n - headerSeptets h))) in
       let made-is : packingWithHeader header text ≡ made xs (packedAs xs k) = packing-good header text (size ∙ rw first) ∙ packing-done header text (w .0) (w .1) (omega arith) in

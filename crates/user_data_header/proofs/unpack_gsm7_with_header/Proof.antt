@@ -36,5 +36,4 @@ unpack-gsm7-with-header-spec =
     (λ c κs. omega (arith, c .before .before .header-septets .ensures))
     (λ c.
     let h = c .before .before .before .before .before in
-    c .header-and-text .ensures
-    ∙ sym (read-done _ _ (h .before .if1 .left) (h .header-octets .ensures .0) (c .before .before .before .before .if2 .left) (c .before .before .before .header-septets .ensures) (c .before .before .if3 .left) (c .before .if4 .left))))
+    rw (read-done _ _ (h .before .if1 .left) (h .header-octets .ensures .0) (c .before .before .before .before .if2 .left) (c .before .before .before .header-septets .ensures) (c .before .before .if3 .left) (c .before .if4 .left)) (c .header-and-text .ensures)))
