@@ -23,7 +23,7 @@ use Rattle.gsm7.specs.Reading.{utf8, textOf, afterEscape}
 use Rattle.gsm7.specs.Writing.{same, codeOf, before, startingWith, scan, septetsOf, twoOctets, threeOctets, firstCharacter}
 use Rattle.gsm7.specs.Characters.{Entry, plain, extended, octetsFor, septetsFor, spelled, coded}
 use Rattle.gsm7.proofs.Utf8.{utf8-one, utf8-two, utf8-three}
-use Rattle.gsm7.proofs.Decoding.{two, three, two-read, three-read}
+use Rattle.gsm7.proofs.FirstCharacter.{two, three, two-read, three-read}
 use Rattle.gsm7.proofs.Scanning.{first-width, scan-read}
 use Rattle.gsm7.proofs.Tables.{Says, code-says, same-is, alphabet-one-to-one, extension-coded, extension-shown, extension-small}
 

@@ -22,7 +22,7 @@ use Rattle.gsm7.specs.Packing.{SaidCounts, packing}
 use Rattle.gsm7.specs.Characters.{Entry, spelled}
 use Rattle.gsm7.proofs.Reading.{unpacked-done}
 use Rattle.gsm7.proofs.Adequate.{entries-of, written, text-packed-text}
-use Rattle.gsm7.proofs.CaseByCase.{length-behind, packing-none, packing-many, packing-done, packing-made}
+use Rattle.gsm7.proofs.PackingCases.{length-after, packing-none, packing-many, packing-done, packing-made}
 
 -- refused with 10 exactly when the text is not characters of the tables, one after the other
 pub refused-with-10 : (header text : List ℕ) → (packing header text ≡ refused NotInAlphabet) ↔ ((es : List Entry) → spelled es ≡ text → ⊥)
@@ -42,7 +42,7 @@ pub packing-counts : (header text xs : List ℕ) (said : Said Unit) (octets sept
     → (said ≡ fine) × (octets ≡ length xs) × (length xs ≡ octetCount 0 septets) × (length xs ≤ 224)
 packing-counts header text xs said octets septets p =
     let m = packing-made header text xs (said, octets, septets) p in
-    let long = ap length (m .3) ∙ length-behind header (m .0) in
+    let long = ap length (m .3) ∙ length-after header (m .0) in
     (ap (λ (b : SaidCounts). b .0) (m .4), ap (λ (b : SaidCounts). b .1) (m .4) ∙ sym (ap length (m .3)), long ∙ ap (λ (b : SaidCounts). octetCount 0 (b .2)) (sym (m .4)), omega (arith, m .2, long))
 
 -- what was packed reads back as the text

@@ -14,14 +14,14 @@ use Rattle.octets.specs.Lent.{Wrote}
 use Rattle.octets.specs.declared.Refusal.the-variants.{LengthTooLarge, TooFewOctets}
 use Rattle.octets.specs.Answers.{fine}
 use Rattle.octets.proofs.Laws.{sets-zeros}
-use Rattle.septets.specs.Septets.{numberOf, digitsOf, septetAt, septetsIn, octetCount}
+use Rattle.septets.specs.Septets.{numberOf, lowestDigits, septetAt, septetsIn, octetCount}
 use Rattle.septets.proofs.Number.{digits-step}
 use Rattle.gsm7.specs.Alphabet.{character, escaped}
 use Rattle.gsm7.specs.Reading.{utf8, textOf, afterEscape, SaidText, textGiven, textRefused, unpacked}
 
 -- n septets, from septet k on
 septetsFrom : List ℕ → ℕ → ℕ → ℕ → List ℕ
-septetsFrom os f k n = digitsOf 7 n (numberOf 8 os / 2 ^ (f + k * 7))
+septetsFrom os f k n = lowestDigits 7 n (numberOf 8 os / 2 ^ (f + k * 7))
 
 septets-step : (os : List ℕ) (f k n : ℕ) → septetsFrom os f k (suc n) ≡ septetAt os f k ∷ septetsFrom os f (suc k) n
 unfolding septetsFrom septetAt
@@ -30,35 +30,38 @@ septets-step os f k n =
     rw (digits-step, e)
 
 septets-none : (os : List ℕ) (f k : ℕ) → septetsFrom os f k 0 ≡ []
-unfolding septetsFrom digitsOf
+unfolding septetsFrom lowestDigits
 septets-none os f k = refl
 
 -- the text of septets i to n - 1
 pub rest : List ℕ → ℕ → ℕ → ℕ → List ℕ
 rest os f n i = textOf (septetsFrom os f i (n - i))
 
+-- one character more, where k is the septet at i
 module _ (os : List ℕ) (f n i : ℕ) where
   pub rest-done : n ≤ i → rest os f n i ≡ []
   unfolding rest textOf
   rest-done h = let e : n - i ≡ 0 = omega arith in rw (e, septets-none)
 
-  pub rest-plain : i < n → (septetAt os f i ≡ 0x1b → ⊥) → rest os f n i ≡ utf8 (character (septetAt os f i)) ++ rest os f n (i + 1)
-  unfolding rest textOf
-  rest-plain h p =
-      let e : n - i ≡ suc (n - suc i) = omega arith in
-      rw (e, septets-step, ne-eqb (septetAt os f i) 0x1b p, add-one)
+  module _ {k : ℕ} (is : k ≡ septetAt os f i) where
+    pub rest-plain : i < n → (k ≡ 0x1b → ⊥) → rest os f n i ≡ utf8 (character k) ++ rest os f n (i + 1)
+    unfolding rest textOf
+    rest-plain h p =
+        let e : n - i ≡ suc (n - suc i) = omega arith in
+        rw (e, septets-step, ← is, ne-eqb k 0x1b p, add-one)
 
-  pub rest-escape : i + 1 < n → septetAt os f i ≡ 0x1b → rest os f n i ≡ utf8 (escaped (septetAt os f (i + 1))) ++ rest os f n (i + 2)
-  unfolding rest textOf afterEscape
-  rest-escape h p =
-      let e : n - i ≡ suc (suc (n - suc (suc i))) = omega arith in
-      rw (e, septets-step, septets-step, eq-eqb (septetAt os f i) 0x1b p, add-one, add-two)
+    -- an escape, where c is the character of the septet after it
+    pub rest-escape : i + 1 < n → k ≡ 0x1b → {c m : ℕ} → m ≡ septetAt os f (i + 1) → c ≡ escaped m → rest os f n i ≡ utf8 c ++ rest os f n (i + 2)
+    unfolding rest textOf afterEscape
+    rest-escape h p q r =
+        let e : n - i ≡ suc (suc (n - suc (suc i))) = omega arith in
+        rw (r, q, e, septets-step, septets-step, ← is, eq-eqb k 0x1b p, add-one, add-two)
 
-  pub rest-last : i + 1 ≡ n → septetAt os f i ≡ 0x1b → rest os f n i ≡ utf8 0x20
-  unfolding rest textOf afterEscape
-  rest-last h p =
-      let e : n - i ≡ 1 = omega arith in
-      rw (e, septets-step, septets-none, eq-eqb (septetAt os f i) 0x1b p)
+    pub rest-last : i + 1 ≡ n → k ≡ 0x1b → rest os f n i ≡ utf8 0x20
+    unfolding rest textOf afterEscape
+    rest-last h p =
+        let e : n - i ≡ 1 = omega arith in
+        rw (e, septets-step, septets-none, ← is, eq-eqb k 0x1b p)
 
 pub septet-small : (os : List ℕ) (f k : ℕ) → septetAt os f k < 128
 unfolding septetAt

@@ -21,7 +21,7 @@ use Rattle.gsm7.specs.Characters.{Entry, plain, extended, septetsFor}
 use Rattle.gsm7.specs.Reading.{utf8}
 use Rattle.gsm7.specs.Writing.{same, codeOf, twoOctets, threeOctets, firstCharacter, before, startingWith, scan}
 use Rattle.gsm7.specs.Internal.{scannedSays, ScannedAs, stored}
-use Rattle.gsm7.proofs.Decoding.{two, three}
+use Rattle.gsm7.proofs.FirstCharacter.{two, three}
 use Rattle.gsm7.proofs.Tables.{Says, code-says}
 
 -- a character has one to three octets

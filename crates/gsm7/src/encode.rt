@@ -414,7 +414,7 @@ fn character_at(text: &[u8], at: usize) -> Scalar
     three_octets(a, b, d)
 }
 
-// Stores a septet behind `count` others, as far as the array goes; their number with it.
+// Stores a septet after `count` others, as far as the array goes; their number with it.
 fn add(codes: &mut [u8; 255], count: usize, code: u8) -> usize
     requires { ⌜ (count + 1 < 2 ^ 64) × (length (now codes) ≡ 255) ⌝ }
     ensures { λ r. ⌜ Wrote count (code ∷ []) (now (codes .entry)) r (now (codes .exit)) ⌝ }
@@ -426,7 +426,7 @@ fn add(codes: &mut [u8; 255], count: usize, code: u8) -> usize
     count + 1
 }
 
-// Stores the septets of a character behind `count` others; their number with these, `count` itself where it has none.
+// Stores the septets of a character after `count` others; their number with these, `count` itself where it has none.
 fn add_character(table: &[u8; 256], codes: &mut [u8; 255], count: usize, c: u16) -> usize
     requires { ⌜ Codes (now table) × (count + 2 < 2 ^ 64) × (length (now codes) ≡ 255) ⌝ }
     ensures { λ r. ⌜ Wrote count (stored (codeOf c)) (now (codes .entry)) r (now (codes .exit)) ⌝ }

@@ -8,7 +8,7 @@ ghost use Rattle.octets.specs.Answers.{fine};
 ghost use Rattle.octets.specs.Lent.{Wrote, lend};
 ghost use Rattle.octets.specs.declared.Refusal.the-variants.{NotInAlphabet, TooManySeptets, OutputTooShort};
 ghost use Rattle.septets.specs.Septets.{Digits};
-ghost use Rattle.gsm7.specs.Packing.{packedSays, notPacked, octetsBehind, packedBehind, packing};
+ghost use Rattle.gsm7.specs.Packing.{packedSays, notPacked, octetsAfter, packedAfter, packing};
 use crate::encode::Scanned;
 use octets::Outcome;
 use octets::Refusal;
@@ -20,11 +20,11 @@ pub struct Packed {
     pub septets: usize,
 }
 
-pub fn not_packed(r: Refusal) -> Packed
-    ensures { λ p. ⌜ packedSays p ≡ notPacked r ⌝ }
+pub fn not_packed(why: Refusal) -> Packed
+    ensures { λ p. ⌜ packedSays p ≡ notPacked why ⌝ }
 {
     Packed {
-        outcome: Outcome::Refused(r),
+        outcome: Outcome::Refused(why),
         octets: 0,
         septets: 0,
     }
@@ -59,20 +59,20 @@ fn done(octets: usize, septets: usize) -> Packed
     }
 }
 
-// Writes a header's octets, and the septets behind it and its fill bits; the place behind them.
+// Writes a header's octets, and the septets after it and its fill bits; the place after them.
 fn put_packed(header: &[u8], codes: &[u8], out: &mut [u8]) -> usize
-    requires { ⌜ (length (now header) ≤ 256) × (length (now codes) ≤ 255) × Digits 7 (now codes) × (length (octetsBehind (now header) (now codes)) ≤ length (now out)) ⌝ }
-    ensures { λ r. ⌜ Wrote 0 (octetsBehind (now (header .entry)) (now (codes .entry))) (now (out .entry)) r (now (out .exit)) ⌝ }
+    requires { ⌜ (length (now header) ≤ 256) × (length (now codes) ≤ 255) × Digits 7 (now codes) × (length (octetsAfter (now header) (now codes)) ≤ length (now out)) ⌝ }
+    ensures { λ r. ⌜ Wrote 0 (octetsAfter (now (header .entry)) (now (codes .entry))) (now (out .entry)) r (now (out .exit)) ⌝ }
 {
     let fill = septets::header_septets(header.len()) * 7 - header.len() * 8;
     let at = octets::put_octets(out, 0, header);
     septets::pack_octets(codes, fill, out, at)
 }
 
-// The septets packed behind a header's octets and its fill bits.
+// The septets packed after a header's octets and its fill bits.
 fn pack_codes(header: &[u8], codes: &[u8], out: &mut [u8]) -> Packed
     requires { ⌜ (length (now header) ≤ 256) × (length (now codes) ≤ 255) × Digits 7 (now codes) ⌝ }
-    ensures { λ r. ⌜ (packedSays r, now (out .exit)) ≡ lend notPacked (packedBehind (now (header .entry)) (some (now (codes .entry)))) (now (out .entry)) ⌝ }
+    ensures { λ r. ⌜ (packedSays r, now (out .exit)) ≡ lend notPacked (packedAfter (now (header .entry)) (some (now (codes .entry)))) (now (out .entry)) ⌝ }
 {
     let septets = septets::header_septets(header.len()) + codes.len();
     if 255 < septets {
@@ -84,7 +84,7 @@ fn pack_codes(header: &[u8], codes: &[u8], out: &mut [u8]) -> Packed
     done(put_packed(header, codes, out), septets)
 }
 
-// The text packed behind a header's octets and its fill bits; with no header, from the start.
+// The text packed after a header's octets and its fill bits; with no header, from the start.
 pub fn pack_septets(header: &[u8], text: &[u8], out: &mut [u8]) -> Packed
     requires { ⌜ length (now header) ≤ 256 ⌝ }
     ensures { λ r. ⌜ (packedSays r, now (out .exit)) ≡ lend notPacked (packing (now (header .entry)) (now (text .entry))) (now (out .entry)) ⌝ }

@@ -1,7 +1,7 @@
--- Text behind a user data header (TS 23.040 §9.2.3.24), in 7-bit coding.
+-- Text after a user data header (TS 23.040 §9.2.3.24), in 7-bit coding.
 use Prim.Native.Nat.{ℕ, _+_, _-_}
-use mathlib.Core.Bool.{Bool, true, false}
-use mathlib.Core.List.{List, []}
+use mathlib.Core.Path.{_≡_, refl}
+use mathlib.Core.List.{List, [], _∷_}
 use lib.ListN.{length, getD, take, drop}
 use lib.Dec.{eqb, ltb}
 use Rattle.octets.specs.Answers.{Said, refuses, fine, outcomeSays}
@@ -10,8 +10,9 @@ use Rattle.octets.specs.Arrays.{pad}
 use Rattle.octets.specs.Lent.{Making, refused}
 use Rattle.octets.specs.declared.Refusal.{Refusal}
 use Rattle.octets.specs.declared.Refusal.the-variants.{LengthTooLarge, HeaderNotWhole, HeaderPassesCount, TooFewOctets}
-use Rattle.septets.specs.Septets.{septetsIn, octetCount, headerSeptets, fillBits}
-use Rattle.gsm7.specs.Reading.{textOf}
+use Rattle.septets.specs.Septets.{numberOf, lowestDigits, septetsIn, octetCount, headerSeptets, fillBits}
+use Rattle.gsm7.specs.Alphabet.{character}
+use Rattle.gsm7.specs.Reading.{utf8, textOf}
 use Rattle.gsm7.specs.Packing.{SaidCounts, packing}
 use Rattle.user_data_header.specs.declared.UnpackedWithHeader.{UnpackedWithHeader}
 
@@ -47,3 +48,10 @@ unpackedWithHeader os n =
 -- what packing gives: the header must be as long as its first octet says
 unfoldable pub packingWithHeader : List ℕ → List ℕ → Making SaidCounts
 packingWithHeader header text = if eqb (length header) (headerOctets header) then packing header text else refused HeaderNotWhole
+
+-- a header of 6 octets, and "A" after it; no octet; header 00, which takes 2 septets, with the fill bits there and not there; a header that is too short to be packed
+known-headers : (unpackedWithHeader (0x05 ∷ 0x00 ∷ 0x03 ∷ 0x01 ∷ 0x02 ∷ 0x01 ∷ 0x82 ∷ []) 8 ≡ headerGiven (0x05 ∷ 0x00 ∷ 0x03 ∷ 0x01 ∷ 0x02 ∷ 0x01 ∷ []) (0x41 ∷ []))
+    × (unpackedWithHeader [] 2 ≡ headerRefused HeaderNotWhole) × (unpackedWithHeader (0x00 ∷ []) 1 ≡ headerRefused HeaderPassesCount) × (unpackedWithHeader (0x00 ∷ 0x00 ∷ []) 2 ≡ headerGiven (0x00 ∷ []) []) × (unpackedWithHeader (0x00 ∷ []) 2 ≡ headerRefused TooFewOctets)
+    × (packingWithHeader (0x01 ∷ []) [] ≡ refused HeaderNotWhole)
+unfolding numberOf lowestDigits septetsIn character utf8 textOf unpackedWithHeader packingWithHeader
+known-headers = (refl, refl, refl, refl, refl, refl)

@@ -11,7 +11,7 @@ use Rattle.octets.proofs.Laws.{kept-by}
 use Rattle.octets.specs.Answers.{gives}
 use Rattle.gsm7.specs.Internal.{scalarSays}
 use Rattle.gsm7.specs.Writing.{codeOf, firstCharacter, scan}
-use Rattle.gsm7.proofs.Decoding.{first-one}
+use Rattle.gsm7.proofs.FirstCharacter.{first-one}
 use Rattle.gsm7.proofs.Scanning.{first-width, settled, scan-end, scan-broken, scan-absent, scan-more, stored-few, stored-none, stored-some, scanned-none, scanned-done}
 use Rattle.gsm7.proofs.encode.scan_by.Statement.{statement}
 use Rattle.gsm7.proofs.encode.scan_by.Tie as tie
