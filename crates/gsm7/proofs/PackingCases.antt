@@ -13,49 +13,48 @@ use Rattle.octets.specs.Lent.{refused, made}
 use Rattle.octets.specs.declared.Refusal.the-variants.{NotInAlphabet, TooManySeptets}
 use Rattle.septets.specs.Septets.{headerSeptets, octetCount}
 use Rattle.septets.proofs.Inverse.{length-packed, octets-with-header}
-use Rattle.gsm7.specs.declared.packing.Packed.{Packed}
 use Rattle.gsm7.specs.Writing.{septetsOf}
-use Rattle.gsm7.specs.Packing.{octetsBehind, packedAs, packedBehind, packing}
+use Rattle.gsm7.specs.Packing.{SaidCounts, octetsAfter, packedAs, packedAfter, packing}
 
 -- they take as many octets as all their septets: no packer passes 224
-pub length-behind : (header ss : List ℕ) → length (octetsBehind header ss) ≡ octetCount 0 (headerSeptets (length header) + length ss)
-length-behind header ss = rw (length-append, length-packed, octets-with-header)
+pub length-after : (header ss : List ℕ) → length (octetsAfter header ss) ≡ octetCount 0 (headerSeptets (length header) + length ss)
+length-after header ss = rw (length-append, length-packed, octets-with-header)
 
--- septets behind a header, by their number
+-- septets after a header, by their number
 module _ (header ss : List ℕ) where
-  pub behind-many : 255 < headerSeptets (length header) + length ss → packedBehind header (some ss) ≡ refused TooManySeptets
-  unfolding packedBehind
-  behind-many h = rw (lt-ltb _ _ h)
+  pub after-many : 255 < headerSeptets (length header) + length ss → packedAfter header (some ss) ≡ refused TooManySeptets
+  unfolding packedAfter
+  after-many h = rw (lt-ltb _ _ h)
 
-  pub behind-done : headerSeptets (length header) + length ss ≤ 255
-      → packedBehind header (some ss) ≡ made (octetsBehind header ss) (packedAs (octetsBehind header ss) (headerSeptets (length header) + length ss))
-  unfolding packedBehind
-  behind-done h = rw (le-ltb _ _ h)
+  pub after-done : headerSeptets (length header) + length ss ≤ 255
+      → packedAfter header (some ss) ≡ made (octetsAfter header ss) (packedAs (octetsAfter header ss) (headerSeptets (length header) + length ss))
+  unfolding packedAfter
+  after-done h = rw (le-ltb _ _ h)
 
 module _ (header text : List ℕ) where
   pub packing-none : septetsOf text ≡ none → packing header text ≡ refused NotInAlphabet
-  unfolding packing packedBehind
+  unfolding packing packedAfter
   packing-none e = rw e
 
   module _ (ss : List ℕ) (e : septetsOf text ≡ some ss) where
-    pub packing-some : packing header text ≡ packedBehind header (some ss)
+    pub packing-some : packing header text ≡ packedAfter header (some ss)
     unfolding packing
     packing-some = rw e
 
     pub packing-many : 255 < headerSeptets (length header) + length ss → packing header text ≡ refused TooManySeptets
-    packing-many h = packing-some ∙ behind-many header ss h
+    packing-many h = packing-some ∙ after-many header ss h
 
     pub packing-done : headerSeptets (length header) + length ss ≤ 255 → packing header text
-        ≡ made (octetsBehind header ss) (packedAs (octetsBehind header ss) (headerSeptets (length header) + length ss))
-    packing-done h = packing-some ∙ behind-done header ss h
+        ≡ made (octetsAfter header ss) (packedAs (octetsAfter header ss) (headerSeptets (length header) + length ss))
+    packing-done h = packing-some ∙ after-done header ss h
 
   -- and where it gives octets
-  abbrev pub Made : List ℕ → Packed → Type 0
+  abbrev pub Made : List ℕ → SaidCounts → Type 0
   Made xs a =
-      (ss : List ℕ) × (septetsOf text ≡ some ss) × (headerSeptets (length header) + length ss ≤ 255) × (xs ≡ octetsBehind header ss)
-      × (a ≡ packedAs (octetsBehind header ss) (headerSeptets (length header) + length ss))
+      (ss : List ℕ) × (septetsOf text ≡ some ss) × (headerSeptets (length header) + length ss ≤ 255) × (xs ≡ octetsAfter header ss)
+      × (a ≡ packedAs (octetsAfter header ss) (headerSeptets (length header) + length ss))
 
-  pub packing-made : (xs : List ℕ) (a : Packed) → packing header text ≡ made xs a
+  pub packing-made : (xs : List ℕ) (a : SaidCounts) → packing header text ≡ made xs a
       → Made xs a
   packing-made xs a p = by-septets (septetsOf text) refl
     where
