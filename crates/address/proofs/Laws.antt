@@ -18,12 +18,12 @@ use Rattle.octets.specs.Each.{Octets}
 use Rattle.octets.specs.Lent.{refused, made}
 use Rattle.octets.specs.declared.Refusal.the-variants.{LengthTooLarge, AddressTooLong}
 use Rattle.octets.proofs.Checks.{made-unless}
-use Rattle.octets.proofs.Laws.{take-pad}
+use Rattle.octets.proofs.Laws.{take-pad, cleared-pad}
 use Rattle.address.specs.Writing.{addressOctets, octetsOr, addressMaking, addressChecks}
 use Rattle.address.specs.Internal.{checkOf}
 use Rattle.address.proofs.Checks.{afterCheck, address-checked, octets-made, checks-passed}
 use Rattle.address.specs.declared.SMSAddress.{SMSAddress}
-use Rattle.address.specs.Address.{typeOfNumber, planOf, addressWith, textIn, addressIn, addressSize, canonicalAddress, textHeld, encoding}
+use Rattle.address.specs.Address.{typeOfNumber, planOf, addressWith, textIn, addressIn, addressSize, canonicalAddress, textHeld, encoding, clearedAddress}
 use Rattle.address.proofs.Shapes.{octets-read, octets-octets, read-fits}
 use Rattle.address.proofs.RecordWritten.{encoding-parts}
 
@@ -111,6 +111,16 @@ address-equal f g p q = (
       rw (t, n, x),
   λ e. sym (canonical-reads f p) ∙ ap addressIn e ∙ canonical-reads g q,
 )
+
+-- an address that was read is cleared
+pub address-cleared : (f : List ℕ) → clearedAddress (addressIn f) ≡ addressIn f
+unfolding addressIn addressWith
+address-cleared f = rw (cleared-pad 290 (textIn f))
+
+-- a cleared address, in its record
+pub address-held : (a : SMSAddress) → length (textHeld a) ≡ a .«address_length» → addressWith (a .ton) (a .npi) (textHeld a) ≡ clearedAddress a
+unfolding addressWith
+address-held a n = rw n
 
 -- ---- what was written
 

@@ -5,7 +5,7 @@ use mathlib.Core.List.{List, [], _∷_}
 use lib.Dec.{eqb, leb}
 use lib.ListN.{length as size, take}
 use Rattle.octets.specs.Answers.{Said, refuses, fine}
-use Rattle.octets.specs.Arrays.{pad}
+use Rattle.octets.specs.Arrays.{pad, clearedArray}
 use Rattle.octets.specs.Checks.{Check, _unless_, found}
 use Rattle.octets.specs.Choice.{if_then_else_}
 use Rattle.octets.specs.declared.Refusal.the-variants.{UserDataLengthDisagrees, UserDataTooLong}
@@ -56,3 +56,11 @@ dataWith xs = record { octets = pad 255 xs; length = size xs }
 -- the user data that a record holds
 abbrev pub dataOf : UserData → List ℕ
 dataOf d = take (d .length) (d .octets)
+
+-- what lies after the length is no part of a record: set to zero
+abbrev pub clearedData : UserData → UserData
+clearedData d = record { length = d .length; octets = clearedArray 255 (d .length) (d .octets) }
+
+-- the array has the length of its type
+abbrev pub TypedData : UserData → Type 0
+TypedData d = size (d .octets) ≡ 255

@@ -104,7 +104,7 @@ module _ (s : List ℕ) (p : Place) where
     pub span-goes-on : {R : Type 0} {a : ℕ} {q : Place} → spanAt s p n ≡ gives (a, q) → (limit : Limit) (next : List ℕ → Format R) → readFrom (field (octets limit n) next) s (p .at) ≡ readFrom (next (take n (drop (p .at) s))) s (q .at)
     span-goes-on e limit next = whole-there (octets limit n) e next
 
-    pub span-ends : {R : Type 0} → spanAt s p n ≡ refuses OctetsEnd → (limit : Limit) (next : List ℕ → Format R) → readFrom (field (octets limit n) next) s (p .at) ≡ halted OctetsEnd
+    pub span-ends : {R : Type 0} {why : Refusal} → spanAt s p n ≡ refuses why → (limit : Limit) (next : List ℕ → Format R) → readFrom (field (octets limit n) next) s (p .at) ≡ halted OctetsEnd
     span-ends e limit next = whole-short (octets limit n) e next
 
   -- ---- by the answer of `address_span`

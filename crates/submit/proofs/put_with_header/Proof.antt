@@ -1,4 +1,4 @@
--- `submit::put_text` meets its contract: the header, and the text behind it.
+-- `submit::put_with_header` meets its contract: the header, and the text after it.
 -- Assumes nothing.
 use Prim.Native.Nat.{_-_, _*_, _≤_}
 use mathlib.Core.Path.{_≡_, sym}
@@ -14,10 +14,10 @@ use Rattle.submit.proofs.Text.{text-there}
 use Rattle.septets.proofs.header_septets.Reads as header-septets-reads
 use Rattle.gsm7.proofs.decode.unpack_septets.Reads as unpack-septets-reads
 use Rattle.octets.proofs.put_octets.Reads as put-octets-reads
-use Rattle.submit.proofs.put_text.Reads as reads
-use Rattle.submit.proofs.put_text.Lts as lts
-use Rattle.submit.proofs.put_text.Statement.{statement}
-use Rattle.submit.proofs.put_text.Tie as tie
+use Rattle.submit.proofs.put_with_header.Reads as reads
+use Rattle.submit.proofs.put_with_header.Lts as lts
+use Rattle.submit.proofs.put_with_header.Statement.{statement}
+use Rattle.submit.proofs.put_with_header.Tie as tie
 
 abbrev Unpacks : Type 0
 Unpacks = lts.After-unpack-septets (header-septets-reads.Asked, header-septets-reads.Learnt, unpack-septets-reads.Asked, unpack-septets-reads.Learnt, put-octets-reads.Asked, put-octets-reads.Learnt) reads.Pre reads.Post
@@ -29,8 +29,8 @@ there c = let p = c .before .before .before .before .pre in text-there _ _ _ (p 
 held : (c : Unpacks) → length (take (c .unpack-septets .result .«text_length») (c .unpack-septets .result .text)) ≡ c .unpack-septets .result .«text_length»
 held c = let long : length (c .unpack-septets .result .text) ≡ 510 = search needs in length-take-le (c .unpack-septets .result .«text_length») (c .unpack-septets .result .text) (omega (arith, there c .1, c .before .before .before .before .pre .2))
 
-pub put-text-spec : {M : Type 1} → statement M
-put-text-spec =
+pub put-with-header-spec : {M : Type 1} → statement M
+put-with-header-spec =
     tie.close
     (tie.spec
     (λ c κs. search needs)

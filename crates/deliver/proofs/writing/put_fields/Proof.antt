@@ -1,4 +1,4 @@
--- `deliver::writing::put_parts` meets its contract: one part behind the other.
+-- `deliver::writing::put_fields` meets its contract: one part behind the other.
 -- Assumes nothing.
 use Prim.Native.Nat.{ℕ, _+_, _/_}
 use mathlib.Core.Path.{_≡_, _∙_}
@@ -16,10 +16,10 @@ use Rattle.octets.proofs.put_octet.Reads as put-octet-reads
 use Rattle.octets.proofs.put_octets.Reads as put-octets-reads
 use Rattle.address.proofs.writing.put_address.Reads as put-address-reads
 use Rattle.time.proofs.encode_time.Reads as encode-time-reads
-use Rattle.deliver.proofs.writing.put_parts.Reads as reads
-use Rattle.deliver.proofs.writing.put_parts.Lts as lts
-use Rattle.deliver.proofs.writing.put_parts.Statement.{statement}
-use Rattle.deliver.proofs.writing.put_parts.Tie as tie
+use Rattle.deliver.proofs.writing.put_fields.Reads as reads
+use Rattle.deliver.proofs.writing.put_fields.Lts as lts
+use Rattle.deliver.proofs.writing.put_fields.Statement.{statement}
+use Rattle.deliver.proofs.writing.put_fields.Tie as tie
 
 abbrev Start : Type 0
 Start = lts.Start (put-octet-reads.Asked, put-octet-reads.Learnt, put-address-reads.Asked, put-address-reads.Learnt, encode-time-reads.Asked, encode-time-reads.Learnt, put-octets-reads.Asked, put-octets-reads.Learnt) reads.Pre reads.Post
@@ -102,8 +102,8 @@ returns c =
     let a = c .before .before .before .before .before .before .before .before .before .before .before .before .before .before .before .before .before .before .before .before .before .before .before .before .before .before .before .before .before .before .before .before .args in
     rw (regroup (a .flags) (a .pid) (a .dcs) (a .udl) (octetsOr [] (addressOctets (a .ton) (a .npi) (now (a .text)))) (timeOctets (now (a .digits))) (now (a .«data»))) at (chain-7 (c .before .before) .is)
 
-pub put-parts-spec : {M : Type 1} → statement M
-put-parts-spec =
+pub put-fields-spec : {M : Type 1} → statement M
+put-fields-spec =
     tie.close
     (tie.spec
     (λ c κs. search needs)

@@ -1,16 +1,13 @@
--- The parameters that follow a TP-Parameter-Indicator (TS 23.040 §9.2.3.27), and the answers of their readers.
+-- The parameters that follow a TP-Parameter-Indicator (TS 23.040 §9.2.3.27): their layout.
 use Prim.Native.Nat.{ℕ}
 use mathlib.Core.Bool.{Bool, true, false}
 use mathlib.Core.List.{List, []}
-use lib.ListN.{length}
 use Rattle.coding.specs.Coding.{codingOf, dataOctets}
-use Rattle.layout.specs.Layout.{userData, isSet, Format, field, done, _then_, one, Reached, reached, halted}
+use Rattle.layout.specs.Layout.{userData, isSet, Format, field, done, _then_, one}
 use Rattle.parameters.specs.Optional.{orZero}
 use Rattle.parameters.specs.Parameters.{Parameters}
 use Rattle.parameters.specs.declared.OptionalOctet.{OptionalOctet}
 use Rattle.parameters.specs.declared.OptionalOctet.the-variants.{Absent, Present}
-use Rattle.parameters.specs.declared.reading.OptionalRead.{OptionalRead}
-use Rattle.parameters.specs.declared.reading.ParametersRead.{ParametersRead}
 
 -- an octet that is there where its indicator bit announces it
 abbrev pub announced : Bool → Format OptionalOctet
@@ -27,12 +24,3 @@ unfoldable pub parameters : ℕ → Format Parameters
 parameters pi =
     announced (isSet 0 pi) then λ pid. announced (isSet 1 pi) then λ dcs. announced (isSet 2 pi) then λ udl.
     dataFor dcs udl then λ ud. done (record { pid = pid; dcs = dcs; udl = udl; ud = ud })
-
--- what the readers answer: the octet, or the three octets and how many octets the data have, with the place behind
-abbrev pub optionalAnswer : Reached OptionalOctet → OptionalRead
-optionalAnswer (reached o at) = OptionalRead.Read o (record { at = at })
-optionalAnswer (halted why) = OptionalRead.Ended
-
-abbrev pub parametersAnswer : Reached Parameters → ParametersRead
-parametersAnswer (reached p at) = ParametersRead.Read (p .pid) (p .dcs) (p .udl) (length (p .ud)) (record { at = at })
-parametersAnswer (halted why) = ParametersRead.Refused why
