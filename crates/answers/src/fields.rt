@@ -1,4 +1,4 @@
-// The fields of an answer, and what is answered for a refusal and for a writer. Each function is named for what it writes.
+// The fields of an answer, and the answers for a refusal and of a writer. Functions are named for what they write.
 use output::Output;
 use output::hexadecimal::put_hex;
 use output::hexadecimal::put_hex_octet;

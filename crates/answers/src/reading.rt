@@ -1,4 +1,4 @@
-// The requests that name a reader: the fields of the record that it gives. Each function is named for what it writes.
+// The requests that name a reader: the fields of the record that it gives. Functions are named for what they write.
 use crate::fields;
 use output::Output;
 use text_fields::lists::entry_number;

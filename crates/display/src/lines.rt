@@ -1,4 +1,4 @@
-// The lines in which a message is shown: a label and a value each. Each function is named for what it writes.
+// The lines in which a message is shown: a label and a value each. Functions are named for what they write.
 use output::Output;
 use output::hexadecimal::put_hex;
 use text_fields::slices::between;

@@ -1,4 +1,5 @@
-// The output: a buffer that octets and numbers are appended to. Each function takes the place to write at and gives the place after.
+// The output: a buffer that octets and numbers are appended to. A function takes the place to write at, and gives the
+// place after what it wrote.
 pub mod hexadecimal;
 
 ghost use mathlib.Core.Path.{_≡_};

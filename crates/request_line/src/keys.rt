@@ -94,8 +94,8 @@ pub fn kind_named(name: &[u8]) -> usize {
 
 // ---- the forms of values
 
-// A row for each kind, and one for a SUBMIT without destination. A row has a letter for each key, in their order: the form
-// of its value (`values::has_form`), or a dot if the kind has no such key.
+// A row for each kind, and one for a SUBMIT without destination. A row has a letter for each key, in their order: the
+// form of its value (`values::has_form`), or a dot if the kind has no such key.
 const FORMS: [u8; 150] = *b"\
     fffff...n.nnn.xx...ot..o\n\
     ff...ff.nnnnnxxx...o..po\n\

@@ -63,8 +63,8 @@ fn against_form(form: u8) -> usize {
     }
 }
 
-// The reason against a line whose fields are to have these forms, a letter each: their number, or the first field from the
-// left that has not its form.
+// The reason against a line whose fields are to have these forms, a letter each: their number, or the first field from
+// the left that has not its form.
 pub fn against_fields(forms: &[u8], line: &[u8]) -> usize {
     if field_count(line) != forms.len() {
         return NUMBER_OF_FIELDS;

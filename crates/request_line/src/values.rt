@@ -113,8 +113,8 @@ fn is_period(value: &[u8]) -> bool {
     }
 }
 
-// Whether a value has the form that a letter stands for: w a word, any; f a flag; n a number to 255; c a number of up to
-// nine digits; z a zone; x an octet; o octets; t a time; p a validity period; - an absent value; N and X may be absent.
+// Whether a value has the form that a letter stands for: w a word, any; f a flag; n a number to 255; c a number of up
+// to nine digits; z a zone; x an octet; o octets; t a time; p a validity period; - absent; N and X: n and x, or absent.
 pub fn has_form(form: u8, value: &[u8]) -> bool {
     match form {
         b'w' => true,

@@ -1,4 +1,4 @@
-// The program tpdutool: what its arguments ask for. Requests come on standard input, a line each, and answers go to standard output.
+// The program tpdutool: requests on standard input, a line each, are answered on standard output (docs/REQUESTS.md).
 mod lines;
 mod request;
 

@@ -1,4 +1,4 @@
-// The lines of standard input, held until they end and then answered. What is answered is written out before more is read,
+// The lines of standard input, each held until it ends and then answered. Answers are written out before more is read,
 // so that another program can ask and wait for the answer.
 use crate::request::answer;
 use libc::STDIN_FILENO;
@@ -121,8 +121,8 @@ fn answer_some(
     }
 }
 
-// Reads and answers to the end of the input; the length of the line held. The turns are counted down from a number that no
-// input uses up.
+// Reads and answers to the end of the input; the length of the line held. The turns are counted down from a number that
+// no input uses up.
 fn answer_all(input: &mut Output, line: &mut Line, out: &mut Output, show: bool) -> usize {
     let mut length = 0;
     let mut turns = u64::MAX;

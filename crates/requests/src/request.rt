@@ -17,8 +17,8 @@ use text_fields::slices::begins;
 use text_fields::slices::between;
 use tpdu::Written;
 
-// A message to be read, or to be read and written back; a record of a kind of message to be written; a conversion. The last two
-// by number.
+// What a line can ask for: a message read, or read and written back; a record written, by the number of its kind; or a
+// conversion, by its number.
 enum Request {
     Read(Reader),
     Rewrite(Reader),

@@ -1,4 +1,4 @@
-// Text in the output, as UTF-8: what is given as UTF-16 too; control characters are spelled out, so that a text stays on its line.
+// Text in the output as UTF-8, given as UTF-8 or UTF-16. Control characters are spelled out: a text stays on its line.
 ghost use mathlib.Core.Path.{_≡_};
 ghost use Prim.Native.Nat.{_+_, _*_, _<_, _≤_};
 ghost use lib.ListN.{take};

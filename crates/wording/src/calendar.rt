@@ -1,4 +1,4 @@
-// Times and validity periods.
+// Times and relative validity periods, as people write them.
 ghost use Prim.Native.Nat.{_<_};
 use crate::refusals::refusal_number;
 use output::Output;

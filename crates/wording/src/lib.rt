@@ -1,4 +1,4 @@
-// What octets mean, in words for people: times and periods, codings, statuses and causes, refusals; and the labels of lines.
+// What octets mean, in words for people: times, codings, statuses, causes and refusals; and the labels of lines.
 pub mod calendar;
 pub mod labels;
 pub mod meanings;

@@ -96,7 +96,8 @@ pub fn put_status(out: &mut Output, at: usize, status: u8) -> usize {
     put_status_meaning(out, group, status)
 }
 
-// The causes that the standard gives a meaning: those of TP-PID and TP-DCS, of commands and messages, of the service centre, of the mobile station.
+// The causes that the standard gives a meaning: those of TP-PID and TP-DCS, of commands and messages, of the service
+// centre, and of the mobile station.
 fn put_standard_cause(out: &mut Output, at: usize, cause: u8) -> usize {
     let list = b"\
         \x80Telematic interworking not supported\n\
