@@ -132,15 +132,19 @@ error-makes x low m cause small =
 pub ack-demand3 : Demand3 cleared ack submitReporting false
 ack-demand3 = demand3 cleared submitReporting octetsOf (format false) ack-makes
 
--- the stopped RP-ERROR has no time: no string of the layout gives its record or stands as its octets, and it is refused
+-- the octets of the stopped RP-ERROR
+abbrev stands : List ℕ
+stands = 0x01 ∷ 0xff ∷ 0x00 ∷ []
+
+-- it has no time: no string of the layout gives its record or stands as its octets, and it is refused
 no-time : (udhi : ℕ) (cause : OptionalOctet) (pi : ℕ) (t : List ℕ) (p : Parameters) → 7 ≡ length t → cleared stopped ≡ cleared (submitReported udhi cause pi t p) → ⊥
 unfolding submitReported timeIn
 no-time udhi cause pi t p w e = omega (arith, ap (λ (q : SmsSubmitReport). q .«tp_service_centre_timestamp» .length) e, length-digits [], length-digits t)
 
-longer : (a b c : ℕ) (t more : List ℕ) → 7 ≡ length t → 0x01 ∷ 0xff ∷ 0x00 ∷ [] ≡ a ∷ b ∷ c ∷ (t ++ more) → ⊥
+longer : (a b c : ℕ) (t more : List ℕ) → 7 ≡ length t → stands ≡ a ∷ b ∷ c ∷ (t ++ more) → ⊥
 longer a b c t more w e = omega (arith, ap length e, length-append t more)
 
-apart : Makes (λ r cs. (cleared stopped ≡ cleared r → ⊥) × (0x01 ∷ 0xff ∷ 0x00 ∷ [] ≡ joined cs → ⊥)) (format true)
+apart : Makes (λ r cs. (cleared stopped ≡ cleared r → ⊥) × (stands ≡ joined cs → ⊥)) (format true)
 unfolding format
 apart x low m cause small pi at t ot wt =
     makes-then (Held pi) _ (parameters pi) _ (parameters-make pi) λ p cs h. (no-time _ (Present cause) pi t p wt, longer (kept bits x) cause pi t (joined (cs ++ [])) wt)
@@ -149,11 +153,11 @@ stopped-refused : submitReporting stopped ≡ refused NotATime
 unfolding submitReporting submitReported timeIn timeDigits dataWith making checked indicatorChecks isTime
 stopped-refused = refl
 
-stands-apart : Stopped cleared submitReporting (format true) (0x01 ∷ 0xff ∷ 0x00 ∷ []) stopped true
-stands-apart = stopped-apart cleared submitReporting (format true) (0x01 ∷ 0xff ∷ 0x00 ∷ []) stopped apart stopped-refused
+stands-apart : Stopped cleared submitReporting (format true) stands stopped true
+stands-apart = stopped-apart cleared submitReporting (format true) stands stopped apart stopped-refused
 
 pub error-demand3 : Demand3 cleared error submitReporting true
-error-demand3 = demand3-stopping cleared submitReporting octetsOf (format true) error-makes 1 (0x01 ∷ 0xff ∷ 0x00 ∷ []) stopped true stands-apart
+error-demand3 = demand3-stopping cleared submitReporting octetsOf (format true) error-makes 1 stands stopped true stands-apart
 
 -- ---- what the writer makes of a record that was read, whatever the buffer
 
@@ -161,4 +165,4 @@ pub ack-answers : (s : List ℕ) → Octets s → (r : SmsSubmitReport) (n : ℕ
 ack-answers = answers-plain cleared submitReporting octetsOf (format false) ack-makes
 
 pub error-answers : (s : List ℕ) → Octets s → (r : SmsSubmitReport) (n : ℕ) → read error s ≡ reached r n → Answers (submitReporting r) (canonicalOf error s) (unwritable error true s)
-error-answers = answers-stopping cleared submitReporting octetsOf (format true) error-makes 1 (0x01 ∷ 0xff ∷ 0x00 ∷ []) stopped true stands-apart
+error-answers = answers-stopping cleared submitReporting octetsOf (format true) error-makes 1 stands stopped true stands-apart

@@ -63,6 +63,7 @@ fn cause_alone(outcome: Outcome, cause: OptionalOctet) -> SubmitReportRead
     }
 }
 
+// A refusal, with the blank report.
 fn refused(why: Refusal) -> SubmitReportRead
     ensures { λ r. ⌜ r ≡ record { outcome = Outcome.Refused why; message = blankReport } ⌝ }
 {
