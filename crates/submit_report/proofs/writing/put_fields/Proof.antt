@@ -1,11 +1,11 @@
--- `submit_report::writing::put_parts` meets its contract: one part behind the other.
+-- `submit_report::writing::put_fields` meets its contract: one field after the other.
 -- Assumes nothing.
 use native.Mathlib.Omega.{arith}
 use borrow.Author.Needs.{needs}
 use denote.Ref.{now}
 use Rattle.octets.proofs.Laws.{wrote-then, chain-start, chain-step}
-use Rattle.submit_report.proofs.writing.put_parts.Statement.{statement}
-use Rattle.submit_report.proofs.writing.put_parts.Tie as tie
+use Rattle.submit_report.proofs.writing.put_fields.Statement.{statement}
+use Rattle.submit_report.proofs.writing.put_fields.Tie as tie
 use Rattle.time.proofs.Laws.{time-size}
 
 put-parameters-requires : tie.Need-put-parameters-requires
@@ -27,6 +27,6 @@ returns c =
     let c1 = c2 .before .before .before .before in
     wrote-then (c1 .put-octet .ensures) (wrote-then (c2 .put-optional .ensures) (wrote-then (c3 .put-octet2 .ensures) (wrote-then (c4 .encode-time .ensures) (c5 .put-parameters .ensures))))
 
-pub put-parts-spec : {M : Type 1} → statement M
-put-parts-spec =
+pub put-fields-spec : {M : Type 1} → statement M
+put-fields-spec =
     tie.close (tie.spec (λ c κs. search needs) (λ c κs. search needs) (λ c κs. search needs) (λ c κs. search needs) put-parameters-requires (λ c. search needs) returns)

@@ -1,9 +1,9 @@
--- `deliver_report::writing::put_parts` meets its contract: one part behind the other.
+-- `deliver_report::writing::put_fields` meets its contract: one field after the other.
 -- Assumes nothing.
 use borrow.Author.Needs.{needs}
 use Rattle.octets.proofs.Laws.{wrote-then}
-use Rattle.deliver_report.proofs.writing.put_parts.Statement.{statement}
-use Rattle.deliver_report.proofs.writing.put_parts.Tie as tie
+use Rattle.deliver_report.proofs.writing.put_fields.Statement.{statement}
+use Rattle.deliver_report.proofs.writing.put_fields.Tie as tie
 
 returns : tie.Need-returns
 returns c =
@@ -13,5 +13,5 @@ returns c =
     let c1 = c2 .before .before .before .before in
     wrote-then (c1 .put-octet .ensures) (wrote-then (c2 .put-optional .ensures) (wrote-then (c3 .put-octet2 .ensures) (c4 .put-parameters .ensures)))
 
-pub put-parts-spec : {M : Type 1} → statement M
-put-parts-spec = tie.close (tie.spec (λ c κs. search needs) (λ c κs. search needs) (λ c κs. search needs) (λ c κs. search needs) (λ c. search needs) returns)
+pub put-fields-spec : {M : Type 1} → statement M
+put-fields-spec = tie.close (tie.spec (λ c κs. search needs) (λ c κs. search needs) (λ c κs. search needs) (λ c κs. search needs) (λ c. search needs) returns)
