@@ -1,10 +1,10 @@
--- `status_report::writing::put_behind_address` meets its contract: one part behind the other.
+-- `status_report::writing::put_after_address` meets its contract: one field after the other.
 -- Assumes nothing.
 use native.Mathlib.Omega.{arith}
 use borrow.Author.Needs.{needs}
 use Rattle.octets.proofs.Laws.{wrote-then, kept-by}
-use Rattle.status_report.proofs.writing.put_behind_address.Statement.{statement}
-use Rattle.status_report.proofs.writing.put_behind_address.Tie as tie
+use Rattle.status_report.proofs.writing.put_after_address.Statement.{statement}
+use Rattle.status_report.proofs.writing.put_after_address.Tie as tie
 use Rattle.time.proofs.Laws.{time-size}
 
 encode-time-requires-2 : tie.Need-encode-time-requires-2
@@ -41,6 +41,6 @@ returns : tie.Need-returns
 returns c =
     wrote-then (c .before .before .before .before .before .before .before .before .before .before .before .before .before .before .before .before .before .before .encode-time .ensures) (wrote-then (c .before .before .before .before .before .before .before .before .before .before .before .before .before .before .encode-time2 .ensures) (wrote-then (c .before .before .before .before .before .before .before .before .before .before .put-octet .ensures) (wrote-then (c .before .before .before .before .before .before .put-optional .ensures) (c .before .before .put-parameters .ensures))))
 
-pub put-behind-address-spec : {M : Type 1} → statement M
-put-behind-address-spec =
+pub put-after-address-spec : {M : Type 1} → statement M
+put-after-address-spec =
     tie.close (tie.spec (λ c κs. search needs) encode-time-requires-2 put-octet-requires put-optional-requires put-parameters-requires (λ c. search needs) returns)

@@ -1,0 +1,22 @@
+-- `status_report::writing::put_fields` meets its contract: one field after the other.
+-- Assumes nothing.
+use native.Mathlib.Omega.{arith}
+use borrow.Author.Needs.{needs}
+use Rattle.octets.proofs.Laws.{wrote-then, kept-by}
+use Rattle.address.proofs.Checks.{fine-size}
+use Rattle.status_report.proofs.writing.put_fields.Statement.{statement}
+use Rattle.status_report.proofs.writing.put_fields.Tie as tie
+
+put-after-address-requires : tie.Need-put-after-address-requires
+put-after-address-requires c κs =
+    let p = c .before .before .before .before .before .before .before .before .before .before .before .before .before .before .before .before .before .before .pre in
+    let w1 = c .before .before .before .before .before .before .before .before .before .before .before .put-octet .ensures in
+    let w2 = c .before .before .before .before .before .before .before .put-octet2 .ensures in
+    let w3 = c .before .before .before .put-address .ensures in
+    (p .1, p .2, omega (arith, w1 .place, kept-by w1, w2 .place, kept-by w2, w3 .place, kept-by w3, fine-size _ _ _ _ (p .0), p .3))
+
+returns : tie.Need-returns
+returns c = wrote-then (c .before .before .before .before .before .before .before .before .before .before .before .before .before .before .put-octet .ensures) (wrote-then (c .before .before .before .before .before .before .before .before .before .before .put-octet2 .ensures) (wrote-then (c .before .before .before .before .before .before .put-address .ensures) (c .before .before .put-after-address .ensures)))
+
+pub put-fields-spec : {M : Type 1} → statement M
+put-fields-spec = tie.close (tie.spec (λ c κs. search needs) (λ c κs. search needs) (λ c κs. search needs) put-after-address-requires (λ c. search needs) returns)
