@@ -1,6 +1,6 @@
 -- Demand 3 of STATUS-REPORT, and that its writer looks at nothing that is no part of a record.
 -- Assumes nothing.
-use Prim.Native.Nat.{ℕ, _+_, _≤_, _<_}
+use Prim.Native.Nat.{ℕ, _≤_, _<_}
 use mathlib.Core.Path.{_≡_, refl, sym, ap, _∙_}
 use mathlib.Core.Bool.{true, false}
 use mathlib.Core.List.{List, [], _∷_, _++_, append-nil}
@@ -8,11 +8,10 @@ use native.Mathlib.Omega.{arith}
 use borrow.Author.Tests.{eqb-true}
 use lib.Dec.{eqb, ltb}
 use lib.ListN.{length}
-use Rattle.octets.specs.Answers.{Said}
 use Rattle.octets.specs.Checks.{checked}
-use Rattle.octets.specs.Choice.{if_then_else_, flag}
+use Rattle.octets.specs.Choice.{if_then_else_}
 use Rattle.octets.specs.Each.{Octets}
-use Rattle.octets.specs.Lent.{Making, refused}
+use Rattle.octets.specs.Lent.{refused}
 use Rattle.octets.specs.declared.Refusal.the-variants.{NotATime, AddressTooLong}
 use Rattle.octets.proofs.Table.{below}
 use Rattle.octets.proofs.Checks.{check-holds}
@@ -38,7 +37,7 @@ use Rattle.status_report.proofs.RecordWritten.{fits}
 use Rattle.status_report.specs.declared.SmsStatusReport.{SmsStatusReport}
 use Rattle.status_report.specs.Layout.{Fields, bits, fields}
 use Rattle.status_report.specs.Internal.{fieldsWith}
-use Rattle.status_report.specs.StatusReport.{statusReported, format, statusReport, octetsOf, optionalChecks, statusReporting, cleared, Typed}
+use Rattle.status_report.specs.StatusReport.{statusReported, format, statusReport, firstWith, octetsOf, optionalChecks, statusReporting, cleared, Typed}
 
 -- ---- what is no part of a record
 
@@ -64,13 +63,17 @@ made-cleared x = rw (address-cleared (x .ra), time-cleared (x .scts), time-clear
 
 -- ---- a record that was read: its octets, and how its checks fare
 
-first-octet : (x : ℕ) → x < 256 → eqb (messageType (kept bits x)) 2 ≡ true → (let f = kept bits x in 2 + flag (isSet 6 f) 64 + flag (isSet 5 f) 32 + flag (isSet 3 f) 8 + flag (isSet 2 f) 4 ≡ f)
+first-octet : (x : ℕ) → x < 256 → eqb (messageType (kept bits x)) 2 ≡ true → (let f = kept bits x in firstWith (isSet 6 f) (isSet 5 f) (isSet 3 f) (isSet 2 f) ≡ f)
 unfolding kept
-first-octet x h m = eqb-true _ _ (rw m at (below (λ x. if eqb (messageType (kept bits x)) 2 then (let f = kept bits x in eqb (2 + flag (isSet 6 f) 64 + flag (isSet 5 f) 32 + flag (isSet 3 f) 8 + flag (isSet 2 f) 4) f) else true) 256 refl x h))
+first-octet x h m = eqb-true _ _ (rw m at (below (λ x. if eqb (messageType (kept bits x)) 2 then (let f = kept bits x in eqb (firstWith (isSet 6 f) (isSet 5 f) (isSet 3 f) (isSet 2 f)) f) else true) 256 refl x h))
 
 module _ (x : ℕ) (hx : x < 256) (mti : eqb (messageType (kept bits x)) 2 ≡ true) (mr : ℕ) (f : List ℕ) (wf : AddressField f) (t : List ℕ) (ot : Octets t) (wt : 7 ≡ length t) (u : List ℕ) (ou : Octets u) (wu : 7 ≡ length u) (st : ℕ) where
   abbrev make : OptionalOctet → Parameters → SmsStatusReport
   make pi p = statusReported (fieldsWith (kept bits x) mr (canonicalAddress f) t u st pi p)
+
+  -- the fields up to status, and these
+  abbrev toStatus : List Field → List Field
+  toStatus cs = standsAs (first bits) (kept bits x ∷ []) ∷ standsAs octet (mr ∷ []) ∷ standsAs address (canonicalAddress f) ∷ standsAs (octets any 7) t ∷ standsAs (octets any 7) u ∷ standsAs octet (st ∷ []) ∷ cs
 
   module _ (pi : OptionalOctet) (p : Parameters) (few : length (p .ud) ≤ 255) where
     abbrev octetsRead : List ℕ
@@ -91,18 +94,18 @@ module _ (x : ℕ) (hx : x < 256) (mti : eqb (messageType (kept bits x)) 2 ≡ t
 
     -- after the fields up to status stand those of indicator and parameters
     module _ (cs : List Field) (j : octetsHeld pi ++ parametersOctets p ≡ joined cs) (a : (xs : List ℕ) → Answers (checked (optionalChecks pi p) xs) xs (anyPastLimit cs)) where
-      written : Writes cleared statusReporting octetsOf (make pi p) (standsAs (first bits) (kept bits x ∷ []) ∷ standsAs octet (mr ∷ []) ∷ standsAs address (canonicalAddress f) ∷ standsAs (octets any 7) t ∷ standsAs (octets any 7) u ∷ standsAs octet (st ∷ []) ∷ cs)
+      written : Writes cleared statusReporting octetsOf (make pi p) (toStatus cs)
       written = record {
         octets = ap octetsOf (made-cleared _) ∙ its-octets ∙ rw j;
         answer = rw (its-making, ← j) (answers-checked (ltb 12 (length (canonicalAddress f))) AddressTooLong _ octetsRead (anyPastLimit cs) (a octetsRead));
       }
 
-  ended : Writes cleared statusReporting octetsOf (make Absent noParameters) (standsAs (first bits) (kept bits x ∷ []) ∷ standsAs octet (mr ∷ []) ∷ standsAs address (canonicalAddress f) ∷ standsAs (octets any 7) t ∷ standsAs (octets any 7) u ∷ standsAs octet (st ∷ []) ∷ [])
+  ended : Writes cleared statusReporting octetsOf (make Absent noParameters) (toStatus [])
   unfolding optionalChecks checked
   ended = written Absent noParameters (omega arith) [] refl (λ xs. refl)
 
   with-indicator : (i : ℕ) (p : Parameters) (ds : List Field) → Held i p ds
-      → Writes cleared statusReporting octetsOf (make (Present i) p) (standsAs (first bits) (kept bits x ∷ []) ∷ standsAs octet (mr ∷ []) ∷ standsAs address (canonicalAddress f) ∷ standsAs (octets any 7) t ∷ standsAs (octets any 7) u ∷ standsAs octet (st ∷ []) ∷ standsAs indicator (i ∷ []) ∷ ds)
+      → Writes cleared statusReporting octetsOf (make (Present i) p) (toStatus (standsAs indicator (i ∷ []) ∷ ds))
   unfolding optionalChecks
   with-indicator i p ds h = written (Present i) p (h .few) (standsAs indicator (i ∷ []) ∷ ds) (ap (λ (xs : List ℕ). i ∷ xs) (h .octets)) (λ xs. answers (h .agrees) (h .limit) xs)
 

@@ -16,7 +16,7 @@ use Rattle.address.specs.Internal.{addressSpan}
 use Rattle.layout.specs.Layout.{Format, any, address, field, one, cut, kept, messageType, Reached, reached, halted, readFrom}
 use Rattle.layout.specs.Internal.{indicatorAt, placed}
 use Rattle.layout.proofs.Steps.{message-goes-on, message-differs, message-ends, octet-goes-on, octet-ends, span-goes-on, span-ends, address-goes-on, address-ends, indicator-goes-on, indicator-ends, end-reached, end-not-reached, then-goes-on, then-ends, done-reached, address-inside}
-use Rattle.parameters.specs.Parameters.{Parameters, noParameters}
+use Rattle.parameters.specs.Parameters.{Parameters}
 use Rattle.parameters.specs.declared.OptionalOctet.{OptionalOctet}
 use Rattle.parameters.specs.declared.OptionalOctet.the-variants.{Absent, Present}
 use Rattle.parameters.specs.Layout.{parameters}

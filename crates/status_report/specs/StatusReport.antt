@@ -74,9 +74,12 @@ blank = record {
 
 -- ---- writing
 
--- MTI 2; UDHI bit 6, SRQ 5, LP 3, MMS 2
+-- the first octet: MTI 2; UDHI bit 6, SRQ 5, LP 3, MMS 2
+abbrev pub firstWith : Bool → Bool → Bool → Bool → ℕ
+firstWith udhi srq lp mms = 2 + flag udhi 64 + flag srq 32 + flag lp 8 + flag mms 4
+
 abbrev pub firstOf : SmsStatusReport → ℕ
-firstOf r = 2 + flag (r .«tp_udhi») 64 + flag (r .«tp_srq») 32 + flag (r .«tp_lp») 8 + flag (r .«tp_mms») 4
+firstOf r = firstWith (r .«tp_udhi») (r .«tp_srq») (r .«tp_lp») (r .«tp_mms»)
 
 -- a length of the record passes its array
 abbrev pub tooLong : SmsStatusReport → Bool

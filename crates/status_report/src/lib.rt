@@ -3,13 +3,11 @@ pub mod reading;
 pub mod writing;
 
 ghost use mathlib.Core.Path.{_≡_};
-ghost use Prim.Native.Nat.{_+_};
 ghost use Rattle.octets.specs.Answers.{refuses, outcomeSays, writtenSays};
-ghost use Rattle.octets.specs.Choice.{flag};
 ghost use Rattle.octets.specs.Lent.{lend};
 ghost use Rattle.layout.specs.Layout.{read, answer};
 ghost use Rattle.status_report.specs.Internal.{fieldsAt, Inside};
-ghost use Rattle.status_report.specs.StatusReport.{statusReported, statusReport, blank as blankMessage, statusReporting};
+ghost use Rattle.status_report.specs.StatusReport.{statusReported, statusReport, blank as blankMessage, firstWith, statusReporting};
 use crate::reading::MTI_STATUS_REPORT;
 use crate::reading::StatusReportFields;
 use crate::reading::StatusReportFound;
@@ -103,7 +101,7 @@ fn message(data: &[u8], f: StatusReportFields) -> SmsStatusReport
 
 // The first octet: TP-MTI and the flags.
 fn first_octet(udhi: bool, srq: bool, lp: bool, mms: bool) -> u8
-    ensures { λ r. ⌜ r ≡ 2 + flag udhi 64 + flag srq 32 + flag lp 8 + flag mms 4 ⌝ }
+    ensures { λ r. ⌜ r ≡ firstWith udhi srq lp mms ⌝ }
 {
     MTI_STATUS_REPORT
         + octets::flag(udhi, 64)

@@ -9,14 +9,21 @@ use Rattle.status_report.proofs.writing.put_fields.Tie as tie
 
 put-after-address-requires : tie.Need-put-after-address-requires
 put-after-address-requires c κs =
-    let p = c .before .before .before .before .before .before .before .before .before .before .before .before .before .before .before .before .before .before .pre in
-    let w1 = c .before .before .before .before .before .before .before .before .before .before .before .put-octet .ensures in
-    let w2 = c .before .before .before .before .before .before .before .put-octet2 .ensures in
-    let w3 = c .before .before .before .put-address .ensures in
+    let a = c .before .before .before in
+    let m = a .before .before .before .before in
+    let f = m .before .before .before .before in
+    let p = f .before .before .before .before .before .before .before .pre in
+    let w1 = f .put-octet .ensures in
+    let w2 = m .put-octet2 .ensures in
+    let w3 = a .put-address .ensures in
     (p .1, p .2, omega (arith, w1 .place, kept-by w1, w2 .place, kept-by w2, w3 .place, kept-by w3, fine-size _ _ _ _ (p .0), p .3))
 
 returns : tie.Need-returns
-returns c = wrote-then (c .before .before .before .before .before .before .before .before .before .before .before .before .before .before .put-octet .ensures) (wrote-then (c .before .before .before .before .before .before .before .before .before .before .put-octet2 .ensures) (wrote-then (c .before .before .before .before .before .before .put-address .ensures) (c .before .before .put-after-address .ensures)))
+returns c =
+    let r = c .before .before in
+    let a = r .before .before .before .before in
+    let m = a .before .before .before .before in
+    wrote-then (m .before .before .before .before .put-octet .ensures) (wrote-then (m .put-octet2 .ensures) (wrote-then (a .put-address .ensures) (r .put-after-address .ensures)))
 
 pub put-fields-spec : {M : Type 1} → statement M
 put-fields-spec = tie.close (tie.spec (λ c κs. search needs) (λ c κs. search needs) (λ c κs. search needs) put-after-address-requires (λ c. search needs) returns)
