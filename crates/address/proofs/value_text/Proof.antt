@@ -27,8 +27,8 @@ digits-are ton count value e = rw (ne-eqb ton 5 e)
 -- at most 145 septets have a text of at most 290 octets
 unpack-septets-requires : tie.Need-unpack-septets-requires
 unpack-septets-requires c κs =
-    let a = c .before .args in
-    let p = c .before .pre in
+    let a = c .before .before .before .args in
+    let p = c .before .before .before .pre in
     (omega arith, omega arith, omega (arith, p .0, p .2, text-short (now (a .value)) 0 (a .count * 4 / 7)))
 
 pub value-text-spec : {M : Type 1} → statement M
@@ -37,6 +37,6 @@ value-text-spec =
     (tie.spec
     (λ c. search needs)
     unpack-septets-requires
-    (λ c. rw (value-is _ _ _ (c .before .if1 .taken)) (c .unpack-septets .ensures))
+    (λ c. rw (value-is _ _ _ (c .before .before .if1 .taken)) (c .unpack-septets .ensures))
     (λ c κs. search needs)
-    (λ c. rw (digits-are _ _ _ (c .before .if1 .left)) (c .digits-text .ensures)))
+    (λ c. rw (digits-are _ _ _ (c .before .before .if1 .left)) (c .digits-text .ensures)))
