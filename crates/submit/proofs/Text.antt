@@ -1,4 +1,4 @@
--- The text after a header of h octets, which is counted with it.
+-- The readable form of user data has room in its array.
 -- Assumes nothing.
 use Prim.Native.Nat.{ℕ, _+_, _-_, _*_, _/_, _≤_}
 use mathlib.Core.Path.{_≡_, ap, _∙_}
@@ -20,21 +20,6 @@ use Rattle.gsm7.proofs.Reading.{unpacked-done}
 use Rattle.gsm7.proofs.DecodingLaws.{text-short}
 use Rattle.submit.specs.Layout.{inCount}
 use Rattle.submit.specs.Submit.{readable}
-
-module _ (os : List ℕ) (h n : ℕ) (whole : h ≤ length os) (counted : headerSeptets h ≤ n) (few : n ≤ 255) (size : length os ≡ (n * 7 + 7) / 8) where
-  abbrev text : List ℕ
-  text = textOf (septetsIn (drop h os) (fillBits h) (n - headerSeptets h))
-
-  -- it is all there, and short
-  pub text-there : (hs : ℕ) → hs ≡ headerSeptets h → (u : Unpacked) → u ≡ unpacked (take (length os - h) (drop h os)) (hs * 7 - h * 8) (n - hs)
-      → (take (u .«text_length») (u .text) ≡ text) × (u .«text_length» ≤ 2 * (n - headerSeptets h))
-  unfolding shown
-  text-there hs e u is =
-      let d : u ≡ shown text =
-      (rw (e, take-all (length os - h) (drop h os) (rw length-drop (le-refl _))) at is) ∙ unpacked-done (drop h os) (fillBits h) (n - headerSeptets h) (omega arith) (rw length-drop (omega arith)) in (
-        ap (λ (v : Unpacked). take (v .«text_length») (v .text)) d ∙ take-pad 510 text,
-        omega (arith, ap (λ (v : Unpacked). v .«text_length») d, text-short (drop h os) (fillBits h) (n - headerSeptets h)),
-      )
 
 -- the readable form of user data fits its array
 pub readable-short : (coding : UserDataCoding) (udl h : ℕ) (ud : List ℕ) → udl ≤ 255 → h ≤ length ud → inCount coding udl h ≡ true → length ud ≡ dataOctets coding udl → length (readable coding udl h ud) ≤ 510
