@@ -4,7 +4,6 @@ ghost use Prim.Native.Nat.{_≤_};
 ghost use mathlib.Core.List.{[]};
 ghost use mathlib.Core.Option.{some};
 ghost use lib.ListN.{length};
-ghost use Rattle.octets.specs.Answers.{fine};
 ghost use Rattle.octets.specs.Lent.{Wrote, lend};
 ghost use Rattle.octets.specs.declared.Refusal.the-variants.{NotInAlphabet, TooManySeptets, OutputTooShort};
 ghost use Rattle.septets.specs.Septets.{Digits};
@@ -48,17 +47,6 @@ fn output_too_short() -> Packed
     not_packed(Refusal::OutputTooShort)
 }
 
-// The answer of a packer that wrote: how many octets, for how many septets.
-fn done(octets: usize, septets: usize) -> Packed
-    ensures { λ p. ⌜ packedSays p ≡ (fine, octets, septets) ⌝ }
-{
-    Packed {
-        outcome: Outcome::Done,
-        octets,
-        septets,
-    }
-}
-
 // Writes a header's octets, and the septets after it and its fill bits; the place after them.
 fn put_packed(header: &[u8], codes: &[u8], out: &mut [u8]) -> usize
     requires { ⌜ (length (now header) ≤ 256) × (length (now codes) ≤ 255) × Digits 7 (now codes) × (length (octetsAfter (now header) (now codes)) ≤ length (now out)) ⌝ }
@@ -81,7 +69,12 @@ fn pack_codes(header: &[u8], codes: &[u8], out: &mut [u8]) -> Packed
     if out.len() < (septets * 7 + 7) / 8 {
         return output_too_short();
     }
-    done(put_packed(header, codes, out), septets)
+    let octets = put_packed(header, codes, out);
+    Packed {
+        outcome: Outcome::Done,
+        octets,
+        septets,
+    }
 }
 
 // The text packed after a header's octets and its fill bits; with no header, from the start.

@@ -3,7 +3,7 @@
 use mathlib.Core.Path.{_≡_}
 use native.Mathlib.Omega.{arith}
 use native.Mathlib.Nat.{zero-add}
-use Rattle.octets.proofs.Laws.{lent-refused, lent-short, lent-done}
+use Rattle.octets.proofs.Laws.{lent-refused, lent-short, lent-done, kept-by}
 use Rattle.gsm7.specs.Packing.{notPacked}
 use Rattle.gsm7.proofs.PackingCases.{length-after, after-many, after-done}
 use Rattle.gsm7.proofs.packing.pack_codes.Statement.{statement}
@@ -27,10 +27,10 @@ put-packed-requires c κs =
 
 returns-3 : tie.Need-returns-3
 returns-3 c =
-    let before = c .before .before .before .before .before .before .before .header-septets .ensures in
-    let w = c .before .before .before .put-packed .ensures in
-    rw (c .done .ensures, w .place, zero-add, before)
-    (lent-done notPacked _ (after-done _ _ (omega (arith, before, c .before .before .before .before .before .before .if1 .left))) (rw length-after (omega (arith, before, c .before .before .before .before .before .if2 .left))) (w .list))
+    let before = c .before .before .before .before .before .before .header-septets .ensures in
+    let w = c .before .before .put-packed .ensures in
+    rw (w .place, zero-add, before)
+    (lent-done notPacked _ (after-done _ _ (omega (arith, before, c .before .before .before .before .before .if1 .left))) (rw length-after (omega (arith, before, c .before .before .before .before .if2 .left))) (w .list))
 
 pub pack-codes-spec : {M : Type 1} → statement M
 pack-codes-spec =
@@ -45,6 +45,5 @@ pack-codes-spec =
     (λ c κs. tt)
     returns-2
     put-packed-requires
-    (λ c κs. tt)
-    (λ c. omega arith)
+    (λ c. kept-by (c .before .before .put-packed .ensures))
     returns-3)
