@@ -15,6 +15,7 @@ use Rattle.octets.specs.Lent.{refused}
 use Rattle.octets.specs.declared.Refusal.the-variants.{UserDataLengthDisagrees, UserDataTooLong}
 use Rattle.octets.proofs.Checks.{checked-then, holds}
 use Rattle.octets.proofs.Laws.{take-pad, cleared-pad}
+use Rattle.coding.specs.declared.UserData.{UserData}
 use Rattle.coding.specs.declared.UserDataCoding.{UserDataCoding}
 use Rattle.coding.specs.declared.UserDataCoding.the-variants.{Gsm7Bit, EightBit, Ucs2, Compressed}
 use Rattle.coding.specs.Coding.{codingOf, dataOctets, checkedData, dataChecks, dataWith, dataOf, clearedData}
@@ -28,6 +29,11 @@ data-held xs = take-pad 255 xs
 pub data-cleared : (xs : List ℕ) → clearedData (dataWith xs) ≡ dataWith xs
 unfolding dataWith
 data-cleared xs = rw (cleared-pad 255 xs)
+
+-- a record's user data, cleared
+pub data-back : (d : UserData) → size (dataOf d) ≡ d .length → dataWith (dataOf d) ≡ clearedData d
+unfolding dataWith
+data-back d n = rw n
 
 -- the number of octets of user data, as the calls tell it
 pub size-told : {n : ℕ} (dcs udl : ℕ) {k : UserDataCoding} → n ≡ dataOctets k udl → k ≡ codingOf dcs → n ≡ dataOctets (codingOf dcs) udl
