@@ -48,7 +48,7 @@ textGiven text = (fine, pad 510 text, length text)
 unfoldable pub textRefused : Refusal → SaidText
 textRefused why = (refuses why, pad 510 [], 0)
 
--- what reading n septets after f fill bits gives
+-- what reading n septets after f fill bits gives; 1 where they are more than 255, 19 where the octets are too few for them
 unfoldable pub unpacked : List ℕ → ℕ → ℕ → SaidText
 unpacked os f n =
     if ltb 255 n then textRefused LengthTooLarge
