@@ -5,7 +5,7 @@ use mathlib.Core.Bool.{Bool, true, false, _&&_}
 use mathlib.Core.List.{List, [], _∷_, _++_}
 use lib.Dec.{eqb, leb}
 use lib.ListN.{length, take, drop}
-use Rattle.octets.specs.Answers.{Said}
+use Rattle.octets.specs.Answers.{Said, outcomeSays}
 use Rattle.octets.specs.Arrays.{pad, clearedArray}
 use Rattle.octets.specs.Checks.{_unless_, found, checked}
 use Rattle.octets.specs.Choice.{if_then_else_, flag, lengthIf}
@@ -27,6 +27,7 @@ use Rattle.validity_period.specs.Validity.{periodIn, ofFormat, formatOf, isAbso
 use Rattle.validity_period.specs.declared.ValidityPeriod.{ValidityPeriod}
 use Rattle.submit.specs.Layout.{Fields, formatIn, headerSize, inCount, fields}
 use Rattle.submit.specs.declared.SmsSubmit.{SmsSubmit}
+use Rattle.submit.specs.declared.SubmitRead.{SubmitRead}
 use Rattle.submit.specs.declared.SubmitText.{SubmitText}
 
 -- ---- reading
@@ -100,7 +101,11 @@ blank = record {
   «tp_user_data» = textWith [];
 }
 
--- how many octets were read, 0 on a refusal
+-- what an answer of the reader says: its outcome and the record, and beside them how many octets were read
+abbrev pub submitReadSays : SubmitRead → (Said Unit × SmsSubmit) × ℕ
+submitReadSays r = ((outcomeSays (r .outcome), r .message), r .«octets_read»)
+
+-- that number, 0 on a refusal
 abbrev pub octetsTaken : {R : Type 0} → Reached R → ℕ
 octetsTaken (reached r at) = at
 octetsTaken (halted why) = 0
@@ -176,6 +181,11 @@ changed r to digits enhanced raw headed header text = record {
   «tp_user_data» = text;
 }
 
+-- without header and text
+abbrev pub underived : SmsSubmit → SmsSubmit
+underived r =
+    changed r (r .«tp_destination_address») (r .«validity_period_digits») (r .«validity_period_octets») (r .«tp_user_data_raw») false (dataWith []) (textWith [])
+
 abbrev pub clearedText : SubmitText → SubmitText
 clearedText t = record { octets = clearedArray 510 (t .length) (t .octets); length = t .length }
 
@@ -188,11 +198,9 @@ cleared r =
     (clearedData (r .«tp_user_data_raw»)) (r .«has_user_data_header»)
     (if r .«has_user_data_header» then clearedData (r .«tp_user_data_header») else dataWith []) (clearedText (r .«tp_user_data»))
 
--- the same without header and text, which are derived from the data
+-- what demand 2 compares: not header and text, which are derived from the data
 abbrev pub compared : SmsSubmit → SmsSubmit
-compared r =
-    let c = cleared r in
-    changed c (c .«tp_destination_address») (c .«validity_period_digits») (c .«validity_period_octets») (c .«tp_user_data_raw») false (dataWith []) (textWith [])
+compared r = underived (cleared r)
 
 -- the time's letters capital
 abbrev pub capitalised : SmsSubmit → SmsSubmit
