@@ -40,7 +40,7 @@ readable EightBit udl h ud = ud
 readable Ucs2 udl h ud = ud
 readable Compressed udl h ud = ud
 
--- "A" alone, after the header 05 00 03 01 02 01, and as 8-bit data
+-- "A" alone; after the header 05 00 03 01 02 01; 8-bit data, whatever their header
 known-readable : (readable Gsm7Bit 1 0 (0x41 ∷ []) ≡ 0x41 ∷ []) × (readable Gsm7Bit 8 6 (0x05 ∷ 0x00 ∷ 0x03 ∷ 0x01 ∷ 0x02 ∷ 0x01 ∷ 0x82 ∷ []) ≡ 0x05 ∷ 0x00 ∷ 0x03 ∷ 0x01 ∷ 0x02 ∷ 0x01 ∷ 0x41 ∷ [])
     × (readable EightBit 2 2 (0x01 ∷ 0x41 ∷ []) ≡ 0x01 ∷ 0x41 ∷ [])
 unfolding readable textOf afterEscape utf8 character septetsIn numberOf lowestDigits
