@@ -24,7 +24,7 @@ pub fn canonical_submit(data: &[u8], out: &mut [u8]) -> Written
     let outcome = read.outcome;
     let message = read.message;
     if let Outcome::Refused(r) = outcome {
-        return Written::Refused(r);
+        return Written::Refused(r); // 2, 3, 17 or 18
     }
     message.encode(out)
 }
@@ -37,7 +37,7 @@ pub fn canonical_deliver(data: &[u8], out: &mut [u8]) -> Written
     let outcome = read.outcome;
     let message = read.message;
     if let Outcome::Refused(r) = outcome {
-        return Written::Refused(r);
+        return Written::Refused(r); // 2 or 3
     }
     message.encode(out)
 }
