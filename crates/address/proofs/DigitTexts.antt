@@ -14,9 +14,9 @@ use Rattle.octets.specs.Texts.{codes}
 use Rattle.octets.proofs.Choice.{and-true}
 use Rattle.octets.proofs.Table.{below}
 use Rattle.octets.proofs.Each.{Below, below-cons}
-use Rattle.text.specs.Alphabet.{indexOf}
-use Rattle.text.proofs.Rows.{index-found}
-use Rattle.address_writing.specs.Writing.{digitCharacters, digitValue, isDigit}
+use Rattle.gsm7.specs.Alphabet.{indexOf}
+use Rattle.gsm7.proofs.Rows.{index-found}
+use Rattle.address.specs.Writing.{digitCharacters, digitValue, isDigit}
 use Rattle.address.specs.Address.{digitCharacter, withoutF}
 
 -- ---- one digit

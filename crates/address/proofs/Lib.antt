@@ -1,5 +1,7 @@
-pub mod Characters
+pub mod DigitCharacters
+pub mod Checks
+pub mod SemiOctets
 pub mod DigitTexts
 pub mod Shapes
-pub mod Writing
+pub mod RecordWritten
 pub mod Laws

@@ -15,11 +15,11 @@ use Rattle.octets.proofs.SemiOctets.{semi-pairs, length-pairs, pairs-octets, se
 use Rattle.octets.proofs.Each.{below-cons, below-take, Below}
 use Rattle.septets.specs.Septets.{septetsIn, packedSeptets}
 use Rattle.septets.proofs.Inverse.{length-packed, length-septets, septets-septets, digits-of}
-use Rattle.scanning.specs.Writing.{septetsOf}
-use Rattle.scanning.proofs.Adequate.{text-packed-text}
-use Rattle.scanning.proofs.Laws.{read-writable}
-use Rattle.text.proofs.Laws.{text-short}
-use Rattle.address_writing.specs.Writing.{digitValue, isDigit, fieldOf, textField, addressOctets}
+use Rattle.gsm7.specs.Writing.{septetsOf}
+use Rattle.gsm7.proofs.Adequate.{text-packed-text}
+use Rattle.gsm7.proofs.EncodingLaws.{read-writable}
+use Rattle.gsm7.proofs.DecodingLaws.{text-short}
+use Rattle.address.specs.Writing.{digitValue, isDigit, fieldOf, textField, addressOctets}
 use Rattle.address.specs.Address.{digitCharacter, withoutF, typeOfNumber, planOf, valueText, addressWith, textIn, addressIn, addressSize}
 use Rattle.address.proofs.DigitTexts.{values-digits, characters-back, without-digits, without-none}
 

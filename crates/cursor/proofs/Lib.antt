@@ -1,2 +1,4 @@
+pub mod Places
+pub mod InTurn
 pub mod Held
 pub mod Through

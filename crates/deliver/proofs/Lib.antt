@@ -1,3 +1,5 @@
-pub mod Writing
-pub mod Reading
+pub mod CheckByCheck
+pub mod FieldByField
+pub mod RecordWritten
+pub mod RecordRead
 pub mod Demand

@@ -1,3 +1,4 @@
-pub mod Reading
-pub mod Writing
+pub mod CheckByCheck
+pub mod FieldByField
+pub mod RecordWritten
 pub mod Demand

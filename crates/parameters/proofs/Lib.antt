@@ -1,4 +1,7 @@
+pub mod Laws
+pub mod Agreeing
 pub mod Indicator
-pub mod Reading
+pub mod StepsOfReader
 pub mod Outcomes
 pub mod Made
+pub mod Checking

@@ -1,1 +1,5 @@
-pub mod Line
+pub mod Optional
+pub mod Parameters
+pub mod Layout
+pub mod Checking
+pub mod Internal

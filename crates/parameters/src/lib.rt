@@ -1,85 +1,45 @@
-// Reading what the reports share: TP-Parameter-Indicator and the parameters that it announces (TS 23.040 §9.2.3.27).
+// An octet of a record that may be absent: a parameter of a report, its cause or its indicator.
+pub mod reading;
+pub mod writing;
+
 ghost use mathlib.Core.Path.{_≡_};
-ghost use Rattle.layout.specs.Layout.{indicatorAt, readFrom};
-ghost use Rattle.parameters.specs.Line.{announced, parameters, optionalAnswer, parametersAnswer};
-use octets::Octet;
-use octets::Place;
-use octets::Refusal;
-use octets::Span;
-use optional::OptionalOctet;
+ghost use Prim.Native.Nat.{_+_, _≤_};
+ghost use lib.ListN.{length};
+ghost use Rattle.octets.specs.Lent.{Wrote};
+ghost use Rattle.parameters.specs.Optional.{octetsHeld, held, orZero};
 
-// A parameter that was announced or not, and the place behind it.
-pub enum OptionalRead {
-    Read(OptionalOctet, Place),
-    Ended,
+pub enum OptionalOctet {
+    Absent,
+    Present(u8),
 }
 
-// PID, DCS, UDL, how many octets the user data have, and the place behind these.
-pub enum ParametersRead {
-    Read(OptionalOctet, OptionalOctet, OptionalOctet, usize, Place),
-    Refused(Refusal),
-}
-
-// An indicator's first octet, and the place behind its extension octets.
-pub fn read_indicator(data: &[u8], place: Place) -> Octet
-    ensures { λ r. ⌜ r ≡ indicatorAt (now («data» .entry)) place ⌝ }
+// How many octets an optional octet takes.
+pub fn octets_held(octet: OptionalOctet) -> usize
+    ensures { λ r. ⌜ r ≡ held octet ⌝ }
 {
-    let from = place.at;
-    if from >= data.len() {
-        return Octet::Ended;
+    match octet {
+        OptionalOctet::Absent => 0,
+        OptionalOctet::Present(_) => 1,
     }
-    let indicator = data[from];
-    let mut last = indicator;
-    let mut at = from + 1;
-    while last / 128 % 2 == 1 {
-        if at >= data.len() {
-            return Octet::Ended;
-        }
-        last = data[at];
-        at += 1;
+}
+
+// An absent octet means 0.
+pub fn or_zero(octet: OptionalOctet) -> u8
+    ensures { λ r. ⌜ r ≡ orZero octet ⌝ }
+{
+    match octet {
+        OptionalOctet::Absent => 0,
+        OptionalOctet::Present(x) => x,
     }
-    Octet::Read(indicator, Place { at })
 }
 
-// An octet that is there if it is announced.
-pub fn read_optional(data: &[u8], place: Place, is_announced: bool) -> OptionalRead
-    ensures { λ r. ⌜ r ≡ optionalAnswer (readFrom (announced «is_announced») (now («data» .entry)) (place .at)) ⌝ }
+// Writes an optional octet at `at`; the place after it.
+pub fn put_optional(out: &mut [u8], at: usize, octet: OptionalOctet) -> usize
+    requires { ⌜ at + held octet ≤ length (now out) ⌝ }
+    ensures { λ r. ⌜ Wrote at (octetsHeld octet) (now (out .entry)) r (now (out .exit)) ⌝ }
 {
-    if is_announced {
-        let Octet::Read(x, next) = place.octet(data) else {
-            return OptionalRead::Ended;
-        };
-        return OptionalRead::Read(OptionalOctet::Present(x), next);
+    match octet {
+        OptionalOctet::Absent => at,
+        OptionalOctet::Present(x) => octets::put_octet(out, at, x),
     }
-    OptionalRead::Read(OptionalOctet::Absent, place)
-}
-
-// The octets end inside a parameter.
-fn ended() -> ParametersRead
-    ensures { λ r. ⌜ r ≡ ParametersRead.Refused Refusal.OctetsEnd ⌝ }
-{
-    ParametersRead::Refused(Refusal::OctetsEnd)
-}
-
-// The parameters that an indicator announces.
-pub fn read_parameters(data: &[u8], place: Place, indicator: u8) -> ParametersRead
-    ensures { λ r. ⌜ r ≡ parametersAnswer (readFrom (parameters indicator) (now («data» .entry)) (place .at)) ⌝ }
-{
-    let OptionalRead::Read(pid, p1) = read_optional(data, place, indicator % 2 == 1) else {
-        return ended();
-    };
-    let OptionalRead::Read(dcs, p2) = read_optional(data, p1, indicator / 2 % 2 == 1) else {
-        return ended();
-    };
-    let OptionalRead::Read(udl, p3) = read_optional(data, p2, indicator / 4 % 2 == 1) else {
-        return ended();
-    };
-    let OptionalOctet::Present(length) = udl else {
-        return ParametersRead::Read(pid, dcs, udl, 0, p3);
-    };
-    let size = coding::user_data_octets(coding::user_data_coding(optional::or_zero(dcs)), length);
-    let Span::There(_, p4) = p3.span(data, size) else {
-        return ended();
-    };
-    ParametersRead::Read(pid, dcs, udl, size, p4)
 }

@@ -1,3 +1,5 @@
-pub mod Reading
-pub mod Writing
+pub mod CheckByCheck
+pub mod FieldByField
+pub mod RecordRead
+pub mod RecordWritten
 pub mod Demand

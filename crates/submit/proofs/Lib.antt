@@ -1,5 +1,6 @@
+pub mod CheckByCheck
+pub mod FieldByField
 pub mod Text
-pub mod Reading
-pub mod Writing
-pub mod Demand
+pub mod RecordRead
 pub mod Known
+pub mod Demand

@@ -4,7 +4,7 @@ use mathlib.Core.Path.{sym}
 use native.Mathlib.Omega.{arith}
 use borrow.Author.Needs.{needs}
 use borrow.Author.Tests.{le-leb, lt-leb, ne-eqb}
-use Rattle.address.proofs.Characters.{character-by-range}
+use Rattle.address.proofs.SemiOctets.{character-by-range}
 use Rattle.address.proofs.character_from_semi_octet.Statement.{statement}
 use Rattle.address.proofs.character_from_semi_octet.Tie as tie
 

@@ -5,7 +5,7 @@ use mathlib.Core.Path.{_≡_, sym}
 use native.Mathlib.Omega.{arith}
 use borrow.Author.Needs.{needs}
 use denote.Ref.{now}
-use Rattle.address.proofs.Characters.{semi-low, semi-high}
+use Rattle.address.proofs.SemiOctets.{semi-low, semi-high}
 use Rattle.address.proofs.semi_octet.Statement.{statement}
 use Rattle.address.proofs.semi_octet.Tie as tie
 

@@ -38,10 +38,10 @@ use denote.Triple.Table.{cited}
 use denote.Triple.Walked.{says, Stays, stay-none, walkOf, goes-none, ends-at, walked}
 use denote.Exit.{yes}
 use denote.Triple.Clauses.{ensured}
-use Rattle.reading_on.specs.From.{behindPlace}
-use Rattle.reading_on.proofs.place_behind as moving
-use Rattle.reading_on.proofs.place_behind.Symbol as callee
-use Rattle.reading_on.proofs.place_behind.Met.{met}
+use Rattle.cursor.specs.From.{behindPlace}
+use Rattle.cursor.proofs.from_place.place_behind as moving
+use Rattle.cursor.proofs.from_place.place_behind.Symbol as callee
+use Rattle.cursor.proofs.from_place.place_behind.Met.{met}
 use Rattle.cursor.specs.declared.Cursor.{Cursor}
 use Rattle.cursor.proofs.Cursor.Laws.{mir as cursorTy, lowered}
 use Rattle.cursor.proofs.Held.{B, Of, laws, sliceIn, values, Own, OwnSlice, said, typed, twice, with-slice, meets-by}
@@ -131,4 +131,4 @@ behind-spec 𝓤 H 𝓜 𝓖 𝓡 =
     meets-by 𝓤 H 𝓜 𝓖 𝓡 behind.ended stayed c code.env name code.function (goes-none 𝓤 H (𝓖 .A) W 1 B yes (λ κs x f. refl), (goes-none 𝓤 H (𝓖 .A) W 1 (λ _. usize) yes (λ κs x f. refl), tt)) (code.unfolded 𝓤 H 𝓜 𝓡) (λ fm.
     walked 𝓤 H (𝓖 .A) behind.ended stayed c (WpFn 𝓤 H (𝓣 .C) (𝓣 .Λ) code.function) (λ κs. (vals (Of κs) (laws κs), (uint-vals w64, tt))) (λ κs. (tells (Of κs) (laws κs), (uint-tells w64, tt))) (λ κs qs bounds a g are. via 𝓤 _ (fst∗ 𝓤 _ (emp 𝓤))
     (walk 𝓤 H (𝓖 .A) W (𝓜 .mem) (𝓡 .run) (κs .0) (qs .0) (a .0) (a .1 .0) (are .1 .0 .1) (𝓣 .C) (𝓣 .Λ) fm
-    (cited 𝓤 H (Moving 𝓤 H (𝓖 .A) (𝓜 .mem) (𝓡 .run)) 𝓜 𝓡 code.env callee.name callee.routine code.calls-reading-on·place-behind (met 𝓤 H 𝓜 𝓖 𝓡)) (typed 𝓤 H (𝓖 .A) W κs (a .0) (are .0)))))
+    (cited 𝓤 H (Moving 𝓤 H (𝓖 .A) (𝓜 .mem) (𝓡 .run)) 𝓜 𝓡 code.env callee.name callee.routine code.calls-cursor·from-place·place-behind (met 𝓤 H 𝓜 𝓖 𝓡)) (typed 𝓤 H (𝓖 .A) W κs (a .0) (are .0)))))

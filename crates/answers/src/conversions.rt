@@ -1,0 +1,165 @@
+// The requests that name no kind of message: text packed and unpacked, addresses, codings and times.
+use crate::fields;
+use crate::fields::Lent;
+use crate::fields::unless_refused;
+use output::Output;
+use request_line::reasons;
+use request_line::values;
+use text_fields::fields::field;
+use text_fields::lists::entry;
+use text_fields::lists::entry_number;
+use text_fields::slices::between;
+use tpdu::Packed;
+use tpdu::SMSAddress;
+use wording::meanings::coding_number;
+
+// ---- the requests by number, in the order of their names
+
+const UNPACK: usize = 0;
+
+const UNPACK_HEADER: usize = 1;
+
+const PACK: usize = 2;
+
+const PACK_HEADER: usize = 3;
+
+const ADDRESS: usize = 4;
+
+const CODING: usize = 5;
+
+const DIGITS: usize = 6;
+
+// How many there are; as a request's number it says that there is no such request.
+pub const REQUESTS: usize = 7;
+
+// The number of the request with a name.
+pub fn request_named(name: &[u8]) -> usize {
+    let names = b"unpack\nunpack-header\npack\npack-header\naddress\ncoding\ndigits\n";
+    entry_number(names, name)
+}
+
+// The reason against the line of a request; `request_line::values::has_form` says which form each letter stands for.
+pub fn against_request(request: usize, line: &[u8]) -> usize {
+    let forms = b"wco\nwco\nwo\nwoo\nwnno\nwx\nwnnnnnnz\n";
+    reasons::against_fields(entry(forms, request), line)
+}
+
+// ---- text
+
+fn unpack(octets: &[u8], septets: usize, show: bool, out: &mut Output, at: usize) -> usize {
+    let read = tpdu::unpack_gsm7(octets, septets);
+    let outcome = read.outcome;
+    let text = read.text;
+    let next = fields::octets(out, at, b"ok text=", between(&text, 0, read.text_length));
+    unless_refused(out, at, next, outcome, show)
+}
+
+fn unpack_header(octets: &[u8], septets: usize, show: bool, out: &mut Output, at: usize) -> usize {
+    let read = tpdu::unpack_gsm7_with_header(octets, septets);
+    let outcome = read.outcome;
+    let header = read.header;
+    let text = read.text;
+    let p1 = fields::octets(
+        out,
+        at,
+        b"ok header=",
+        between(&header, 0, read.header_length),
+    );
+    let p2 = fields::octets(out, p1, b" text=", between(&text, 0, read.text_length));
+    unless_refused(out, at, p2, outcome, show)
+}
+
+// What a packer answered, and the octets that it wrote.
+fn packed(p: Packed, lent: &Lent, show: bool, out: &mut Output, at: usize) -> usize {
+    let outcome = p.outcome;
+    let p1 = output::put(out, at, b"ok septets=");
+    let p2 = output::put_decimal(out, p1, p.septets as u64);
+    let p3 = fields::octets(out, p2, b" octets=", between(lent, 0, p.octets));
+    unless_refused(out, at, p3, outcome, show)
+}
+
+fn pack(octets: &[u8], show: bool, out: &mut Output, at: usize) -> usize {
+    let mut lent = [0u8; 255];
+    let p = tpdu::pack_gsm7(octets, &mut lent);
+    packed(p, &lent, show, out, at)
+}
+
+fn pack_header(line: &[u8], octets: &[u8], show: bool, out: &mut Output, at: usize) -> usize {
+    let mut header = [0u8; 4096];
+    let n = values::octets_of(field(line, 1), &mut header);
+    let mut lent = [0u8; 255];
+    let p = tpdu::pack_gsm7_with_header(between(&header, 0, n), octets, &mut lent);
+    packed(p, &lent, show, out, at)
+}
+
+// ---- addresses, codings and times
+
+// The number that a field holds.
+fn number(line: &[u8], n: usize) -> u8 {
+    values::number_of(field(line, n))
+}
+
+fn address(line: &[u8], show: bool, out: &mut Output, at: usize) -> usize {
+    let mut address = [0u8; 290];
+    let address_length = values::octets_of(field(line, 3), &mut address);
+    let a = SMSAddress {
+        ton: number(line, 1),
+        npi: number(line, 2),
+        address,
+        address_length,
+    };
+    let mut lent = [0u8; 255];
+    let w = a.encode(&mut lent);
+    fields::written(out, at, w, &lent, show)
+}
+
+fn coding(line: &[u8], out: &mut Output, at: usize) -> usize {
+    let n = coding_number(values::octet_of(field(line, 1)));
+    let names = b"ok 7bit\nok 8bit\nok ucs2\nok compressed\n";
+    output::put(out, at, entry(names, n))
+}
+
+fn digits(line: &[u8], show: bool, out: &mut Output, at: usize) -> usize {
+    let time = tpdu::timestamp_digits(
+        number(line, 1),
+        number(line, 2),
+        number(line, 3),
+        number(line, 4),
+        number(line, 5),
+        number(line, 6),
+        values::zone_of(field(line, 7)),
+    );
+    let outcome = time.outcome;
+    let digits = time.digits;
+    let p1 = output::put(out, at, b"ok ");
+    let p2 = output::put(out, p1, &digits);
+    unless_refused(out, at, p2, outcome, show)
+}
+
+// ---- answers
+
+// The septets that a request counts.
+fn count(line: &[u8]) -> usize {
+    values::decimal(field(line, 1)) as usize
+}
+
+// The answer to a request whose last field holds these octets.
+pub fn answer(
+    request: usize,
+    line: &[u8],
+    octets: &[u8],
+    show: bool,
+    out: &mut Output,
+    at: usize,
+) -> usize {
+    match request {
+        UNPACK => unpack(octets, count(line), show, out, at),
+        UNPACK_HEADER => unpack_header(octets, count(line), show, out, at),
+        PACK => pack(octets, show, out, at),
+        PACK_HEADER => pack_header(line, octets, show, out, at),
+        ADDRESS => address(line, show, out, at),
+        CODING => coding(line, out, at),
+        DIGITS => digits(line, show, out, at),
+        _ => at,
+    }
+}

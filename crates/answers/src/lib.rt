@@ -1,0 +1,5 @@
+// The answers to requests: a reader's record, a writer's octets, and conversions that need no message.
+pub mod conversions;
+pub mod fields;
+pub mod reading;
+pub mod writing;

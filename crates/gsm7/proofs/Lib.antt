@@ -1,0 +1,13 @@
+pub mod Utf8
+pub mod Rows
+pub mod TableSizes
+pub mod Reading
+pub mod DecodingLaws
+pub mod Tables
+pub mod ByCharacter
+pub mod FirstCharacter
+pub mod Scanning
+pub mod Adequate
+pub mod EncodingLaws
+pub mod PackingCases
+pub mod PackingLaws

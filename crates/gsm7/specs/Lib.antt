@@ -1,0 +1,6 @@
+pub mod Alphabet
+pub mod Reading
+pub mod Characters
+pub mod Writing
+pub mod Internal
+pub mod Packing

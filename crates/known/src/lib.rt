@@ -1,1 +1,0 @@
-// The known messages of document 01, as one table; specs/Rows.antt has it, and proofs/Known.antt proves every row.

@@ -1,2 +1,0 @@
-pub mod Optional
-pub mod Parameters

@@ -1,7 +1,0 @@
--- `reading_on::submit_at` meets its contract: the octets from the place on are read.
--- Assumes nothing.
-use Rattle.reading_on.proofs.submit_at.Statement.{statement}
-use Rattle.reading_on.proofs.submit_at.Tie as tie
-
-pub submit-at-spec : {M : Type 1} → statement M
-submit-at-spec = tie.close (tie.spec (λ c κs. tt) (λ c κs. tt) (λ c. rw (← c .before .rest .ensures) (c .decode-sms-submit-tpdu .ensures)))

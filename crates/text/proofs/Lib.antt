@@ -1,5 +1,0 @@
-pub mod Utf8
-pub mod Rows
-pub mod Tables
-pub mod Reading
-pub mod Laws

@@ -1,3 +1,0 @@
-pub mod Alphabet
-pub mod Reading
-pub mod Characters

@@ -1,0 +1,4 @@
+// Octets cut and compared, lists of texts, and the fields of a line.
+pub mod fields;
+pub mod lists;
+pub mod slices;

@@ -1,0 +1,4 @@
+// The program tpdutool again, with the argument `show`: its stored run for people.
+fn main() {
+    requests::run();
+}
