@@ -91,6 +91,10 @@ left-step {l = l} {at} {rest} {xs} rest′ left wrote e = record {
   list = rw (wrote .place, wrote .list, sets-append xs rest′ l at, ← e) (left .list);
 }
 
+-- what is stored next fits where the whole does
+pub left-fits : {whole : List ℕ} {end : ℕ} {l : List ℕ} {at : ℕ} {rest : List ℕ} (xs more : List ℕ) → Left whole end l at rest → rest ≡ xs ++ more → {n : ℕ} → end ≤ n → at + length xs ≤ n
+left-fits xs more left e h = omega (arith, left .place, simp length-append at (ap length e))
+
 pub left-end : {whole : List ℕ} {end : ℕ} {l : List ℕ} {at : ℕ} {rest : List ℕ} → Left whole end l at rest → rest ≡ [] → (at ≡ end) × (l ≡ whole)
 left-end {l = l} {at} left e = (sym (add-zero at) ∙ rw e at (left .place), rw e at (left .list))
 
