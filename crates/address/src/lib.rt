@@ -72,10 +72,7 @@ fn value_text(ton: u8, count: usize, value: &[u8], text: &mut [u8; 290]) -> usiz
     ensures { λ r. ⌜ Wrote 0 (valueText ton count (now (value .entry))) (now (text .entry)) r (now (text .exit)) ⌝ }
 {
     if ton == TYPE_OF_NUMBER_ALPHANUMERIC {
-        let unpacked = gsm7::decode::unpack_septets(value, 0, count * 4 / 7);
-        let shown = unpacked.text;
-        let n = unpacked.text_length;
-        return octets::put_octets(text, 0, &shown[..n]);
+        return gsm7::decode::unpack_septets(value, 0, count * 4 / 7, text, 0);
     }
     digits_text(value, count, text)
 }

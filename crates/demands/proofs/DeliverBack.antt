@@ -9,13 +9,13 @@ use borrow.Author.Tests.{eqb-true, ltb-false}
 use lib.Dec.{eqb, ltb}
 use lib.ListN.{length, length-append}
 use lib.Seq.{length-take-le}
-use Rattle.octets.specs.Answers.{Said, fine}
+use Rattle.octets.specs.Answers.{Said, gives, fine}
 use Rattle.octets.specs.Checks.{_unless_}
 use Rattle.octets.specs.Choice.{flag}
 use Rattle.octets.specs.Lent.{made}
 use Rattle.octets.specs.declared.Refusal.the-variants.{LengthTooLarge, WrongMessageType, NotATime}
 use Rattle.octets.proofs.Choice.{and-true, or-false, both, both-holds, same, same-is}
-use Rattle.octets.proofs.Checks.{never, holds, both-hold, made-unless, made-told}
+use Rattle.octets.proofs.Checks.{never, holds, both-hold, made-unless, made-told, made-counts}
 use Rattle.coding.specs.Coding.{codingOf, dataOctets, dataWith, dataOf, dataChecks, checkedData, clearedData}
 use Rattle.coding.proofs.Laws.{data-back, data-passed}
 use Rattle.time.specs.Time.{isTime, timeOctets, timeIn, digitsOf, clearedTime, capitalTime}
@@ -174,7 +174,7 @@ module _ {octets : List ℕ} {answer : Said ℕ} (r : SmsDeliver) (e : deliverin
         delivered (record { first = f; oa = oa; pid = r .«tp_pid»; dcs = r .«tp_dcs»; scts = scts; udl = r .«tp_user_data_length»; ud = dataOf d }),
         1 + length oa + 1 + 1 + length scts + 1 + length (dataOf d),
         ap (read deliver) (sym (p .is))
-        ∙ written-read f (t .whole) (t .mti-is) oa (p .address .whole) (p .address .again) (r .«tp_pid») (r .«tp_dcs») scts (sym (time-size (digitsOf stamp) (p .time-is))) (r .«tp_user_data_length») (dataOf d) (sym (p .size-is)),
+            ∙ written-read f (t .whole) (t .mti-is) oa (p .address .whole) (p .address .again) (r .«tp_pid») (r .«tp_dcs») scts (sym (time-size (digitsOf stamp) (p .time-is))) (r .«tp_user_data_length») (dataOf d) (sym (p .size-is)),
         made-cleared _ ∙ same-record r f t (p .mti-is) oa scts (p .address .back ∙ address-held a la) (time-back stamp (p .time-is) lt) (data-back d ld),
       )
 
@@ -184,3 +184,7 @@ deliver-demand2 = record {
   excepted = λ r t octets n e why x. absurd (never x);
   only = λ r why x. absurd (never x);
 }
+
+pub deliver-counts : (r : SmsDeliver) (xs : List ℕ) (a : Said ℕ) → delivering r ≡ made xs a → a ≡ gives (length xs)
+unfolding delivering making
+deliver-counts r xs a e = made-counts _ _ (made-unless LengthTooLarge (tooLong r) e .1)

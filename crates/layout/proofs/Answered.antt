@@ -26,7 +26,7 @@ module _ {R : Type 0} (blank : R) where
   done-read (halted why) e = let z : _≡_ {A = ℕ} 0 1 = cc in absurd (omega arith)
 
   module _ (cleared : R → R) (l : Layout R) (write : R → Making (Said ℕ)) (stopped : Bool) (d : Demand3 cleared l write stopped) where
-    pub answers3 : Answers3 cleared l (λ s. answer blank (read l s)) (λ r buffer. lend refuses (write r) buffer) stopped
+    pub answers3 : Answers3 cleared blank l write stopped
     answers3 = record {
       takes = λ s. (
         λ e. let (n, is) = done-read (read l s) e in d .takes s .0 (answer blank (read l s) .1, n, is),
@@ -54,8 +54,8 @@ module _ {R : Type 0} (blank : R) where
 
   module _ (Typed : R → Type 0) (compared capitalised : R → R) (layoutOf : R → Layout R) (write : R → Making (Said ℕ)) (exception : R → Said Unit) (may : R → Bool)
       (d : Demand2 Typed compared capitalised layoutOf write exception may) (counts : (r : R) (xs : List ℕ) (a : Said ℕ) → write r ≡ made xs a → a ≡ gives (length xs)) where
-    pub answers2 : Answers2 Typed compared capitalised (λ r s. answer blank (read (layoutOf r) s)) (λ r buffer. lend refuses (write r) buffer) exception
+    pub answers2 : Answers2 Typed compared capitalised blank layoutOf write exception
     answers2 = record {
       back = λ r t buffer n e x. let (q, m, is, same) = d .back r t _ n (written (write r) buffer n (counts r) e) x in (ap (λ y. answer blank y .0) is, ap (λ y. compared (answer blank y .1)) is ∙ same);
-      excepted = λ r t buffer n e why x. ap (λ y. answer blank y .0) (d .excepted r t _ n (written (write r) buffer n (counts r) e) why x);
+      excepted = λ r t buffer n e why x. ap (answer blank) (d .excepted r t _ n (written (write r) buffer n (counts r) e) why x);
     }

@@ -25,13 +25,14 @@ pub record Demand3 {R : Type 0} (cleared : R → R) (l : Layout R) (write : R �
       → (unwritable l stopped s ≡ false → lend refuses (write r) buffer ≡ (gives (length (canonicalOf l s)), canonicalOf l s ++ drop (length (canonicalOf l s)) buffer))
       × (unwritable l stopped s ≡ true → (why : Refusal) × (lend refuses (write r) buffer ≡ (refuses why, buffer)))
 
--- the same of what the public functions answer: `decode s` is the reader's outcome and record for a string s, `encode r buffer` the writer's answer for a record r and a lent buffer, and the buffer afterwards
-pub record Answers3 {R : Type 0} (cleared : R → R) (l : Layout R) (decode : List ℕ → Said Unit × R) (encode : R → List ℕ → Said ℕ × List ℕ) (stopped : Bool) : Type 0 where
-  pub takes : (s : List ℕ) → (decode s .0 ≡ fine) ↔ Generated l s
-  pub equals : (s t : List ℕ) → Octets s → Octets t → decode s .0 ≡ fine → decode t .0 ≡ fine → (cleared (decode s .1) ≡ cleared (decode t .1)) ↔ (canonicalOf l s ≡ canonicalOf l t)
-  pub writes : (s : List ℕ) → Octets s → decode s .0 ≡ fine → (buffer : List ℕ) → length (canonicalOf l s) ≤ length buffer
-      → (unwritable l stopped s ≡ false → encode (decode s .1) buffer ≡ (gives (length (canonicalOf l s)), canonicalOf l s ++ drop (length (canonicalOf l s)) buffer))
-      × (unwritable l stopped s ≡ true → (why : Refusal) × (encode (decode s .1) buffer ≡ (refuses why, buffer)))
+-- the same of what the public functions answer: the reader to a string its outcome and record, the writer to a record and a lent buffer its answer and the buffer afterwards
+pub record Answers3 {R : Type 0} (cleared : R → R) (blank : R) (l : Layout R) (write : R → Making (Said ℕ)) (stopped : Bool) : Type 0 where
+  pub takes : (s : List ℕ) → (answer blank (read l s) .0 ≡ fine) ↔ Generated l s
+  pub equals : (s t : List ℕ) → Octets s → Octets t → answer blank (read l s) .0 ≡ fine → answer blank (read l t) .0 ≡ fine
+      → (cleared (answer blank (read l s) .1) ≡ cleared (answer blank (read l t) .1)) ↔ (canonicalOf l s ≡ canonicalOf l t)
+  pub writes : (s : List ℕ) → Octets s → answer blank (read l s) .0 ≡ fine → (buffer : List ℕ) → length (canonicalOf l s) ≤ length buffer → let r = answer blank (read l s) .1 in
+      (unwritable l stopped s ≡ false → lend refuses (write r) buffer ≡ (gives (length (canonicalOf l s)), canonicalOf l s ++ drop (length (canonicalOf l s)) buffer))
+      × (unwritable l stopped s ≡ true → (why : Refusal) × (lend refuses (write r) buffer ≡ (refuses why, buffer)))
 
 -- ---- demand 2
 
@@ -46,11 +47,11 @@ pub record Demand2 {R : Type 0} (Typed : R → Type 0) (compared capitalised : R
   pub only : (r : R) (why : Refusal) → exception r ≡ refuses why → may r ≡ true
 
 -- the same of what the public functions answer: n octets were written to a lent buffer, and these are read
-pub record Answers2 {R : Type 0} (Typed : R → Type 0) (compared capitalised : R → R) (decode : R → List ℕ → Said Unit × R) (encode : R → List ℕ → Said ℕ × List ℕ) (exception : R → Said Unit) : Type 0 where
-  pub back : (r : R) → Typed r → (buffer : List ℕ) (n : ℕ) → encode r buffer .0 ≡ gives n → exception r ≡ fine
-      → (decode r (take n (encode r buffer .1)) .0 ≡ fine) × (compared (decode r (take n (encode r buffer .1)) .1) ≡ capitalised (compared r))
-  pub excepted : (r : R) → Typed r → (buffer : List ℕ) (n : ℕ) → encode r buffer .0 ≡ gives n → (why : Refusal) → exception r ≡ refuses why
-      → decode r (take n (encode r buffer .1)) .0 ≡ refuses why
+pub record Answers2 {R : Type 0} (Typed : R → Type 0) (compared capitalised : R → R) (blank : R) (layoutOf : R → Layout R) (write : R → Making (Said ℕ)) (exception : R → Said Unit) : Type 0 where
+  pub back : (r : R) → Typed r → (buffer : List ℕ) (n : ℕ) → lend refuses (write r) buffer .0 ≡ gives n → exception r ≡ fine → let reading = answer blank (read (layoutOf r) (take n (lend refuses (write r) buffer .1))) in
+      (reading .0 ≡ fine) × (compared (reading .1) ≡ capitalised (compared r))
+  pub excepted : (r : R) → Typed r → (buffer : List ℕ) (n : ℕ) → lend refuses (write r) buffer .0 ≡ gives n → (why : Refusal) → exception r ≡ refuses why
+      → answer blank (read (layoutOf r) (take n (lend refuses (write r) buffer .1))) ≡ (refuses why, blank)
 
 -- ---- read and written back
 

@@ -85,3 +85,9 @@ pub made-told : {octets : List ℕ} {answer : Said ℕ} (checks : List Check) (x
 unfolding checked
 made-told [] xs e = (refl, (cc))
 made-told ((why unless test) ∷ checks) xs e = let (t, f) = made-if why test e in let (g, x) = made-told checks xs f in (rw t g, x)
+
+-- and counts them
+pub made-counts : {octets : List ℕ} {answer : Said ℕ} (checks : List Check) (xs : List ℕ) → checked checks xs ≡ made octets answer → answer ≡ gives (length octets)
+unfolding checked
+made-counts {octets} [] xs e = let same : xs ≡ octets = cc in cc
+made-counts ((why unless test) ∷ checks) xs e = made-counts checks xs (made-if why test e .1)
