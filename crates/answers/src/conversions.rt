@@ -1,4 +1,5 @@
-// The requests that name no kind of message: text packed and unpacked, addresses, codings and times.
+// The requests that name no kind of message: text packed and unpacked, addresses, codings, times and header elements.
+use crate::elements;
 use crate::fields;
 use crate::fields::Lent;
 use crate::fields::unless_refused;
@@ -29,18 +30,31 @@ const CODING: usize = 5;
 
 const DIGITS: usize = 6;
 
+const ELEMENTS: usize = 7;
+
+const WRITE_ELEMENTS: usize = 8;
+
 // How many there are; as a request's number it says that there is no such request.
-pub const REQUESTS: usize = 7;
+pub const REQUESTS: usize = 9;
 
 // The number of the request with a name.
 pub fn request_named(name: &[u8]) -> usize {
-    let names = b"unpack\nunpack-header\npack\npack-header\naddress\ncoding\ndigits\n";
+    let names = b"\
+        unpack\n\
+        unpack-header\n\
+        pack\n\
+        pack-header\n\
+        address\n\
+        coding\n\
+        digits\n\
+        elements\n\
+        write-elements\n";
     entry_number(names, name)
 }
 
 // The reason against the line of a request; `request_line::values::has_form` says which form each letter stands for.
 pub fn against_request(request: usize, line: &[u8]) -> usize {
-    let forms = b"wco\nwco\nwo\nwoo\nwnno\nwx\nwnnnnnnz\n";
+    let forms = b"wco\nwco\nwo\nwoo\nwnno\nwx\nwnnnnnnz\nwo\nwe\n";
     reasons::against_fields(entry(forms, request), line)
 }
 
@@ -160,6 +174,8 @@ pub fn answer(
         ADDRESS => address(line, show, out, at),
         CODING => coding(line, out, at),
         DIGITS => digits(line, show, out, at),
+        ELEMENTS => elements::read(octets, show, out, at),
+        WRITE_ELEMENTS => elements::write(field(line, 1), show, out, at),
         _ => at,
     }
 }

@@ -82,13 +82,17 @@ pub fn unless_refused(out: &mut Output, at: usize, next: usize, o: Outcome, show
     }
 }
 
-// What a writer is lent.
-pub type Lent = [u8; 255];
-
-// What a writer answered, and the octets that it wrote.
-pub fn written(out: &mut Output, at: usize, w: Written, lent: &Lent, show: bool) -> usize {
+// What a writer answered, and the octets that it wrote to what it was lent.
+pub fn written_to(out: &mut Output, at: usize, w: Written, lent: &[u8], show: bool) -> usize {
     match w {
         Written::Done(n) => octets(out, at, b"ok ", between(lent, 0, n)),
         Written::Refused(why) => refused(out, at, why.number(), show),
     }
+}
+
+// What a writer of messages is lent.
+pub type Lent = [u8; 255];
+
+pub fn written(out: &mut Output, at: usize, w: Written, lent: &Lent, show: bool) -> usize {
+    written_to(out, at, w, lent, show)
 }

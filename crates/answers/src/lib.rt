@@ -1,5 +1,6 @@
 // The answers to requests: a reader's record, a writer's octets, and conversions that need no message.
 pub mod conversions;
+mod elements;
 pub mod fields;
 pub mod reading;
 pub mod writing;

@@ -1,6 +1,5 @@
 // The lines in which a message is shown: a label and a value each. Functions are named for what they write.
 use output::Output;
-use output::hexadecimal::put_hex;
 use text_fields::slices::between;
 use tpdu::SMSAddress;
 use tpdu::Time;
@@ -14,13 +13,11 @@ use wording::meanings::put_cause;
 use wording::meanings::put_coding;
 use wording::meanings::put_status;
 use wording::refusals::put_number_and_meaning;
+use wording::values::put_empty;
+use wording::values::put_octets;
 
 fn line_end(out: &mut Output, at: usize) -> usize {
     output::put(out, at, b"\n")
-}
-
-fn empty(out: &mut Output, at: usize) -> usize {
-    output::put(out, at, b"(empty)")
 }
 
 // Words that are always the same.
@@ -32,23 +29,16 @@ pub fn words_line(out: &mut Output, at: usize, label: usize, words: &[u8]) -> us
 
 // ---- octets and texts
 
-fn hexadecimal(out: &mut Output, at: usize, octets: &[u8]) -> usize {
-    if octets.len() == 0 {
-        return empty(out, at);
-    }
-    put_hex(out, at, octets)
-}
-
 // Octets in hexadecimal.
 pub fn octets_line(out: &mut Output, at: usize, label: usize, octets: &[u8]) -> usize {
     let start = put_label(out, at, label);
-    let end = hexadecimal(out, start, octets);
+    let end = put_octets(out, start, octets);
     line_end(out, end)
 }
 
 fn utf8(out: &mut Output, at: usize, text: &[u8]) -> usize {
     if text.len() == 0 {
-        return empty(out, at);
+        return put_empty(out, at);
     }
     put_utf8(out, at, text)
 }
@@ -62,7 +52,7 @@ pub fn utf8_line(out: &mut Output, at: usize, text: &[u8]) -> usize {
 
 fn utf16(out: &mut Output, at: usize, octets: &[u8]) -> usize {
     if octets.len() == 0 {
-        return empty(out, at);
+        return put_empty(out, at);
     }
     put_utf16(out, at, octets)
 }
@@ -90,7 +80,7 @@ fn address(out: &mut Output, at: usize, address: SMSAddress) -> usize {
     let text = address.address;
     let n = address.address_length;
     if n == 0 {
-        return empty(out, at);
+        return put_empty(out, at);
     }
     let next = plus(out, at, address.ton);
     put_utf8(out, next, between(&text, 0, n))
@@ -162,10 +152,10 @@ fn reason(out: &mut Output, at: usize, refusal: u8) -> usize {
     output::put(out, end, b")")
 }
 
-// Data that can't be read as text, and why.
-pub fn unread_line(out: &mut Output, at: usize, data: &[u8], refusal: u8) -> usize {
-    let start = put_label(out, at, labels::DATA);
-    let next = hexadecimal(out, start, data);
+// Octets that can't be read, and why.
+pub fn unread_line(out: &mut Output, at: usize, label: usize, octets: &[u8], refusal: u8) -> usize {
+    let start = put_label(out, at, label);
+    let next = put_octets(out, start, octets);
     let end = reason(out, next, refusal);
     line_end(out, end)
 }

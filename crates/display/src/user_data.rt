@@ -1,4 +1,4 @@
-// User data shown: the coding, the header if there is one, and the text, or the data as they are.
+// User data shown: the coding, the header with its elements if there is one, and the text, or the data as they are.
 use crate::lines::coding_line;
 use crate::lines::octets_line;
 use crate::lines::unread_line;
@@ -10,17 +10,33 @@ use text_fields::slices::between;
 use tpdu::OptionalOctet;
 use tpdu::UserData;
 use tpdu::UserDataCoding;
+use wording::elements::put_elements;
 use wording::labels;
 use wording::refusals::refusal_number;
 
-// ---- 7-bit coding; no refusal is number 0
+// ---- headers; no refusal is number 0
+
+// A header in hexadecimal, and a line for each of its elements, or why it has none that can be read.
+fn header_lines(out: &mut Output, at: usize, header: &[u8]) -> usize {
+    let read = tpdu::read_header_elements(header);
+    let outcome = read.outcome;
+    let elements = read.elements;
+    let refusal = refusal_number(outcome);
+    if refusal != 0 {
+        return unread_line(out, at, labels::HEADER, header, refusal);
+    }
+    let next = octets_line(out, at, labels::HEADER, header);
+    put_elements(out, next, elements, true)
+}
+
+// ---- 7-bit coding
 
 // A text, or the data that it couldn't be read from.
 fn text_or_data(out: &mut Output, at: usize, refusal: u8, text: &[u8], data: &[u8]) -> usize {
     if refusal == 0 {
         return utf8_line(out, at, text);
     }
-    unread_line(out, at, data, refusal)
+    unread_line(out, at, labels::DATA, data, refusal)
 }
 
 fn septets(out: &mut Output, at: usize, udl: u8, data: &[u8]) -> usize {
@@ -34,7 +50,7 @@ fn septets(out: &mut Output, at: usize, udl: u8, data: &[u8]) -> usize {
 // The header of a text that was read.
 fn header(out: &mut Output, at: usize, refusal: u8, octets: &[u8]) -> usize {
     if refusal == 0 {
-        return octets_line(out, at, labels::HEADER, octets);
+        return header_lines(out, at, octets);
     }
     at
 }
@@ -79,7 +95,7 @@ fn header_and_octets(out: &mut Output, at: usize, coding: UserDataCoding, data: 
     if data.len() < h {
         return octets_line(out, at, labels::DATA, data);
     }
-    let next = octets_line(out, at, labels::HEADER, between(data, 0, h));
+    let next = header_lines(out, at, between(data, 0, h));
     whole_octets(out, next, coding, after(data, h))
 }
 

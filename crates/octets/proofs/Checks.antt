@@ -12,8 +12,8 @@ use Rattle.octets.specs.Checks.{Check, _unless_, found, checked, afterCh
 use Rattle.octets.specs.Lent.{Making, refused, made}
 use Rattle.octets.specs.declared.Refusal.{Refusal}
 
--- what is fine is no refusal
-pub never : {why : Refusal} → fine ≡ refuses why → ⊥
+-- what gives values is no refusal
+pub never : {A : Type 0} {x : A} {why : Refusal} → gives x ≡ refuses why → ⊥
 never e = let z : _≡_ {A = ℕ} 0 1 = cc in omega arith
 
 -- ---- one list behind the other: what the first finds decides

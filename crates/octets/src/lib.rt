@@ -35,6 +35,8 @@ pub enum Refusal {
     ZoneOutOfRange,
     TooManySeptets,
     OutputTooShort,
+    ElementPassesHeader,
+    ElementsTooLong,
 }
 
 impl Refusal {
@@ -66,6 +68,8 @@ impl Refusal {
             Refusal::ZoneOutOfRange => 21,
             Refusal::TooManySeptets => 22,
             Refusal::OutputTooShort => 23,
+            Refusal::ElementPassesHeader => 24,
+            Refusal::ElementsTooLong => 25,
         }
     }
 }

@@ -58,6 +58,7 @@ pub fn put_bad(out: &mut Output, at: usize, reason: usize) -> usize {
 fn against_form(form: u8) -> usize {
     match form {
         b'o' => OCTETS,
+        b'e' => OCTETS,
         b'x' => CODING,
         _ => NUMBER,
     }

@@ -1,4 +1,5 @@
 // What a field or the value of a key may hold: numbers, octets, times and validity periods.
+use crate::elements::is_elements;
 use output::hexadecimal::is_hex_text;
 use output::hexadecimal::read_hex;
 use text_fields::lists::entry_number;
@@ -44,12 +45,12 @@ pub fn is_absent(value: &[u8]) -> bool {
     value.len() == 1 && value[0] == b'-'
 }
 
-// The hexadecimal digits of a field: none where it is -.
-fn digits_of(field: &[u8]) -> &[u8] {
-    if is_absent(field) {
-        return between(field, 0, 0);
+// A value, or nothing where it is -.
+pub fn unless_absent(value: &[u8]) -> &[u8] {
+    if is_absent(value) {
+        return between(value, 0, 0);
     }
-    field
+    value
 }
 
 // ---- validity periods: `relative:`, `absolute:` or `enhanced:`, and a value
@@ -84,12 +85,12 @@ fn is_zone(value: &[u8]) -> bool {
     decimal(value) <= 127
 }
 
-fn is_octet(value: &[u8]) -> bool {
+pub fn is_octet(value: &[u8]) -> bool {
     value.len() == 2 && is_hex_text(value)
 }
 
-fn is_octets(value: &[u8]) -> bool {
-    is_hex_text(digits_of(value))
+pub fn is_octets(value: &[u8]) -> bool {
+    is_hex_text(unless_absent(value))
 }
 
 // The digits of a time are any octets, as they stand; after x: they are given in hexadecimal.
@@ -114,7 +115,8 @@ fn is_period(value: &[u8]) -> bool {
 }
 
 // Whether a value has the form that a letter stands for: w a word, any; f a flag; n a number to 255; c a number of up
-// to nine digits; z a zone; x an octet; o octets; t a time; p a validity period; - absent; N and X: n and x, or absent.
+// to nine digits; z a zone; x an octet; o octets; e header elements; t a time; p a validity period; - absent; N and X: n
+// and x, or absent.
 pub fn has_form(form: u8, value: &[u8]) -> bool {
     match form {
         b'w' => true,
@@ -126,6 +128,7 @@ pub fn has_form(form: u8, value: &[u8]) -> bool {
         b'x' => is_octet(value),
         b'X' => is_octet(value) || is_absent(value),
         b'o' => is_octets(value),
+        b'e' => is_elements(value),
         b't' => is_time(value),
         b'p' => is_period(value),
         b'-' => is_absent(value),
@@ -165,7 +168,7 @@ pub fn octet_of(value: &[u8]) -> u8 {
 
 // Stores the octets of hexadecimal digits, those that fit; how many there are in all.
 pub fn octets_of(value: &[u8], array: &mut [u8]) -> usize {
-    let digits = digits_of(value);
+    let digits = unless_absent(value);
     let n = digits.len() / 2;
     let kept = least(n, array.len());
     read_hex(between(digits, 0, 2 * kept), array);

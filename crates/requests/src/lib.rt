@@ -28,6 +28,8 @@ pack-header HEX HEX          the same after a header
 address TON NPI HEX          the octets of an address
 coding DCS                   the coding of user data
 digits Y M D H M S Z         the digits of a time
+elements HEX                 the elements of a header
+write-elements II:HEX,..     the header of elements
 
 docs/REQUESTS.md has the keys and the answers.
 ",

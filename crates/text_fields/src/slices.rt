@@ -1,5 +1,6 @@
 // Octets cut, compared and searched.
 ghost use Prim.Native.Nat.{_≤_};
+ghost use lib.ListN.{length};
 
 // The smaller of two.
 pub fn least(a: usize, b: usize) -> usize
@@ -43,9 +44,9 @@ pub fn same(octets: &[u8], others: &[u8]) -> bool {
     octets.len() == others.len() && begins(octets, others)
 }
 
-// The first place from `from` on that holds an octet, or the end.
+// The first place from `from` on that holds an octet, or the end; `from` where that lies after the end.
 pub fn find(octets: &[u8], from: usize, octet: u8) -> usize
-    ensures { λ r. ⌜ from ≤ r ⌝ }
+    ensures { λ r. ⌜ (from ≤ r) × (from ≤ length (now (octets .entry)) → r ≤ length (now (octets .entry))) ⌝ }
 {
     let mut i = from;
     while i < octets.len() {

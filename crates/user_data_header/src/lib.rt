@@ -58,7 +58,7 @@ fn too_few_octets() -> UnpackedWithHeader
 }
 
 // The octets of a header: its first octet counts those that follow. (Empty data give 1, which is more than they have.)
-fn header_octets(data: &[u8]) -> usize
+pub fn header_octets(data: &[u8]) -> usize
     ensures { λ r. ⌜ (r ≡ headerOctets (now («data» .entry))) × (r ≤ 256) ⌝ }
 {
     septets::octet_or_zero(data, 0) as usize + 1

@@ -32,6 +32,8 @@ pub const DATA: usize = 13;
 
 pub const REFUSED: usize = 14;
 
+pub const ELEMENT: usize = 15;
+
 // The start of a line: two spaces, the label, and spaces up to the value.
 pub fn put_label(out: &mut Output, at: usize, label: usize) -> usize {
     let labels = b"\
@@ -49,7 +51,8 @@ pub fn put_label(out: &mut Output, at: usize, label: usize) -> usize {
         header    \n\
         text      \n\
         data      \n\
-        refused   \n";
+        refused   \n\
+        element   \n";
     let indent = output::put(out, at, b"  ");
     output::put(out, indent, entry(labels, label))
 }

@@ -1,5 +1,5 @@
 // The refusals in words: the name of each, and what it means. In the lists a refusal stands at its number:
-// place 0 is empty, since no refusal has that number, and so are places 24 to 36, whose refusals are not here yet.
+// place 0 is empty, since no refusal has that number, and so are places 26 to 36, whose refusals are not here yet.
 use output::Output;
 use text_fields::lists::entry;
 use tpdu::Outcome;
@@ -38,8 +38,8 @@ fn put_name(out: &mut Output, at: usize, refusal: u8) -> usize {
         ZoneOutOfRange\n\
         TooManySeptets\n\
         OutputTooShort\n\
-        \n\
-        \n\
+        ElementPassesHeader\n\
+        ElementsTooLong\n\
         \n\
         \n\
         \n\
@@ -80,8 +80,8 @@ fn put_meaning(out: &mut Output, at: usize, refusal: u8) -> usize {
         The zone passes 79 either way\n\
         Header and text take more than 255 septets\n\
         A lent output is too short\n\
-        \n\
-        \n\
+        An element passes the header's end, or a lone identifier octet is left\n\
+        Elements to be written need more than 255 octets after the first\n\
         \n\
         \n\
         \n\

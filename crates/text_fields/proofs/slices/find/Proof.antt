@@ -7,7 +7,7 @@ use Rattle.text_fields.proofs.slices.find.Statement.{statement}
 use Rattle.text_fields.proofs.slices.find.Tie as tie
 
 abbrev Inv-loop : tie.InvT-loop
-Inv-loop octets from octet i₀ i = from ≤ i
+Inv-loop octets from octet i₀ i = (from ≤ i) × (from ≤ length octets → i ≤ length octets)
 
 abbrev μ-loop : tie.MeasureT-loop
 μ-loop octets from octet i₀ i = length octets - i
@@ -24,4 +24,4 @@ find-spec =
     (λ c. omega arith)
     (λ c. omega arith)
     (λ c. omega arith)
-    (λ c. omega arith))
+    (λ c. c .before .loop .inv))

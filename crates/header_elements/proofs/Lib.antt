@@ -1,0 +1,6 @@
+pub mod Apart
+pub mod Held
+pub mod Known
+pub mod Laws
+pub mod Storing
+pub mod Writing

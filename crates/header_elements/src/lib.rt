@@ -1,0 +1,170 @@
+// Elements of a user data header (TS 23.040 §9.2.3.24).
+ghost use mathlib.Core.Path.{_≡_};
+ghost use mathlib.Core.List.{_∷_};
+ghost use Prim.Native.Nat.{_+_, _*_, _≤_};
+ghost use lib.ListN.{length};
+ghost use Rattle.octets.specs.Answers.{refuses, outcomeSays, writtenSays};
+ghost use Rattle.octets.specs.Lent.{lend, Wrote};
+ghost use Rattle.header_elements.specs.Elements.{elementsOf, joined};
+ghost use Rattle.header_elements.specs.Record.{answer, elementsRead, elementsWith, total, headerMaking};
+use octets::Outcome;
+use octets::Refusal;
+use octets::Written;
+
+// Elements: identifiers, lengths, and the values end to end. A header has at most 127 elements and 253 octets of values.
+pub struct HeaderElements {
+    pub count: usize,
+    pub identifiers: [u8; 127],
+    pub lengths: [u8; 127],
+    pub octets: [u8; 253],
+}
+
+// What reading gives: the elements, none on a refusal.
+pub struct ElementsRead {
+    pub outcome: Outcome,
+    pub elements: HeaderElements,
+}
+
+fn refused(why: Refusal) -> ElementsRead
+    ensures { λ r. ⌜ (outcomeSays (r .outcome), r .elements) ≡ answer (refuses why) ⌝ }
+{
+    ElementsRead {
+        outcome: Outcome::Refused(why),
+        elements: HeaderElements {
+            count: 0,
+            identifiers: [0u8; 127],
+            lengths: [0u8; 127],
+            octets: [0u8; 253],
+        },
+    }
+}
+
+// The elements of the octets after a header's first.
+fn read_elements(body: &[u8]) -> ElementsRead
+    requires { ⌜ length (now body) ≤ 255 ⌝ }
+    ensures { λ r. ⌜ (outcomeSays (r .outcome), r .elements) ≡ answer (elementsOf (now (body .entry))) ⌝ }
+{
+    let mut identifiers = [0u8; 127];
+    let mut lengths = [0u8; 127];
+    let mut values = [0u8; 253];
+    let mut count = 0;
+    let mut filled = 0;
+    let mut at = 0;
+    while at + 1 < body.len() {
+        let start = at + 2;
+        let length = body[at + 1];
+        let next = start + length as usize;
+        if body.len() < next {
+            return refused(Refusal::ElementPassesHeader);
+        }
+        identifiers[count] = body[at];
+        lengths[count] = length;
+        filled = octets::put_octets(&mut values, filled, &body[start..next]);
+        count += 1;
+        at = next;
+    }
+    if at < body.len() {
+        return refused(Refusal::ElementPassesHeader);
+    }
+    ElementsRead {
+        outcome: Outcome::Done,
+        elements: HeaderElements {
+            count,
+            identifiers,
+            lengths,
+            octets: values,
+        },
+    }
+}
+
+// Takes a header apart; octets after it are not looked at.
+pub fn read_header_elements(header: &[u8]) -> ElementsRead
+    ensures { λ r. ⌜ (outcomeSays (r .outcome), r .elements) ≡ elementsRead (now (header .entry)) ⌝ }
+{
+    let there = header.len();
+    let end = user_data_header::header_octets(header);
+    if there < end {
+        return refused(Refusal::HeaderNotWhole);
+    }
+    read_elements(&header[1..end])
+}
+
+// The octets after the first that elements of these lengths need.
+fn octets_needed(lengths: &[u8]) -> usize
+    requires { ⌜ length (now lengths) ≤ 127 ⌝ }
+    ensures { λ r. ⌜ r ≡ 2 * length (now (lengths .entry)) + total (now (lengths .entry)) ⌝ }
+{
+    let mut needed = 2 * lengths.len();
+    let mut i = 0;
+    while i < lengths.len() {
+        needed += lengths[i] as usize;
+        i += 1;
+    }
+    needed
+}
+
+// Writes one element from `at` on; the place after it.
+fn put_element(out: &mut [u8], at: usize, identifier: u8, value: &[u8]) -> usize
+    requires { ⌜ (length (now value) ≤ 255) × (at + 2 + length (now value) ≤ length (now out)) ⌝ }
+    ensures { λ r. ⌜ Wrote at (identifier ∷ (length (now (value .entry)) ∷ now (value .entry))) (now (out .entry)) r (now (out .exit)) ⌝ }
+{
+    let p1 = octets::put_octet(out, at, identifier);
+    let p2 = octets::put_octet(out, p1, value.len() as u8);
+    octets::put_octets(out, p2, value)
+}
+
+// Writes elements in the order given from `at` on; the place after them.
+fn put_elements(
+    out: &mut [u8],
+    at: usize,
+    identifiers: &[u8],
+    lengths: &[u8],
+    values: &[u8],
+) -> usize
+    requires { ⌜ (length (now lengths) ≡ length (now identifiers)) × (total (now lengths) ≤ length (now values)) × (at + length (joined (elementsWith (now identifiers) (now lengths) (now values))) ≤ length (now out)) ⌝ }
+    ensures { λ r. ⌜ Wrote at (joined (elementsWith (now (identifiers .entry)) (now (lengths .entry)) (now (values .entry)))) (now (out .entry)) r (now (out .exit)) ⌝ }
+{
+    let count = identifiers.len();
+    let mut place = at;
+    let mut start = 0;
+    let mut left = count;
+    while 0 < left {
+        let i = count - left;
+        let next = start + lengths[i] as usize;
+        place = put_element(out, place, identifiers[i], &values[start..next]);
+        start = next;
+        left -= 1;
+    }
+    place
+}
+
+impl HeaderElements {
+    // Writes a header of the elements, in the order given, to the start of a lent output.
+    pub fn encode(self, out: &mut [u8]) -> Written
+        ensures { λ r. ⌜ (writtenSays r, now (out .exit)) ≡ lend refuses (headerMaking self) (now (out .entry)) ⌝ }
+    {
+        let count = self.count;
+        if 127 < count {
+            return Written::Refused(Refusal::ElementsTooLong);
+        }
+        let identifiers = self.identifiers;
+        let lengths = self.lengths;
+        let values = self.octets;
+        let needed = octets_needed(&lengths[..count]);
+        if 255 < needed {
+            return Written::Refused(Refusal::ElementsTooLong);
+        }
+        let size = needed + 1;
+        if out.len() < size {
+            return Written::Refused(Refusal::OutputTooShort);
+        }
+        let place = octets::put_octet(out, 0, needed as u8);
+        Written::Done(put_elements(
+            out,
+            place,
+            &identifiers[..count],
+            &lengths[..count],
+            &values,
+        ))
+    }
+}
