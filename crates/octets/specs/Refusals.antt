@@ -1,7 +1,7 @@
--- The refusals, by the number that document 01 gives each ("Refused, by number").
+-- The refusals, by the number that document 01 gives each ("Refused, by number"), and document 02 from 24 on.
 use Prim.Native.Nat.{ℕ}
 use Rattle.octets.specs.declared.Refusal.{Refusal}
-use Rattle.octets.specs.declared.Refusal.the-variants.{LengthTooLarge, OctetsEnd, WrongMessageType, UdhiTooLarge, ValidityFormatDisagrees, NoDestination, UserDataLengthDisagrees, UserDataTooLong, NumberTypeOrPlanTooLarge, NotInAlphabet, AddressTooLong, NotATime, IndicatorDisagrees, IndicatorExtended, UserDataWithoutLength, ParametersWithoutIndicator, HeaderNotWhole, HeaderPassesCount, TooFewOctets, CalendarOutOfRange, ZoneOutOfRange, TooManySeptets, OutputTooShort}
+use Rattle.octets.specs.declared.Refusal.the-variants.{LengthTooLarge, OctetsEnd, WrongMessageType, UdhiTooLarge, ValidityFormatDisagrees, NoDestination, UserDataLengthDisagrees, UserDataTooLong, NumberTypeOrPlanTooLarge, NotInAlphabet, AddressTooLong, NotATime, IndicatorDisagrees, IndicatorExtended, UserDataWithoutLength, ParametersWithoutIndicator, HeaderNotWhole, HeaderPassesCount, TooFewOctets, CalendarOutOfRange, ZoneOutOfRange, TooManySeptets, OutputTooShort, TooManyParts}
 
 abbrev pub refusalNumber : Refusal → ℕ
 -- a record's length field passes its array, or a text reader's count passes 255
@@ -50,3 +50,5 @@ refusalNumber ZoneOutOfRange = 21
 refusalNumber TooManySeptets = 22
 -- a lent output is too short
 refusalNumber OutputTooShort = 23
+-- no cutting into at most 255 parts exists
+refusalNumber TooManyParts = 26

@@ -34,6 +34,7 @@ pub enum Refusal {
     ZoneOutOfRange,
     TooManySeptets,
     OutputTooShort,
+    TooManyParts,
 }
 
 impl Refusal {
@@ -65,6 +66,7 @@ impl Refusal {
             Refusal::ZoneOutOfRange => 21,
             Refusal::TooManySeptets => 22,
             Refusal::OutputTooShort => 23,
+            Refusal::TooManyParts => 26,
         }
     }
 }
