@@ -1,0 +1,44 @@
+-- The parts of a text counted one by one.
+-- Assumes nothing.
+use Prim.Native.Nat.{ℕ, _+_, _≤_}
+use mathlib.Core.Path.{_≡_, refl, sym, _∙_, ap}
+use mathlib.Core.List.{List, [], _∷_, _++_}
+use mathlib.Core.Option.{Option, none, some}
+use native.Mathlib.Omega.{arith}
+use lib.ListN.{length, drop, length-append}
+use Rattle.gsm7.specs.Writing.{septetsOf}
+use Rattle.gsm7.proofs.Scanning.{scan-end}
+use Rattle.concatenation.specs.declared.Counted.{Counted}
+use Rattle.concatenation.specs.Cutting.{partsOf}
+use Rattle.concatenation.specs.Internal.{withRest, PartAt, lastLength, countedAs}
+use Rattle.concatenation.proofs.InTurn.{no-parts}
+
+-- what is left of a text, counted on
+abbrev pub countedOn : ℕ → ℕ → ℕ → Option (List ℕ) → Counted
+countedOn n k h none = Counted.NotCoded
+countedOn n k h (some rest) = Counted.All (n + length rest) (k + length (partsOf rest)) (lastLength h (partsOf rest))
+
+all : {n n′ k k′ h h′ : ℕ} → n ≡ n′ → k ≡ k′ → h ≡ h′ → Counted.All n k h ≡ Counted.All n′ k′ h′
+all p q r i = Counted.All (p i) (q i) (r i)
+
+pub counted-start : (o : Option (List ℕ)) → countedOn 0 0 0 o ≡ countedAs o
+counted-start none = refl
+counted-start (some rest) = all (omega arith) (omega arith) refl
+
+module _ (text : List ℕ) (from n k h : ℕ) {whole : Counted} (inv : countedOn n k h (septetsOf (drop from text)) ≡ whole) where
+  pub counted-next : (p : List ℕ) (next : ℕ) → PartAt text from p next → countedOn (n + length p) (k + 1) (length p) (septetsOf (drop next text)) ≡ whole
+  unfolding lastLength
+  counted-next p next part = by (septetsOf (drop next text)) refl ∙ inv
+    where
+      by : (o : Option (List ℕ)) → septetsOf (drop next text) ≡ o → countedOn (n + length p) (k + 1) (length p) o ≡ countedOn n k h (septetsOf (drop from text))
+      by none e = rw (part .septets, e)
+      by (some rest) e =
+          rw (part .septets, e)
+          (all (rw length-append (omega arith)) (rw (part .first rest e) (omega arith)) (rw (part .first rest e)))
+
+  pub counted-none : septetsOf (drop from text) ≡ none → Counted.NotCoded ≡ whole
+  counted-none e = rw e at inv
+
+  pub counted-end : length text ≤ from → Counted.All n k h ≡ whole
+  unfolding lastLength
+  counted-end l = all (omega arith) (rw no-parts (omega arith)) (rw no-parts) ∙ rw (scan-end text from l) at inv

@@ -1,0 +1,9 @@
+pub mod Escapes
+pub mod Taken
+pub mod InTurn
+pub mod Texts
+pub mod Laws
+pub mod Sizes
+pub mod Storing
+pub mod Counting
+pub mod Putting

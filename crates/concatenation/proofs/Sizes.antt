@@ -1,0 +1,45 @@
+-- How many octets the parts take: 141 each but the last.
+-- Assumes nothing.
+use Prim.Native.Nat.{ℕ, zero, suc, _+_, _-_, _*_, _<_, _≤_}
+use mathlib.Core.Path.{_≡_, refl, sym, _∙_, ap}
+use mathlib.Core.List.{List, [], _∷_, _++_}
+use native.Mathlib.Omega.{arith}
+use lib.ListN.{length, take, drop, length-append, length-drop}
+use lib.Seq.{length-take-le}
+use Rattle.septets.specs.Septets.{octetCount}
+use Rattle.concatenation.specs.Cutting.{Parts, most, cutInto, partsOf}
+use Rattle.concatenation.specs.Messages.{message, partHeader, numbered}
+use Rattle.concatenation.specs.Internal.{lastLength}
+use Rattle.concatenation.proofs.Taken.{most-some, none-of}
+use Rattle.concatenation.proofs.Laws.{part-size}
+
+-- every part but the last holds 152 or 153 septets
+abbrev pub Full : List (List ℕ) → Type 0
+Full [] = Unit
+Full (p ∷ ps) = (0 < length ps → 152 ≤ length p) × Full ps
+
+cut-full : (n : ℕ) (ss : List ℕ) → Full (cutInto n ss)
+unfolding cutInto
+cut-full zero ss = tt
+cut-full (suc n) [] = tt
+cut-full (suc n) (s ∷ ss) = (by (drop (most (s ∷ ss)) (s ∷ ss)) refl, cut-full n (drop (most (s ∷ ss)) (s ∷ ss)))
+  where
+    by : (rest : List ℕ) → drop (most (s ∷ ss)) (s ∷ ss) ≡ rest → 0 < length (cutInto n rest) → 152 ≤ length (take (most (s ∷ ss)) (s ∷ ss))
+    by [] e h = absurd (let z = rw (none-of n) at h in omega arith)
+    by (r ∷ rest) e h =
+        let left : length (s ∷ ss) - most (s ∷ ss) ≡ suc (length rest) = sym (length-drop (most (s ∷ ss)) (s ∷ ss)) ∙ ap length e in
+        rw (length-take-le (most (s ∷ ss)) (s ∷ ss) (omega arith)) (omega (arith, most-some (s ∷ ss)))
+
+pub parts-full : (ss : List ℕ) → Full (partsOf ss)
+parts-full ss = cut-full (length ss) ss
+
+module _ (reference total : ℕ) where
+  pub full-size : (n : ℕ) (p : List ℕ) → 152 ≤ length p → length p ≤ 153 → length (message (partHeader reference total n) p) ≡ 141
+  full-size n p h l = part-size reference total n p ∙ omega arith
+
+  pub parts-size : (n : ℕ) (ps : List (List ℕ)) → Parts ps → Full ps → 0 < length ps
+      → length (numbered reference total n ps) + 141 ≡ 141 * length ps + (1 + octetCount 0 (7 + lastLength 0 ps))
+  unfolding numbered lastLength
+  parts-size n [] h f pos = absurd (omega arith)
+  parts-size n (p ∷ []) h f pos = rw length-append (omega (arith, part-size reference total n p))
+  parts-size n (p ∷ q ∷ ps) h f pos = rw length-append (omega (arith, full-size n p (f .0 (omega arith)) (h .0 .0), parts-size (n + 1) (q ∷ ps) (h .1) (f .1) (omega arith)))

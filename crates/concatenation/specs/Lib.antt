@@ -1,0 +1,3 @@
+pub mod Cutting
+pub mod Messages
+pub mod Internal
