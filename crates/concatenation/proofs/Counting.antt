@@ -10,7 +10,7 @@ use Rattle.gsm7.specs.Writing.{septetsOf}
 use Rattle.gsm7.proofs.Scanning.{scan-end}
 use Rattle.concatenation.specs.declared.Counted.{Counted}
 use Rattle.concatenation.specs.Cutting.{partsOf}
-use Rattle.concatenation.specs.Internal.{withRest, PartAt, lastLength, countedAs}
+use Rattle.concatenation.specs.Internal.{withRest, PartAt, lastLength, countedAs, those}
 use Rattle.concatenation.proofs.InTurn.{no-parts}
 
 -- what is left of a text, counted on
@@ -42,3 +42,13 @@ module _ (text : List ℕ) (from n k h : ℕ) {whole : Counted} (inv : countedOn
   pub counted-end : length text ≤ from → Counted.All n k h ≡ whole
   unfolding lastLength
   counted-end l = all (omega arith) (rw no-parts (omega arith)) (rw no-parts) ∙ rw (scan-end text from l) at inv
+
+-- what the counts say of the septets
+pub counted-all : (o : Option (List ℕ)) (n k h : ℕ) → Counted.All n k h ≡ countedAs o
+    → (o ≡ some (those o)) × (n ≡ length (those o)) × (k ≡ length (partsOf (those o))) × (h ≡ lastLength 0 (partsOf (those o)))
+counted-all none n k h e = let z : _≡_ {A = ℕ} 0 1 = cc in absurd (omega arith)
+counted-all (some ss) n k h e = (refl, (cc), (cc), (cc))
+
+pub counted-not : (o : Option (List ℕ)) → Counted.NotCoded ≡ countedAs o → o ≡ none
+counted-not none e = refl
+counted-not (some ss) e = let z : _≡_ {A = ℕ} 0 1 = cc in absurd (omega arith)

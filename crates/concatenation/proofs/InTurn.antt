@@ -31,6 +31,10 @@ parts-cons s ss =
     ap (λ (l : List (List ℕ)). take (most (s ∷ ss)) (s ∷ ss) ∷ l)
     (cut-enough (length ss) (length (drop (most (s ∷ ss)) (s ∷ ss))) (drop (most (s ∷ ss)) (s ∷ ss)) (shorter (length ss) s ss (omega arith)) (omega arith))
 
+pub parts-some : (ss : List ℕ) → 0 < length ss → 0 < length (partsOf ss)
+parts-some [] h = absurd (omega arith)
+parts-some (s ∷ ss) h = rw (parts-cons s ss) (omega arith)
+
 -- a part that can hold no more is the first
 pub parts-next : (p rest : List ℕ) → 0 < length p → length p ≡ most (p ++ rest) → partsOf (p ++ rest) ≡ p ∷ partsOf rest
 parts-next [] rest h e = absurd (omega arith)

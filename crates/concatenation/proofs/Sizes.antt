@@ -3,14 +3,19 @@
 use Prim.Native.Nat.{ℕ, zero, suc, _+_, _-_, _*_, _<_, _≤_}
 use mathlib.Core.Path.{_≡_, refl, sym, _∙_, ap}
 use mathlib.Core.List.{List, [], _∷_, _++_}
+use mathlib.Core.Option.{some}
 use native.Mathlib.Omega.{arith}
 use lib.ListN.{length, take, drop, length-append, length-drop}
 use lib.Seq.{length-take-le}
 use Rattle.septets.specs.Septets.{octetCount}
+use Rattle.gsm7.specs.Writing.{septetsOf}
+use Rattle.gsm7.proofs.CaseByCase.{length-behind}
 use Rattle.concatenation.specs.Cutting.{Parts, most, cutInto, partsOf}
 use Rattle.concatenation.specs.Messages.{message, partHeader, numbered}
 use Rattle.concatenation.specs.Internal.{lastLength}
-use Rattle.concatenation.proofs.Taken.{most-some, none-of}
+use Rattle.concatenation.proofs.Escapes.{text-escapes}
+use Rattle.concatenation.proofs.Taken.{taken, most-some, none-of}
+use Rattle.concatenation.proofs.InTurn.{parts-some}
 use Rattle.concatenation.proofs.Laws.{part-size}
 
 -- every part but the last holds 152 or 153 septets
@@ -43,3 +48,23 @@ module _ (reference total : ℕ) where
   parts-size n [] h f pos = absurd (omega arith)
   parts-size n (p ∷ []) h f pos = rw length-append (omega (arith, part-size reference total n p))
   parts-size n (p ∷ q ∷ ps) h f pos = rw length-append (omega (arith, full-size n p (f .0 (omega arith)) (h .0 .0), parts-size (n + 1) (q ∷ ps) (h .1) (f .1) (omega arith)))
+
+last-small : (h : ℕ) (ps : List (List ℕ)) → h ≤ 153 → Parts ps → lastLength h ps ≤ 153
+unfolding lastLength
+last-small h [] l w = l
+last-small h (p ∷ ps) l w = last-small (length p) ps (w .0 .0) (w .1)
+
+-- ---- the octets of a text's messages
+
+pub one-size : (ss : List ℕ) → length (message [] ss) ≡ 1 + octetCount 0 (length ss)
+one-size ss = ap suc (length-behind [] ss) ∙ omega arith
+
+module _ (text ss : List ℕ) (e : septetsOf text ≡ some ss) where
+  parts-of : Parts (partsOf ss)
+  parts-of = taken ss (text-escapes text ss e) .cutting .parts
+
+  pub last-few : lastLength 0 (partsOf ss) ≤ 153
+  last-few = last-small 0 (partsOf ss) (omega arith) parts-of
+
+  pub all-size : 0 < length ss → (reference total : ℕ) → length (numbered reference total 1 (partsOf ss)) + 141 ≡ 141 * length (partsOf ss) + (1 + octetCount 0 (7 + lastLength 0 (partsOf ss)))
+  all-size some-left reference total = parts-size reference total 1 (partsOf ss) parts-of (parts-full ss) (parts-some ss some-left)

@@ -170,7 +170,12 @@ pub fn pack_gsm7_concatenated(text: &[u8], reference: u8, out: &mut [u8]) -> Con
     ensures { λ r. ⌜ (r, now (out .exit)) ≡ lend notSent (concatenating reference (now (text .entry))) (now (out .entry)) ⌝ }
 {
     let table = gsm7::encode::CODES;
-    let Counted::All { septets, parts, last } = count_parts(&table, text) else {
+    let Counted::All {
+        septets,
+        parts,
+        last,
+    } = count_parts(&table, text)
+    else {
         return refused(Refusal::NotInAlphabet);
     };
     if septets <= 160 {
