@@ -1,17 +1,13 @@
 -- The parts of septets, one after the other: the first is the one that can hold no more.
 -- Assumes nothing.
-use Prim.Native.Nat.{ℕ, zero, suc, _-_, _<_, _≤_}
+use Prim.Native.Nat.{ℕ, zero, suc, _<_, _≤_}
 use mathlib.Core.Path.{_≡_, refl, _∙_, ap, ap₂}
-use mathlib.Core.Bool.{Bool, true, false}
-use mathlib.Core.List.{List, [], _∷_, _++_}
-use mathlib.Core.Logic.{⊎-elim}
+use mathlib.Core.List.{List, [], _∷_, _++_, append-nil}
 use native.Mathlib.Omega.{arith}
-use borrow.Author.Tests.{leb-true, leb-false}
-use lib.Dec.{leb}
-use lib.ListN.{length, getD, take, drop, drop-of-length-le}
+use lib.ListN.{length, take, drop, drop-of-length-le}
 use lib.Seq.{take-at, drop-at, take-all}
 use Rattle.concatenation.specs.Cutting.{Part, most, cutInto, partsOf}
-use Rattle.concatenation.proofs.Taken.{most-is, shorter}
+use Rattle.concatenation.proofs.Taken.{longest, shorter}
 
 -- enough is as good as more
 cut-enough : (n m : ℕ) (ss : List ℕ) → length ss ≤ n → length ss ≤ m → cutInto n ss ≡ cutInto m ss
@@ -50,17 +46,6 @@ no-parts = refl
 pub parts-last : (p : List ℕ) → 0 < length p → Part p → partsOf p ≡ p ∷ []
 parts-last [] h w = absurd (omega arith)
 parts-last (s ∷ p) h w =
+    let under = rw append-nil at (longest (s ∷ p) [] w) in
     parts-cons s p
     ∙ ap₂ _∷_ (take-all (most (s ∷ p)) (s ∷ p) under) (ap partsOf (drop-of-length-le (s ∷ p) {i = most (s ∷ p)} under) ∙ no-parts)
-  where
-    escape : (getD (s ∷ p) 152 0 ≡ 0x1b) × (most (s ∷ p) ≡ 152) → length (s ∷ p) ≤ most (s ∷ p)
-    escape m = by-length (leb (length (s ∷ p)) 152) refl
-      where
-        by-length : (t : Bool) → leb (length (s ∷ p)) 152 ≡ t → length (s ∷ p) ≤ most (s ∷ p)
-        by-length true e = omega (arith, m .1, leb-true (length (s ∷ p)) 152 e)
-        by-length false e =
-            let i : length (s ∷ p) - 1 ≡ 152 = omega (arith, leb-false (length (s ∷ p)) 152 e, w .0) in
-            absurd (w .1 (rw i (m .0)))
-
-    under : length (s ∷ p) ≤ most (s ∷ p)
-    under = ⊎-elim escape (λ m. omega (arith, m .1, w .0)) (most-is (s ∷ p))

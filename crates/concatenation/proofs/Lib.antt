@@ -4,6 +4,7 @@ pub mod InTurn
 pub mod Texts
 pub mod Laws
 pub mod Sizes
+pub mod ReadBack
 pub mod Storing
 pub mod Counting
 pub mod Putting

@@ -14,9 +14,8 @@ use Rattle.concatenation.specs.Cutting.{Parts, most, cutInto, partsOf}
 use Rattle.concatenation.specs.Messages.{message, partHeader, numbered}
 use Rattle.concatenation.specs.Internal.{lastLength}
 use Rattle.concatenation.proofs.Escapes.{text-escapes}
-use Rattle.concatenation.proofs.Taken.{taken, most-some, none-of}
+use Rattle.concatenation.proofs.Taken.{taken, most-near, none-of}
 use Rattle.concatenation.proofs.InTurn.{parts-some}
-use Rattle.concatenation.proofs.Laws.{part-size}
 
 -- every part but the last holds 152 or 153 septets
 abbrev pub Full : List (List ℕ) → Type 0
@@ -33,21 +32,35 @@ cut-full (suc n) (s ∷ ss) = (by (drop (most (s ∷ ss)) (s ∷ ss)) refl, cut-
     by [] e h = absurd (let z = rw (none-of n) at h in omega arith)
     by (r ∷ rest) e h =
         let left : length (s ∷ ss) - most (s ∷ ss) ≡ suc (length rest) = sym (length-drop (most (s ∷ ss)) (s ∷ ss)) ∙ ap length e in
-        rw (length-take-le (most (s ∷ ss)) (s ∷ ss) (omega arith)) (omega (arith, most-some (s ∷ ss)))
+        rw (length-take-le (most (s ∷ ss)) (s ∷ ss) (omega arith)) (omega (arith, most-near (s ∷ ss)))
 
 pub parts-full : (ss : List ℕ) → Full (partsOf ss)
 parts-full ss = cut-full (length ss) ss
 
 module _ (reference total : ℕ) where
+  part-size : (n : ℕ) (p : List ℕ) → length (message (partHeader reference total n) p) ≡ 1 + octetCount 0 (7 + length p)
+  part-size n p = ap suc (length-behind (partHeader reference total n) p) ∙ omega arith
+
+  -- a part takes at most 141 octets, and exactly 141 where it holds 152 or 153 septets
+  pub under-size : (n : ℕ) (p : List ℕ) → length p ≤ 153 → length (message (partHeader reference total n) p) ≤ 141
+  under-size n p l = omega (arith, part-size n p)
+
   pub full-size : (n : ℕ) (p : List ℕ) → 152 ≤ length p → length p ≤ 153 → length (message (partHeader reference total n) p) ≡ 141
-  full-size n p h l = part-size reference total n p ∙ omega arith
+  full-size n p h l = part-size n p ∙ omega arith
 
   pub parts-size : (n : ℕ) (ps : List (List ℕ)) → Parts ps → Full ps → 0 < length ps
       → length (numbered reference total n ps) + 141 ≡ 141 * length ps + (1 + octetCount 0 (7 + lastLength 0 ps))
   unfolding numbered lastLength
   parts-size n [] h f pos = absurd (omega arith)
-  parts-size n (p ∷ []) h f pos = rw length-append (omega (arith, part-size reference total n p))
+  parts-size n (p ∷ []) h f pos = rw length-append (omega (arith, part-size n p))
   parts-size n (p ∷ q ∷ ps) h f pos = rw length-append (omega (arith, full-size n p (f .0 (omega arith)) (h .0 .0), parts-size (n + 1) (q ∷ ps) (h .1) (f .1) (omega arith)))
+
+-- never more than 255 times 141 octets
+pub parts-under : (reference total n : ℕ) (ps : List (List ℕ)) → Parts ps → length (numbered reference total n ps) ≤ 141 * length ps
+unfolding numbered
+parts-under reference total n [] h = omega arith
+parts-under reference total n (p ∷ ps) h =
+    rw length-append (omega (arith, under-size reference total n p (h .0 .0), parts-under reference total (n + 1) ps (h .1)))
 
 last-small : (h : ℕ) (ps : List (List ℕ)) → h ≤ 153 → Parts ps → lastLength h ps ≤ 153
 unfolding lastLength

@@ -7,7 +7,7 @@ use mathlib.Core.List.{List, [], _∷_, _++_, append-nil, append-assoc}
 use mathlib.Core.Option.{Option, none, some}
 use native.Mathlib.Omega.{arith}
 use native.Mathlib.Nat.{add-zero}
-use borrow.Author.Tests.{eq-eqb, ne-eqb, leb-true, leb-false}
+use borrow.Author.Tests.{eq-eqb, leb-true, leb-false}
 use lib.Dec.{leb}
 use lib.ListN.{length, getD, take, drop, length-append, List·getD-append}
 use lib.Seq.{sets, sets-eq, take-at, take-append-le, length-take-le, getD-at, getD-append-add}
@@ -24,6 +24,7 @@ use Rattle.concatenation.specs.Cutting.{Part, most, partsOf}
 use Rattle.concatenation.specs.declared.Stored.{Stored}
 use Rattle.concatenation.specs.Internal.{withRest, PartAt, StoredAs}
 use Rattle.concatenation.proofs.Escapes.{extended-code}
+use Rattle.concatenation.proofs.Taken.{longest, most-near}
 use Rattle.concatenation.proofs.InTurn.{no-parts, parts-next, parts-last}
 
 -- septets p are those of the characters from `from` to `i`
@@ -52,27 +53,19 @@ coded-part p c (Escaped k) says some-code h =
 coded-part p c Absent says some-code h = absurd (some-code refl)
 
 -- what one part can hold ends before a character that passes 153 septets
-module _ (p rest : List ℕ) (part : Part p) where
-  all-held : length p ≡ 153 → length p ≡ most (p ++ rest)
-  unfolding most
-  all-held e =
-      let l : 152 < length p = omega arith in
-      let i : length p - 1 ≡ 152 = omega arith in
-      let n : getD (p ++ rest) 152 0 ≡ 0x1b → ⊥ = λ q. part .1 (rw i (sym (List·getD-append p rest 0 152 l) ∙ q)) in
-      rw (ne-eqb _ _ n) e
-
-  one-less : length p ≡ 152 → length p ≡ most (p ++ (0x1b ∷ rest))
-  unfolding most
-  one-less e = rw (eq-eqb _ _ (getD-at p 0x1b rest 0 152 e)) e
+before-escape : (p rest : List ℕ) → length p ≡ 152 → length p ≡ most (p ++ (0x1b ∷ rest))
+unfolding most
+before-escape p rest e = rw (eq-eqb _ _ (getD-at p 0x1b rest 0 152 e)) e
 
 most-before : (p rest : List ℕ) (code : Code) → Part p → 153 < length p + length (septetsOfCode code) → length p ≡ most (p ++ (septetsOfCode code ++ rest))
 most-before p rest code part over = by-length (leb (length p) 152) refl code over
   where
     by-length : (t : Bool) → leb (length p) 152 ≡ t → (code : Code) → 153 < length p + length (septetsOfCode code) → length p ≡ most (p ++ (septetsOfCode code ++ rest))
     by-length true e (Single k) over = absurd (omega (arith, leb-true (length p) 152 e))
-    by-length true e (Escaped k) over = one-less p (k ∷ rest) part (omega (arith, leb-true (length p) 152 e))
+    by-length true e (Escaped k) over = before-escape p (k ∷ rest) (omega (arith, leb-true (length p) 152 e))
     by-length true e Absent over = absurd (omega (arith, leb-true (length p) 152 e))
-    by-length false e code over = all-held p (septetsOfCode code ++ rest) part (omega (arith, leb-false (length p) 152 e, part .0))
+    by-length false e code over =
+        let ss = p ++ (septetsOfCode code ++ rest) in omega (arith, leb-false (length p) 152 e, longest p (septetsOfCode code ++ rest) part, most-near ss)
 
 before-some : (code : Code) (o : Option (List ℕ)) (rest : List ℕ) → before code o ≡ some rest → (rest′ : List ℕ) × (rest ≡ septetsOfCode code ++ rest′)
 unfolding before

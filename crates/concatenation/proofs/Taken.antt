@@ -15,10 +15,10 @@ use Rattle.concatenation.proofs.Escapes.{Escapes, escapes-drop}
 
 -- ---- the most that the first part can hold
 
-abbrev pub Most : List ℕ → Type 0
+abbrev Most : List ℕ → Type 0
 Most ss = ((getD ss 152 0 ≡ 0x1b) × (most ss ≡ 152)) ⊎ ((getD ss 152 0 ≡ 0x1b → ⊥) × (most ss ≡ 153))
 
-pub most-is : (ss : List ℕ) → Most ss
+most-is : (ss : List ℕ) → Most ss
 unfolding most
 most-is ss = by-test (eqb (getD ss 152 0) 0x1b) refl
   where
@@ -47,7 +47,7 @@ module _ (ss : List ℕ) (w : Escapes ss) where
       )
 
   -- what it holds is a part
-  pub first-part : Part (take (most ss) ss)
+  first-part : Part (take (most ss) ss)
   first-part = ⊎-elim escape plain (most-is ss)
     where
       escape : (getD ss 152 0 ≡ 0x1b) × (most ss ≡ 152) → Part (take (most ss) ss)
@@ -66,7 +66,7 @@ module _ (ss : List ℕ) (w : Escapes ss) where
           by-length false e = all (leb-false _ _ e)
 
 -- no part of the septets' start is longer
-longest : (p rest : List ℕ) → Part p → length p ≤ most (p ++ rest)
+pub longest : (p rest : List ℕ) → Part p → length p ≤ most (p ++ rest)
 longest p rest h = ⊎-elim escape (λ m. omega (arith, m .1, h .0)) (most-is (p ++ rest))
   where
     by-length : (t : Bool) → leb (length p) 152 ≡ t → (getD (p ++ rest) 152 0 ≡ 0x1b) → length p ≤ 152
@@ -79,13 +79,13 @@ longest p rest h = ⊎-elim escape (λ m. omega (arith, m .1, h .0)) (most-is (p
     escape : (getD (p ++ rest) 152 0 ≡ 0x1b) × (most (p ++ rest) ≡ 152) → length p ≤ most (p ++ rest)
     escape m = rw (m .1) (by-length (leb (length p) 152) refl (m .0))
 
-pub most-some : (ss : List ℕ) → 152 ≤ most ss
-most-some ss = ⊎-elim (λ m. omega (arith, m .1)) (λ m. omega (arith, m .1)) (most-is ss)
+pub most-near : (ss : List ℕ) → (152 ≤ most ss) × (most ss ≤ 153)
+most-near ss = ⊎-elim (λ m. (omega (arith, m .1), omega (arith, m .1))) (λ m. (omega (arith, m .1), omega (arith, m .1))) (most-is ss)
 
 -- ---- the parts are a cutting
 
 pub shorter : (n : ℕ) (s : ℕ) (ss : List ℕ) → length (s ∷ ss) ≤ suc n → length (drop (most (s ∷ ss)) (s ∷ ss)) ≤ n
-shorter n s ss h = rw length-drop (omega (arith, most-some (s ∷ ss)))
+shorter n s ss h = rw length-drop (omega (arith, most-near (s ∷ ss)))
 
 cut-joined : (n : ℕ) (ss : List ℕ) → length ss ≤ n → joined (cutInto n ss) ≡ ss
 unfolding joined cutInto
@@ -186,7 +186,7 @@ pub taken : (ss : List ℕ) → Escapes ss → Taken ss (partsOf ss)
 taken ss w = record {
   cutting = record { whole = cut-joined (length ss) ss (omega arith); parts = cut-parts (length ss) ss w };
   fewest = fewest (length ss) ss (omega arith);
-  most = λ qs c e. as-much (length ss) ss (omega arith) qs c;
+  fullest = λ qs c e. as-much (length ss) ss (omega arith) qs c;
 }
 
 -- and there is no other
@@ -215,7 +215,7 @@ same-parts (p ∷ ps) (q ∷ qs) l a b e = by (length-same a b) (λ x y z. same-
 pub taken-once : (ss : List ℕ) (ps qs : List (List ℕ)) → Taken ss ps → Taken ss qs → ps ≡ qs
 taken-once ss ps qs a b =
     let l : length ps ≡ length qs = omega (arith, a .fewest qs (b .cutting), b .fewest ps (a .cutting)) in
-    same-parts ps qs l (a .most qs (b .cutting) (sym l)) (b .most ps (a .cutting) l) (a .cutting .whole ∙ sym (b .cutting .whole))
+    same-parts ps qs l (a .fullest qs (b .cutting) (sym l)) (b .fullest ps (a .cutting) l) (a .cutting .whole ∙ sym (b .cutting .whole))
 
 -- ---- how many there are
 
@@ -232,7 +232,7 @@ few (suc n) (s ∷ ss) = by (drop (most (s ∷ ss)) (s ∷ ss)) refl (few n (dro
   where
     by : (rest : List ℕ) → drop (most (s ∷ ss)) (s ∷ ss) ≡ rest → 152 * length (cutInto n rest) ≤ length rest + 152 → 152 * suc (length (cutInto n rest)) ≤ length (s ∷ ss) + 152
     by [] e h = rw (none-of n) (omega arith)
-    by (r ∷ rs) e h = omega (arith, most-some (s ∷ ss), sym (length-drop (most (s ∷ ss)) (s ∷ ss)) ∙ ap length e)
+    by (r ∷ rs) e h = omega (arith, most-near (s ∷ ss), sym (length-drop (most (s ∷ ss)) (s ∷ ss)) ∙ ap length e)
 
 pub parts-few : (ss : List ℕ) → 152 * length (partsOf ss) ≤ length ss + 152
 parts-few ss = few (length ss) ss
