@@ -5,6 +5,7 @@ pub mod Texts
 pub mod Laws
 pub mod Sizes
 pub mod ReadBack
+pub mod Known
 pub mod Storing
 pub mod Counting
 pub mod Putting
