@@ -26,8 +26,7 @@ use Rattle.concatenation.specs.declared.Concatenated.{Concatenated}
 use Rattle.concatenation.specs.Cutting.{Parts, partsOf}
 use Rattle.concatenation.specs.Messages.{message, partHeader, numbered, notSent, counted, concatenating}
 use Rattle.concatenation.specs.Received.{messageAt, read, readWithHeader, One, InParts, Received}
-use Rattle.concatenation.proofs.Escapes.{text-escapes}
-use Rattle.concatenation.proofs.Taken.{taken}
+use Rattle.concatenation.proofs.Taken.{text-taken}
 use Rattle.concatenation.proofs.Texts.{Texts, cut-texts}
 use Rattle.concatenation.proofs.Sizes.{Full, parts-full, full-size, under-size, parts-under, one-size}
 use Rattle.concatenation.proofs.Laws.{Case, uncoded, one, many, parts, case}
@@ -103,7 +102,7 @@ module _ (reference : ℕ) (text ss : List ℕ) (e : septetsOf text ≡ some ss)
 
   parts-received : 160 < length ss → length (partsOf ss) ≤ 255 → Received reference text (numbered reference (length (partsOf ss)) 1 (partsOf ss)) (length (partsOf ss))
   parts-received long h =
-      let t = taken ss (text-escapes text ss e) in
+      let t = text-taken text ss e in
       let parts = t .cutting .parts in
       let texts = cut-texts text ss e (partsOf ss) (t .cutting) in
       let total = length (partsOf ss) in

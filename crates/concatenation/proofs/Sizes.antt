@@ -13,8 +13,7 @@ use Rattle.gsm7.proofs.CaseByCase.{length-behind}
 use Rattle.concatenation.specs.Cutting.{Parts, most, cutInto, partsOf}
 use Rattle.concatenation.specs.Messages.{message, partHeader, numbered}
 use Rattle.concatenation.specs.Internal.{lastLength}
-use Rattle.concatenation.proofs.Escapes.{text-escapes}
-use Rattle.concatenation.proofs.Taken.{taken, most-near, none-of}
+use Rattle.concatenation.proofs.Taken.{text-taken, most-near, none-of}
 use Rattle.concatenation.proofs.InTurn.{parts-some}
 
 -- every part but the last holds 152 or 153 septets
@@ -74,7 +73,7 @@ one-size ss = ap suc (length-behind [] ss) ∙ omega arith
 
 module _ (text ss : List ℕ) (e : septetsOf text ≡ some ss) where
   parts-of : Parts (partsOf ss)
-  parts-of = taken ss (text-escapes text ss e) .cutting .parts
+  parts-of = text-taken text ss e .cutting .parts
 
   pub last-few : lastLength 0 (partsOf ss) ≤ 153
   last-few = last-small 0 (partsOf ss) (omega arith) parts-of

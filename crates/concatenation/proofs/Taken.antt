@@ -4,14 +4,16 @@ use Prim.Native.Nat.{ℕ, zero, suc, _+_, _-_, _*_, _<_, _≤_}
 use mathlib.Core.Path.{_≡_, refl, sym, _∙_, ap, ap₂, subst}
 use mathlib.Core.Bool.{Bool, true, false}
 use mathlib.Core.List.{List, [], _∷_, _++_}
+use mathlib.Core.Option.{some}
 use mathlib.Core.Logic.{_⊎_, inl, inr, ⊎-elim}
 use native.Mathlib.Omega.{arith}
 use borrow.Author.Tests.{eqb-true, eqb-false, leb-true, leb-false, ltb-true, ltb-false, eq-eqb, ne-eqb}
 use lib.Dec.{eqb, leb, ltb}
 use lib.ListN.{length, getD, take, drop, length-append, length-take, length-drop, take-append-drop, List·getD-append, List·getD-eq-default, drop-of-length-le}
 use lib.Seq.{getD-drop, getD-take, drop-nil, drop-append-add, drop-append-le, drop-at, take-all, length-take-le, take-at}
+use Rattle.gsm7.specs.Writing.{septetsOf}
 use Rattle.concatenation.specs.Cutting.{joined, Part, Parts, Cutting, AsMuch, Taken, most, cutInto, partsOf}
-use Rattle.concatenation.proofs.Escapes.{Escapes, escapes-drop}
+use Rattle.concatenation.proofs.Escapes.{Escapes, escapes-drop, text-escapes}
 
 -- ---- the most that the first part can hold
 
@@ -188,6 +190,9 @@ taken ss w = record {
   fewest = fewest (length ss) ss (omega arith);
   fullest = λ qs c e. as-much (length ss) ss (omega arith) qs c;
 }
+
+pub text-taken : (text ss : List ℕ) → septetsOf text ≡ some ss → Taken ss (partsOf ss)
+text-taken text ss e = taken ss (text-escapes text ss e)
 
 -- and there is no other
 same-parts : (ps qs : List (List ℕ)) → length ps ≡ length qs → AsMuch ps qs → AsMuch qs ps → joined ps ≡ joined qs → ps ≡ qs

@@ -187,7 +187,8 @@ pub fn pack_gsm7_concatenated(text: &[u8], reference: u8, out: &mut [u8]) -> Con
     if 255 < parts {
         return refused(Refusal::TooManyParts);
     }
-    if out.len() < (parts - 1) * 141 + 1 + ((last + 7) * 7 + 7) / 8 {
+    let full = parts - 1;
+    if out.len() < full * 141 + 1 + ((last + 7) * 7 + 7) / 8 {
         return refused(Refusal::OutputTooShort);
     }
     done(put_parts(&table, text, reference, parts as u8, out), parts)

@@ -39,9 +39,8 @@ pack-octets-requires c κs =
 
 returns : tie.Need-returns
 returns c =
-    let in-header = c .before .before .before .before .before .before .before .before .before .before .before .before .header-septets .ensures in
-    wrote-then (rw in-header at (c .before .before .before .before .before .before .before .before .before .before .put-octet .ensures))
-    (wrote-then (c .before .before .before .before .before .before .put-octets .ensures) (rw in-header at (c .before .before .pack-octets .ensures)))
+    rw (← c .before .before .before .before .before .before .before .before .before .before .before .before .header-septets .ensures)
+    (wrote-then (c .before .before .before .before .before .before .before .before .before .before .put-octet .ensures) (wrote-then (c .before .before .before .before .before .before .put-octets .ensures) (c .before .before .pack-octets .ensures)))
 
 pub put-message-spec : {M : Type 1} → statement M
 put-message-spec =
