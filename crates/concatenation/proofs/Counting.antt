@@ -1,8 +1,8 @@
 -- The parts of a text counted one by one.
 -- Assumes nothing.
 use Prim.Native.Nat.{ℕ, _+_, _≤_}
-use mathlib.Core.Path.{_≡_, refl, sym, _∙_, ap}
-use mathlib.Core.List.{List, [], _∷_, _++_}
+use mathlib.Core.Path.{_≡_, refl, _∙_}
+use mathlib.Core.List.{List}
 use mathlib.Core.Option.{Option, none, some}
 use native.Mathlib.Omega.{arith}
 use lib.ListN.{length, drop, length-append}
@@ -10,7 +10,7 @@ use Rattle.gsm7.specs.Writing.{septetsOf}
 use Rattle.gsm7.proofs.Scanning.{scan-end}
 use Rattle.concatenation.specs.declared.Counted.{Counted}
 use Rattle.concatenation.specs.Cutting.{partsOf}
-use Rattle.concatenation.specs.Internal.{withRest, PartAt, lastLength, countedAs, those}
+use Rattle.concatenation.specs.Internal.{PartAt, lastLength, countedAs, those}
 use Rattle.concatenation.proofs.InTurn.{no-parts}
 
 -- what is left of a text, counted on

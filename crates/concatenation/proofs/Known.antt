@@ -1,19 +1,18 @@
 -- Known rows: the messages of texts around 160 septets and around a cut, and the longest text that is sent.
 -- Assumes nothing.
 use Prim.Native.Nat.{ℕ, zero, suc, _+_, _*_, _<_, _≤_}
-use mathlib.Core.Path.{_≡_, refl, sym, _∙_, ap}
+use mathlib.Core.Path.{_≡_, refl, _∙_, ap}
 use mathlib.Core.List.{List, [], _∷_, _++_, append-nil, map}
-use mathlib.Core.Option.{Option, some}
+use mathlib.Core.Option.{some}
 use native.Mathlib.Omega.{arith}
 use native.Mathlib.Nat.{add-zero}
 use lib.ListN.{length, replicate, length-append, length-replicate, replicate-append-replicate}
-use Rattle.octets.specs.Lent.{Making, refused, made}
+use Rattle.octets.specs.Lent.{refused, made}
 use Rattle.octets.specs.declared.Refusal.the-variants.{TooManyParts}
 use Rattle.septets.specs.Septets.{numberOf, digitsOf, packedSeptets}
 use Rattle.gsm7.specs.Alphabet.{rowWith, indexOf}
 use Rattle.gsm7.specs.Reading.{utf8}
 use Rattle.gsm7.specs.Writing.{extendedCode, codeOf, same, twoOctets, threeOctets, firstCharacter, before, behind, scan, septetsOf}
-use Rattle.concatenation.specs.declared.Concatenated.{Concatenated}
 use Rattle.concatenation.specs.Cutting.{most, cutInto, partsOf}
 use Rattle.concatenation.specs.Internal.{codesOf}
 use Rattle.concatenation.specs.Messages.{message, partHeader, numbered, counted, messagesOf, concatenating}

@@ -1,7 +1,7 @@
 -- What was written reads back: the octets taken apart at every 141st, and each message read, give the text.
 -- Assumes nothing.
 use Prim.Native.Nat.{ℕ, zero, suc, _+_, _-_, _*_, _<_, _≤_}
-use mathlib.Core.Path.{_≡_, refl, sym, _∙_, ap, ap₂}
+use mathlib.Core.Path.{_≡_, refl, sym, _∙_, ap}
 use mathlib.Core.Bool.{Bool, true, false}
 use mathlib.Core.List.{List, [], _∷_, _++_, append-nil}
 use mathlib.Core.Option.{some}
@@ -14,18 +14,18 @@ use lib.Seq.{take-at, take-all, drop-append-add}
 use Rattle.octets.specs.Lent.{Making, refused, made, lend}
 use Rattle.octets.specs.Choice.{if_then_else_}
 use Rattle.octets.specs.declared.Refusal.the-variants.{OutputTooShort}
-use Rattle.octets.specs.declared.Outcome.the-variants.{Done, Refused}
-use Rattle.gsm7.specs.Reading.{textOf, unpacked, shown as shownText}
+use Rattle.octets.specs.declared.Outcome.the-variants.{Done}
+use Rattle.gsm7.specs.Reading.{textOf, shown as shownText}
 use Rattle.gsm7.specs.Writing.{septetsOf}
 use Rattle.gsm7.specs.Packing.{octetsBehind, packedAs}
 use Rattle.gsm7.proofs.CaseByCase.{packing-done}
 use Rattle.gsm7.proofs.PackingLaws.{packed-reads as plain-reads}
-use Rattle.user_data_header.specs.Header.{shown, unpackedWithHeader, packingWithHeader}
+use Rattle.user_data_header.specs.Header.{shown, packingWithHeader}
 use Rattle.user_data_header.proofs.Inverse.{packed-reads}
 use Rattle.concatenation.specs.declared.Concatenated.{Concatenated}
 use Rattle.concatenation.specs.Cutting.{Parts, partsOf}
 use Rattle.concatenation.specs.Messages.{message, partHeader, numbered, notSent, counted, concatenating}
-use Rattle.concatenation.specs.Received.{messageAt, read, readWithHeader, One, InParts, Received}
+use Rattle.concatenation.specs.Received.{messageAt, read, readWithHeader, Received}
 use Rattle.concatenation.proofs.Taken.{text-taken}
 use Rattle.concatenation.proofs.Texts.{Texts, cut-texts}
 use Rattle.concatenation.proofs.Sizes.{Full, parts-full, full-size, under-size, parts-under, one-size}

@@ -1,16 +1,15 @@
 -- A part stored character by character: it is whole where the next character passes 153 septets, or where the text ends.
 -- Assumes nothing.
-use Prim.Native.Nat.{ℕ, zero, suc, _+_, _-_, _*_, _<_, _≤_}
+use Prim.Native.Nat.{ℕ, _+_, _-_, _*_, _<_, _≤_}
 use mathlib.Core.Path.{_≡_, refl, sym, _∙_, ap, subst}
 use mathlib.Core.Bool.{Bool, true, false}
 use mathlib.Core.List.{List, [], _∷_, _++_, append-nil, append-assoc}
 use mathlib.Core.Option.{Option, none, some}
 use native.Mathlib.Omega.{arith}
-use native.Mathlib.Nat.{add-zero}
 use borrow.Author.Tests.{eq-eqb, leb-true, leb-false}
 use lib.Dec.{leb}
-use lib.ListN.{length, getD, take, drop, length-append, List·getD-append}
-use lib.Seq.{sets, sets-eq, take-at, take-append-le, length-take-le, getD-at, getD-append-add}
+use lib.ListN.{length, take, drop, length-append}
+use lib.Seq.{sets-eq, take-at, length-take-le, getD-at, getD-append-add}
 use Rattle.octets.specs.Lent.{Wrote}
 use Rattle.octets.proofs.Laws.{kept-by}
 use Rattle.gsm7.specs.declared.encode.Code.{Code}
@@ -108,7 +107,7 @@ module _ (text : List ℕ) (from : ℕ) (p : List ℕ) (i : ℕ) (s : Storing te
       last : (rest : List ℕ) → rest ≡ [] → partsOf (p ++ rest) ≡ p ∷ partsOf rest
       last rest e = rw (e, append-nil) (parts-last p pos (s .part) ∙ ap (λ (l : List (List ℕ)). p ∷ l) (sym no-parts))
 
-  module _ (h : i < length text) (c w : ℕ) (e : firstCharacter (drop i text) ≡ Read c w) (code : Code) (is : codeOf c ≡ code) where
+  module _ (h : i < length text) {c w : ℕ} (e : firstCharacter (drop i text) ≡ Read c w) {code : Code} (is : codeOf c ≡ code) where
     rest-is : scan (drop i text) 0 ≡ before code (scan (drop (i + w) text) 0)
     rest-is = scan-read text i h c w e ∙ rw is
 
@@ -150,9 +149,9 @@ module _ {text : List ℕ} {from : ℕ} {codes : List ℕ} {count i : ℕ} (s : 
   pub stores-end : from < length text → length text ≤ i → StoredAs text from codes (Stored.Part count i)
   stores-end h l = (part-ended text from (take count codes) i (s .is) h l, stored-size, s .array)
 
-  module _ (h : i < length text) (c w : ℕ) (e : firstCharacter (drop i text) ≡ Read c w) (code : Code) (is : codeOf c ≡ code) where
+  module _ (h : i < length text) {c w : ℕ} (e : firstCharacter (drop i text) ≡ Read c w) {code : Code} (is : codeOf c ≡ code) where
     pub stores-full : 153 < count + length (septetsOfCode code) → StoredAs text from codes (Stored.Part count i)
-    stores-full over = (part-full text from (take count codes) i (s .is) h c w e code is (rw stored-size over), stored-size, s .array)
+    stores-full over = (part-full text from (take count codes) i (s .is) h e is (rw stored-size over), stored-size, s .array)
 
     module _ {next : ℕ} {after : List ℕ} (wrote : Wrote count (septetsOfCode code) codes next after) where
       abbrev ks : List ℕ
@@ -168,7 +167,7 @@ module _ {text : List ℕ} {from : ℕ} {codes : List ℕ} {count i : ℕ} (s : 
           record {
             array = kept-by wrote ∙ s .array;
             room = room;
-            is = rw front (storing-more text from (take count codes) i (s .is) h c w e code is n (rw stored-size (omega (arith, wrote .place))));
+            is = rw front (storing-more text from (take count codes) i (s .is) h e is n (rw stored-size (omega (arith, wrote .place))));
           }
 
       -- septets that were stored after the part are not of it

@@ -1,15 +1,15 @@
 -- The parts that each hold the most that they can are a cutting; no cutting has fewer, and of those with as many each part in turn holds the most. No other cutting is so.
 -- Assumes nothing.
 use Prim.Native.Nat.{ℕ, zero, suc, _+_, _-_, _*_, _<_, _≤_}
-use mathlib.Core.Path.{_≡_, refl, sym, _∙_, ap, ap₂, subst}
+use mathlib.Core.Path.{_≡_, refl, sym, _∙_, ap, ap₂}
 use mathlib.Core.Bool.{Bool, true, false}
 use mathlib.Core.List.{List, [], _∷_, _++_}
 use mathlib.Core.Option.{some}
 use mathlib.Core.Logic.{_⊎_, inl, inr, ⊎-elim}
 use native.Mathlib.Omega.{arith}
-use borrow.Author.Tests.{eqb-true, eqb-false, leb-true, leb-false, ltb-true, ltb-false, eq-eqb, ne-eqb}
+use borrow.Author.Tests.{eqb-true, eqb-false, leb-true, leb-false, ltb-true, ltb-false}
 use lib.Dec.{eqb, leb, ltb}
-use lib.ListN.{length, getD, take, drop, length-append, length-take, length-drop, take-append-drop, List·getD-append, List·getD-eq-default, drop-of-length-le}
+use lib.ListN.{length, getD, take, drop, length-append, length-take, length-drop, take-append-drop, List·getD-append, List·getD-eq-default}
 use lib.Seq.{getD-drop, getD-take, drop-nil, drop-append-add, drop-append-le, drop-at, take-all, length-take-le, take-at}
 use Rattle.gsm7.specs.Writing.{septetsOf}
 use Rattle.concatenation.specs.Cutting.{joined, Part, Parts, Cutting, AsMuch, Taken, most, cutInto, partsOf}

@@ -1,11 +1,11 @@
 -- `concatenation::count_parts` meets its contract: what is left of the text, counted on, still gives the whole.
 -- Assumes nothing.
-use Prim.Native.Nat.{ℕ, _+_, _*_, _-_, _<_, _≤_}
-use mathlib.Core.Path.{_≡_, refl, sym, _∙_, subst}
+use Prim.Native.Nat.{ℕ, _*_, _-_, _≤_}
+use mathlib.Core.Path.{_≡_, refl, subst}
 use mathlib.Core.List.{List}
 use native.Mathlib.Omega.{arith}
 use denote.Ref.{now}
-use lib.ListN.{length, drop, take}
+use lib.ListN.{length, drop}
 use Rattle.gsm7.specs.Writing.{septetsOf}
 use Rattle.concatenation.specs.declared.Stored.{Stored}
 use Rattle.concatenation.specs.Internal.{StoredAs, countedAs}

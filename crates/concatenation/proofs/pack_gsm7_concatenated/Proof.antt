@@ -1,8 +1,8 @@
 -- `concatenation::pack_gsm7_concatenated` meets its contract, case by case: 10, one message, 26, parts; and 23 where these don't fit.
 -- Assumes nothing.
 use Prim.Native.Nat.{ℕ, _+_, _-_, _*_, _/_, _<_, _≤_}
-use mathlib.Core.Path.{_≡_, refl, sym, _∙_}
-use mathlib.Core.List.{List, []}
+use mathlib.Core.Path.{_≡_, sym, _∙_}
+use mathlib.Core.List.{List}
 use mathlib.Core.Option.{some}
 use native.Mathlib.Omega.{arith}
 use native.Mathlib.Nat.{zero-add}
@@ -12,7 +12,7 @@ use Rattle.octets.proofs.Laws.{lent-refused, lent-short, lent-done}
 use Rattle.gsm7.specs.Writing.{septetsOf}
 use Rattle.gsm7.proofs.ByCharacter.{codes-right}
 use Rattle.concatenation.specs.Cutting.{partsOf}
-use Rattle.concatenation.specs.Messages.{message, numbered, notSent}
+use Rattle.concatenation.specs.Messages.{numbered, notSent}
 use Rattle.concatenation.specs.Internal.{codesOf, lastLength}
 use Rattle.concatenation.proofs.Counting.{counted-all, counted-not}
 use Rattle.concatenation.proofs.Laws.{not-coded, one-message, too-many, in-parts}

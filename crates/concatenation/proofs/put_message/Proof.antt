@@ -1,7 +1,6 @@
 -- `concatenation::put_message` meets its contract: TP-UDL, header and packed septets are written one after the other.
 -- Assumes nothing.
 use Prim.Native.Nat.{_+_, _≤_}
-use mathlib.Core.Path.{_≡_}
 use native.Mathlib.Omega.{arith}
 use denote.Ref.{now}
 use lib.ListN.{length, length-append}

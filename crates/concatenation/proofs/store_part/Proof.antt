@@ -2,7 +2,6 @@
 -- Assumes nothing.
 use Prim.Native.Nat.{ℕ, _-_, _≤_}
 use mathlib.Core.Path.{_≡_, refl, sym, _∙_}
-use mathlib.Core.List.{List}
 use native.Mathlib.Omega.{arith}
 use borrow.Author.Tests.{lt-ltb}
 use denote.Ref.{now}
@@ -30,12 +29,7 @@ abbrev μ-loop : tie.MeasureT-loop
 -- ---- an octet that is a character of the alphabet
 
 abbrev Plain : Type 0
-Plain = lts.Then2
-    (character-at-reads.Asked, character-at-reads.Learnt, add-character-reads.Asked, add-character-reads.Learnt)
-    reads.Pre
-    reads.Post
-    Inv-loop
-    μ-loop
+Plain = lts.Then2 (character-at-reads.Asked, character-at-reads.Learnt, add-character-reads.Asked, add-character-reads.Learnt) reads.Pre reads.Post Inv-loop μ-loop
 
 abbrev octet-of : Plain → ℕ
 octet-of c = getD (now (c .before .before .before .before .before .before .before .args .text)) (c .before .before .before .before .before .loop .i) 0
@@ -47,14 +41,13 @@ loop-again : tie.Need-loop-again Inv-loop μ-loop
 loop-again c =
     let p = c .before in
     let l = p .before .before .before .before .before .loop in
-    stores-more (l .inv) (p .before .before .before .before .loop-test .taken) (octet-of p) 1 (first-one _ (l .i) (p .before .before .if1 .taken)) (Single _) (plain-code p)
-    (wrote-one _ _ _) (λ q. let z : _≡_ {A = ℕ} 0 1 = cc in omega arith) (omega arith)
+    stores-more (l .inv) (p .before .before .before .before .loop-test .taken) (first-one _ (l .i) (p .before .before .if1 .taken)) (plain-code p) (wrote-one _ _ _) (λ q. let z : _≡_ {A = ℕ} 0 1 = cc in omega arith) (omega arith)
 
 returns-4 : tie.Need-returns-4 Inv-loop μ-loop
 returns-4 c =
     let p = c .before in
     let l = p .before .before .before .before .before .loop in
-    stores-full (l .inv) (p .before .before .before .before .loop-test .taken) (octet-of p) 1 (first-one _ (l .i) (p .before .before .if1 .taken)) (Single _) (plain-code p) (omega arith)
+    stores-full (l .inv) (p .before .before .before .before .loop-test .taken) (first-one _ (l .i) (p .before .before .if1 .taken)) (plain-code p) (omega arith)
 
 -- ---- any other
 
@@ -63,55 +56,34 @@ returns c =
     let l = c .before .before .before .before .before .before .loop in
     storing-none _ _ _ (l .i) (l .inv .is) (scan-broken _ (l .i) (c .before .before .before .before .before .loop-test .taken) (sym (c .before .before .character-at .ensures) ∙ c .enum-told .given .1))
 
--- what is known once the septets of a character are stored
+-- the character whose septets were stored
 abbrev Stored : Type 0
-Stored = lts.After-add-character
-    (character-at-reads.Asked, character-at-reads.Learnt, add-character-reads.Asked, add-character-reads.Learnt)
-    reads.Pre
-    reads.Post
-    Inv-loop
-    μ-loop
+Stored = lts.After-add-character (character-at-reads.Asked, character-at-reads.Learnt, add-character-reads.Asked, add-character-reads.Learnt) reads.Pre reads.Post Inv-loop μ-loop
 
-abbrev text-of : Stored → List ℕ
-text-of c = now (c .before .before .before .before .before .before .before .before .before .before .before .args .text)
+character : (c : Stored) → firstCharacter (drop (c .before .before .before .before .before .before .before .before .before .loop .i) (now (c .before .before .before .before .before .before .before .before .before .before .before .args .text))) ≡ Read (c .before .before .before .c .given .0 .0) (c .before .before .before .c .given .0 .1 .0)
+character c = sym (c .before .before .before .before .before .character-at .ensures) ∙ c .before .before .before .c .given .1
 
-abbrev i-of : Stored → ℕ
-i-of c = c .before .before .before .before .before .before .before .before .before .loop .i
-
-abbrev char-of : Stored → ℕ
-char-of c = c .before .before .before .c .given .0 .0
-
-abbrev width-of : Stored → ℕ
-width-of c = c .before .before .before .c .given .0 .1 .0
-
-first-read : (c : Stored) → firstCharacter (drop (i-of c) (text-of c)) ≡ Read (char-of c) (width-of c)
-first-read c = sym (c .before .before .before .before .before .character-at .ensures) ∙ c .before .before .before .c .given .1
-
-wide : (c : Stored) → (1 ≤ width-of c) × (width-of c ≤ 3)
-wide c = first-width (drop (i-of c) (text-of c)) (char-of c) (width-of c) (first-read c)
+wide : (c : Stored) → (1 ≤ c .before .before .before .c .given .0 .1 .0) × (c .before .before .before .c .given .0 .1 .0 ≤ 3)
+wide c = first-width _ _ _ (character c)
 
 returns-2 : tie.Need-returns-2 Inv-loop μ-loop
 returns-2 c =
     let p = c .before in
     let l = p .before .before .before .before .before .before .before .before .before .loop in
-    storing-none _ _ _ (l .i) (l .inv .is)
-    (scan-absent (text-of p) (l .i) (p .before .before .before .before .before .before .before .before .loop-test .taken) (char-of p) (width-of p) (first-read p) (stored-none (codeOf (char-of p)) (p .add-character .ensures) (c .if4 .taken)))
+    storing-none _ _ _ (l .i) (l .inv .is) (scan-absent _ (l .i) (p .before .before .before .before .before .before .before .before .loop-test .taken) _ _ (character p) (stored-none _ (p .add-character .ensures) (c .if4 .taken)))
 
 loop-again-2 : tie.Need-loop-again-2 Inv-loop μ-loop
 loop-again-2 c =
     let p = c .before .before in
-    let l = p .before .before .before .before .before .before .before .before .before .loop in
     let w = p .add-character .ensures in
-    stores-more (l .inv) (p .before .before .before .before .before .before .before .before .loop-test .taken) (char-of p) (width-of p) (first-read p) (codeOf (char-of p)) refl
-    w (stored-some (codeOf (char-of p)) w (c .before .if4 .left)) (c .if5 .left)
+    stores-more (p .before .before .before .before .before .before .before .before .before .loop .inv) (p .before .before .before .before .before .before .before .before .loop-test .taken) (character p) refl w (stored-some _ w (c .before .if4 .left)) (c .if5 .left)
 
 returns-5 : tie.Need-returns-5 Inv-loop μ-loop
 returns-5 c =
     let p = c .before .before in
-    let l = p .before .before .before .before .before .before .before .before .before .loop in
     let w = p .add-character .ensures in
-    stores-over (l .inv) (p .before .before .before .before .before .before .before .before .loop-test .taken) (char-of p) (width-of p) (first-read p) (codeOf (char-of p)) refl
-    w (c .if5 .taken) (omega (arith, stored-few (codeOf (char-of p)) w, l .inv .room))
+    let l = p .before .before .before .before .before .before .before .before .before .loop in
+    stores-over (l .inv) (p .before .before .before .before .before .before .before .before .loop-test .taken) (character p) refl w (c .if5 .taken) (omega (arith, stored-few (codeOf (p .before .before .before .c .given .0 .0)) w, l .inv .room))
 
 returns-3 : tie.Need-returns-3 Inv-loop μ-loop
 returns-3 c = stores-end (c .before .loop .inv) (c .before .before .before .pre .1) (c .loop-test .left)
