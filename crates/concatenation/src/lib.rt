@@ -187,6 +187,7 @@ pub fn pack_gsm7_concatenated(text: &[u8], reference: u8, out: &mut [u8]) -> Con
     if 255 < parts {
         return refused(Refusal::TooManyParts);
     }
+    // every part but the last takes TP-UDL and 140 octets
     let full = parts - 1;
     if out.len() < full * 141 + 1 + ((last + 7) * 7 + 7) / 8 {
         return refused(Refusal::OutputTooShort);
