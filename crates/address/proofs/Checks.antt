@@ -10,20 +10,18 @@ use native.Mathlib.Numerals.{add-one, add-two}
 use borrow.Author.Tests.{lt-ltb, le-ltb, eq-eqb, ne-eqb, ltb-true, ltb-false, eqb-true, eqb-false, leb-true, leb-false}
 use lib.Dec.{eqb, leb, ltb}
 use lib.ListN.{length, set}
+use Rattle.octets.specs.Answers.{Said, gives, refuses, fine}
 use Rattle.octets.specs.Checks.{Check, _unless_, found, checked}
 use Rattle.octets.specs.Each.{each}
 use Rattle.octets.specs.Lent.{Making, refused, made, Wrote}
 use Rattle.octets.specs.SemiOctets.{inPairs}
-use Rattle.octets.specs.declared.Checked.{Checked}
 use Rattle.octets.specs.declared.Refusal.{Refusal}
 use Rattle.octets.specs.declared.Refusal.the-variants.{NumberTypeOrPlanTooLarge, NotInAlphabet, AddressTooLong}
-use Rattle.octets.specs.declared.Written.{Written}
 use Rattle.octets.proofs.Checks.{holds, made-unless}
 use Rattle.octets.proofs.Choice.{and-true, or-false}
 use Rattle.septets.specs.Septets.{packedSeptets}
 use Rattle.septets.proofs.Inverse.{length-packed}
 use Rattle.gsm7.specs.Writing.{septetsOf}
-use Rattle.address.specs.declared.writing.AddressCheck.{AddressCheck}
 use Rattle.address.specs.Writing.{digitValue, isDigit, fieldOf, textField, addressOctets, octetsOr, limited, addressMaking, addressChecks, isSome}
 use Rattle.address.specs.Internal.{checkOf, septetsOr}
 use Rattle.address.proofs.DigitCharacters.{digits-size}
@@ -33,19 +31,19 @@ module _ (ton npi l : ℕ) (value : List ℕ) where
   pub limited-long : 10 < length value → limited (some (fieldOf ton npi l value)) ≡ refused AddressTooLong
   limited-long h = rw (lt-ltb 12 (suc (suc (length value))) (omega arith))
 
-  pub limited-fine : length value ≤ 10 → limited (some (fieldOf ton npi l value)) ≡ made (fieldOf ton npi l value) (Written.Done (length (fieldOf ton npi l value)))
+  pub limited-fine : length value ≤ 10 → limited (some (fieldOf ton npi l value)) ≡ made (fieldOf ton npi l value) (gives (length (fieldOf ton npi l value)))
   limited-fine h = rw (le-ltb 12 (suc (suc (length value))) (omega arith))
 
 -- a text in septets: eleven take ten octets
 module _ (ton npi : ℕ) {o : Option (List ℕ)} where
-  pub text-none : o ≡ none → checkOf (limited (textField ton npi o)) ≡ AddressCheck.Refused NotInAlphabet
+  pub text-none : o ≡ none → checkOf (limited (textField ton npi o)) ≡ refuses NotInAlphabet
   text-none e = rw e
 
   module _ (ss : List ℕ) (e : o ≡ some ss) where
-    pub text-long : 11 < length ss → checkOf (limited (textField ton npi o)) ≡ AddressCheck.Refused AddressTooLong
+    pub text-long : 11 < length ss → checkOf (limited (textField ton npi o)) ≡ refuses AddressTooLong
     text-long h = rw (e, limited-long ton npi ((length ss * 7 + 3) / 4) (packedSeptets 0 ss) (rw length-packed (omega arith)))
 
-    pub text-fine : length ss ≤ 11 → checkOf (limited (textField ton npi o)) ≡ AddressCheck.Fine ((length ss * 7 + 3) / 4)
+    pub text-fine : length ss ≤ 11 → checkOf (limited (textField ton npi o)) ≡ gives ((length ss * 7 + 3) / 4)
     text-fine h = rw (e, limited-fine ton npi ((length ss * 7 + 3) / 4) (packedSeptets 0 ss) (rw length-packed (omega arith)))
 
 -- type, plan and text
@@ -82,15 +80,15 @@ module _ (ton npi : ℕ) (text : List ℕ) where
           digits-long h = digits-octets ∙ limited-long ton npi (length text) (inPairs (map digitValue text)) (rw (digits-size text) (omega arith))
 
           pub digits-fine : length text ≤ 20 → addressMaking ton npi text
-              ≡ made (fieldOf ton npi (length text) (inPairs (map digitValue text))) (Written.Done (length (fieldOf ton npi (length text) (inPairs (map digitValue text)))))
+              ≡ made (fieldOf ton npi (length text) (inPairs (map digitValue text))) (gives (length (fieldOf ton npi (length text) (inPairs (map digitValue text)))))
           digits-fine h = digits-octets ∙ limited-fine ton npi (length text) (inPairs (map digitValue text)) (rw (digits-size text) (omega arith))
 
 -- ---- an address that a check passed
 
-no : {A : Type 0} {c : AddressCheck} {l : ℕ} (r : Refusal) → c ≡ AddressCheck.Fine l → c ≡ AddressCheck.Refused r → A
+no : {A : Type 0} {c : Said ℕ} {l : ℕ} (r : Refusal) → c ≡ gives l → c ≡ refuses r → A
 no r p q = let z : _≡_ {A = ℕ} 0 1 = cc in absurd (omega arith)
 
-module _ (ton npi : ℕ) (text : List ℕ) (l : ℕ) (fine : checkOf (addressMaking ton npi text) ≡ AddressCheck.Fine l) where
+module _ (ton npi : ℕ) (text : List ℕ) (l : ℕ) (fine : checkOf (addressMaking ton npi text) ≡ gives l) where
   pub fine-range : (ton ≤ 7) × (npi ≤ 15)
   fine-range = by (ltb 7 ton) refl (ltb 15 npi) refl
     where
@@ -108,7 +106,7 @@ module _ (ton npi : ℕ) (text : List ℕ) (l : ℕ) (fine : checkOf (addressMak
   unfolding addressOctets
   fine-text e = by (septetsOf text) refl
     where
-      told : checkOf (limited (textField 5 npi (septetsOf text))) ≡ AddressCheck.Fine l
+      told : checkOf (limited (textField 5 npi (septetsOf text))) ≡ gives l
       told = sym (ap checkOf (text-making ton npi text (fine-range .0) (fine-range .1) e)) ∙ fine
 
       by-count : (ss : List ℕ) → septetsOf text ≡ some ss → (t : Bool) → ltb 11 (length ss) ≡ t → InSeptets
@@ -155,20 +153,20 @@ module _ (ton npi : ℕ) (text : List ℕ) (l : ℕ) (fine : checkOf (addressMak
       by true e = let f = fine-text (eqb-true _ _ e) in omega (arith, ap (λ (o : Option (List ℕ)). length (octetsOr [] o)) (f .4), f .3, length-packed 0 (f .0))
       by false e = let f = fine-digits (eqb-false _ _ e) in omega (arith, ap (λ (o : Option (List ℕ)). length (octetsOr [] o)) (f .2), f .1, digits-size text)
 
-  pub fine-made : addressMaking ton npi text ≡ made octets (Written.Done (length octets))
+  pub fine-made : addressMaking ton npi text ≡ made octets (gives (length octets))
   fine-made = making ∙ by (addressOctets ton npi text) refl
     where
       making : addressMaking ton npi text ≡ limited (addressOctets ton npi text)
       making = making-limited ton npi text (fine-range .0) (fine-range .1)
 
-      by : (o : Option (List ℕ)) → addressOctets ton npi text ≡ o → limited (addressOctets ton npi text) ≡ made octets (Written.Done (length octets))
+      by : (o : Option (List ℕ)) → addressOctets ton npi text ≡ o → limited (addressOctets ton npi text) ≡ made octets (gives (length octets))
       by none e = no _ fine (ap checkOf making ∙ ap (λ (o : Option (List ℕ)). checkOf (limited o)) e)
       by (some xs) e =
           let few : length xs ≤ 12 = omega (arith, fine-size, fine-small, ap (λ (o : Option (List ℕ)). length (octetsOr [] o)) e) in
           rw (e, le-ltb 12 (length xs) few)
 
 -- what a check refuses is refused
-pub refused-made : {m : Making Written} {r : Refusal} → checkOf m ≡ AddressCheck.Refused r → m ≡ refused r
+pub refused-made : {m : Making (Said ℕ)} {r : Refusal} → checkOf m ≡ refuses r → m ≡ refused r
 refused-made {m = refused k} e = cc
 refused-made {m = made xs w} e = let z : _≡_ {A = ℕ} 0 1 = cc in absurd (omega arith)
 
@@ -181,9 +179,9 @@ pub wrote-field : (at l t : ℕ) (value out : List ℕ) {next : ℕ} {after : Li
 wrote-field at l t value out w = record { place = w .place ∙ omega arith; list = w .list ∙ rw (add-one, add-two) }
 
 -- the address among the checks of a writer of several fields: the check's answer decides
-abbrev pub afterCheck : AddressCheck → Making Written → Making Written
-afterCheck (AddressCheck.Fine l) next = next
-afterCheck (AddressCheck.Refused r) next = refused r
+abbrev pub afterCheck : Said ℕ → Making (Said ℕ) → Making (Said ℕ)
+afterCheck (gives l) next = next
+afterCheck (refuses r) next = refused r
 
 pub address-checked : (ton npi : ℕ) (text : List ℕ) (checks : List Check) (xs : List ℕ)
     → checked (addressChecks ton npi text ++ checks) xs ≡ afterCheck (checkOf (addressMaking ton npi text)) (checked checks xs)
@@ -205,12 +203,12 @@ address-checked ton npi text checks xs = by-type (leb ton 7) refl (leb npi 15) r
 
 -- ---- what was written
 
-limited-made : (o : Option (List ℕ)) (xs : List ℕ) (w : Written) → limited o ≡ made xs w → o ≡ some xs
+limited-made : (o : Option (List ℕ)) (xs : List ℕ) (w : Said ℕ) → limited o ≡ made xs w → o ≡ some xs
 limited-made none xs w e = let z : _≡_ {A = ℕ} 0 1 = cc in absurd (omega arith)
 limited-made (some ys) xs w e = let (few, m) = made-unless AddressTooLong (ltb 12 (length ys)) e in cc
 
 -- where octets are made, they are those of the address, and type and plan are small
-pub octets-made : (ton npi : ℕ) (text xs : List ℕ) (w : Written) → addressMaking ton npi text ≡ made xs w → (ton ≤ 7) × (npi ≤ 15) × (addressOctets ton npi text ≡ some xs)
+pub octets-made : (ton npi : ℕ) (text xs : List ℕ) (w : Said ℕ) → addressMaking ton npi text ≡ made xs w → (ton ≤ 7) × (npi ≤ 15) × (addressOctets ton npi text ≡ some xs)
 unfolding addressMaking
 octets-made ton npi text xs w e =
     let (small, o) = made-unless NumberTypeOrPlanTooLarge (ltb 7 ton || ltb 15 npi) e in
@@ -222,7 +220,7 @@ some-is none e = absurd (false≢true e)
 some-is (some xs) e = refl
 
 -- the same where the checks of a writer of several fields have passed; and the octets are few
-pub checks-passed : (ton npi : ℕ) (text : List ℕ) → found (addressChecks ton npi text) ≡ Checked.Fine
+pub checks-passed : (ton npi : ℕ) (text : List ℕ) → found (addressChecks ton npi text) ≡ fine
     → (let f = octetsOr [] (addressOctets ton npi text) in (ton ≤ 7) × (npi ≤ 15) × (addressOctets ton npi text ≡ some f) × (length f ≤ 12))
 checks-passed ton npi text e =
     let o = addressOctets ton npi text in

@@ -11,20 +11,19 @@ use borrow.Author.Tests.{le-ltb}
 use lib.Dec.{ltb}
 use lib.ListN.{length, getD, take, drop}
 use lib.Seq.{getD-drop}
+use Rattle.octets.specs.Answers.{Said, gives, fine}
 use Rattle.octets.specs.Checks.{Check, found, checked}
 use Rattle.octets.specs.Choice.{if_then_else_}
 use Rattle.octets.specs.Each.{Octets}
 use Rattle.octets.specs.Lent.{refused, made}
-use Rattle.octets.specs.declared.Checked.{Checked}
 use Rattle.octets.specs.declared.Refusal.the-variants.{LengthTooLarge, AddressTooLong}
-use Rattle.octets.specs.declared.Written.{Written}
 use Rattle.octets.proofs.Checks.{made-unless}
-use Rattle.octets.proofs.Laws.{take-pad}
+use Rattle.octets.proofs.Laws.{take-pad, cleared-pad}
 use Rattle.address.specs.Writing.{addressOctets, octetsOr, addressMaking, addressChecks}
 use Rattle.address.specs.Internal.{checkOf}
 use Rattle.address.proofs.Checks.{afterCheck, address-checked, octets-made, checks-passed}
 use Rattle.address.specs.declared.SMSAddress.{SMSAddress}
-use Rattle.address.specs.Address.{typeOfNumber, planOf, addressWith, textIn, addressIn, addressSize, canonicalAddress, textHeld, encoding}
+use Rattle.address.specs.Address.{typeOfNumber, planOf, addressWith, textIn, addressIn, addressSize, canonicalAddress, textHeld, encoding, clearedAddress}
 use Rattle.address.proofs.Shapes.{octets-read, octets-octets, read-fits}
 use Rattle.address.proofs.RecordWritten.{encoding-parts}
 
@@ -79,7 +78,7 @@ module _ (f : List ℕ) (field : Field f) where
 
   -- an address that was read is written as its canonical octets exactly when their value has at most 10 octets, else refused with 11
   pub read-written : encoding (addressIn f)
-      ≡ (if ltb 12 (length (canonicalAddress f)) then refused AddressTooLong else made (canonicalAddress f) (Written.Done (length (canonicalAddress f))))
+      ≡ (if ltb 12 (length (canonicalAddress f)) then refused AddressTooLong else made (canonicalAddress f) (gives (length (canonicalAddress f))))
   unfolding encoding addressIn addressWith addressMaking
   read-written = rw (le-ltb 290 (length (textIn f)) text-short, take-pad, le-ltb 7 (tonIn f) (omega arith), le-ltb 15 (npiIn f) (omega arith), canonical-written .0)
 
@@ -98,7 +97,7 @@ module _ (f : List ℕ) (field : Field f) where
   read-checked checks xs =
       address-checked _ _ _ checks xs ∙ ap (λ m. afterCheck (checkOf m) (checked checks xs)) (sym (encoding-parts (addressIn f) length-short) ∙ read-written) ∙ decided (ltb 12 (length (canonicalAddress f)))
     where
-      decided : (b : Bool) → afterCheck (checkOf (if b then refused AddressTooLong else made (canonicalAddress f) (Written.Done (length (canonicalAddress f))))) (checked checks xs) ≡ (if b then refused AddressTooLong else checked checks xs)
+      decided : (b : Bool) → afterCheck (checkOf (if b then refused AddressTooLong else made (canonicalAddress f) (gives (length (canonicalAddress f))))) (checked checks xs) ≡ (if b then refused AddressTooLong else checked checks xs)
       decided true = refl
       decided false = refl
 
@@ -113,10 +112,20 @@ address-equal f g p q = (
   λ e. sym (canonical-reads f p) ∙ ap addressIn e ∙ canonical-reads g q,
 )
 
+-- an address that was read is cleared
+pub address-cleared : (f : List ℕ) → clearedAddress (addressIn f) ≡ addressIn f
+unfolding addressIn addressWith
+address-cleared f = rw (cleared-pad 290 (textIn f))
+
+-- a cleared address, in its record
+pub address-held : (a : SMSAddress) → length (textHeld a) ≡ a .«address_length» → addressWith (a .ton) (a .npi) (textHeld a) ≡ clearedAddress a
+unfolding addressWith
+address-held a n = rw n
+
 -- ---- what was written
 
 -- what was written is a whole field, and reads back as the same record
-pub written-reads : (a : SMSAddress) (xs : List ℕ) (w : Written) → encoding a ≡ made xs w
+pub written-reads : (a : SMSAddress) (xs : List ℕ) (w : Said ℕ) → encoding a ≡ made xs w
     → (addressSize xs ≡ length xs) × (addressIn xs ≡ addressWith (a .ton) (a .npi) (take (a .«address_length») (a .address)))
 unfolding encoding
 written-reads a xs w e =
@@ -131,7 +140,7 @@ pub record Spelled (ton npi : ℕ) (text f : List ℕ) : Type 0 where
   pub again : canonicalAddress f ≡ f
   pub back : addressIn f ≡ addressWith ton npi text
 
-pub address-passed : (ton npi : ℕ) (text : List ℕ) → found (addressChecks ton npi text) ≡ Checked.Fine → Spelled ton npi text (octetsOr [] (addressOctets ton npi text))
+pub address-passed : (ton npi : ℕ) (text : List ℕ) → found (addressChecks ton npi text) ≡ fine → Spelled ton npi text (octetsOr [] (addressOctets ton npi text))
 unfolding addressIn addressWith canonicalAddress
 address-passed ton npi text e =
     let f = octetsOr [] (addressOctets ton npi text) in

@@ -4,14 +4,14 @@ use mathlib.Core.Path.{_≡_, refl}
 use mathlib.Core.List.{List, [], _∷_, map}
 use lib.Dec.{eqb, ltb}
 use lib.ListN.{length, getD, take, drop}
+use Rattle.octets.specs.Answers.{Said}
 use Rattle.octets.specs.Choice.{if_then_else_}
-use Rattle.octets.specs.Arrays.{pad}
+use Rattle.octets.specs.Arrays.{pad, clearedArray}
 use Rattle.octets.specs.Each.{each}
 use Rattle.octets.specs.Lent.{Making, refused}
 use Rattle.octets.specs.SemiOctets.{semiOctets, inPairs}
 use Rattle.octets.specs.Texts.{codes}
 use Rattle.octets.specs.declared.Refusal.the-variants.{LengthTooLarge}
-use Rattle.octets.specs.declared.Written.{Written}
 use Rattle.septets.specs.Septets.{septetsIn}
 use Rattle.gsm7.specs.Alphabet.{indexOf}
 use Rattle.gsm7.specs.Reading.{textOf}
@@ -66,8 +66,16 @@ canonicalAddress f = octetsOr [] (addressOctets (typeOfNumber (getD f 1 0)) (pla
 abbrev pub textHeld : SMSAddress → List ℕ
 textHeld a = take (a .«address_length») (a .address)
 
--- what writing a record makes: 1, and then what writing its parts makes
-unfoldable pub encoding : SMSAddress → Making Written
+-- what lies after the length is no part of a record: set to zero
+abbrev pub clearedAddress : SMSAddress → SMSAddress
+clearedAddress a = record { ton = a .ton; npi = a .npi; address = clearedArray 290 (a .«address_length») (a .address); «address_length» = a .«address_length» }
+
+-- the array has the length of its type
+abbrev pub TypedAddress : SMSAddress → Type 0
+TypedAddress a = length (a .address) ≡ 290
+
+-- what writing a record makes: 1, and then what writing its type, plan and text makes
+unfoldable pub encoding : SMSAddress → Making (Said ℕ)
 encoding a = if ltb 290 (a .«address_length») then refused LengthTooLarge else addressMaking (a .ton) (a .npi) (take (a .«address_length») (a .address))
 
 -- ---- known rows: 03 91 F1 02 read, and its canonical octets

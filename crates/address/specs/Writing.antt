@@ -1,4 +1,4 @@
--- Addresses (TS 23.040 §9.1.2.5), what a writer makes of their parts: a length octet L in semi-octets, a type octet, and ceil(L/2) value octets.
+-- Addresses (TS 23.040 §9.1.2.5), what a writer makes of type, plan and text: a length octet L in semi-octets, a type octet, and ceil(L/2) value octets.
 use Prim.Native.Nat.{ℕ, _+_, _*_, _/_}
 use mathlib.Core.Path.{_≡_, refl}
 use mathlib.Core.Bool.{Bool, true, false, _&&_, _||_}
@@ -6,6 +6,7 @@ use mathlib.Core.List.{List, [], _∷_, map}
 use mathlib.Core.Option.{Option, none, some}
 use lib.Dec.{eqb, leb, ltb}
 use lib.ListN.{length}
+use Rattle.octets.specs.Answers.{Said, gives, refuses}
 use Rattle.octets.specs.Choice.{if_then_else_}
 use Rattle.octets.specs.Checks.{Check, _unless_}
 use Rattle.octets.specs.Each.{each}
@@ -13,7 +14,7 @@ use Rattle.octets.specs.Lent.{Making, refused, made}
 use Rattle.octets.specs.SemiOctets.{inPairs}
 use Rattle.octets.specs.Texts.{codes}
 use Rattle.octets.specs.declared.Refusal.the-variants.{NumberTypeOrPlanTooLarge, NotInAlphabet, AddressTooLong}
-use Rattle.octets.specs.declared.Written.{Written}
+use Rattle.address.specs.declared.writing.AddressCheck.{AddressCheck}
 use Rattle.septets.specs.Septets.{packedSeptets}
 use Rattle.gsm7.specs.Alphabet.{indexOf}
 use Rattle.gsm7.specs.Writing.{septetsOf}
@@ -57,13 +58,18 @@ octetsOr other (some octets) = octets
 -- ---- what is written
 
 -- an address field of more than 12 octets has a value of more than 10
-abbrev pub limited : Option (List ℕ) → Making Written
+abbrev pub limited : Option (List ℕ) → Making (Said ℕ)
 limited none = refused NotInAlphabet
-limited (some octets) = if ltb 12 (length octets) then refused AddressTooLong else made octets (Written.Done (length octets))
+limited (some octets) = if ltb 12 (length octets) then refused AddressTooLong else made octets (gives (length octets))
 
 -- what writing type, plan and text makes: refusals 9, 10, 11
-unfoldable pub addressMaking : ℕ → ℕ → List ℕ → Making Written
+unfoldable pub addressMaking : ℕ → ℕ → List ℕ → Making (Said ℕ)
 addressMaking ton npi text = if ltb 7 ton || ltb 15 npi then refused NumberTypeOrPlanTooLarge else limited (addressOctets ton npi text)
+
+-- what a check of an address says: the length octet
+abbrev pub addressCheckSays : AddressCheck → Said ℕ
+addressCheckSays (AddressCheck.Fine l) = gives l
+addressCheckSays (AddressCheck.Refused why) = refuses why
 
 -- those refusals as checks of a writer of several fields
 abbrev pub isSome : Option (List ℕ) → Bool

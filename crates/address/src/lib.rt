@@ -5,10 +5,11 @@ ghost use mathlib.Core.Path.{_≡_};
 ghost use mathlib.Core.List.{[], map};
 ghost use Prim.Native.Nat.{_+_, _/_, _≤_, _<_};
 ghost use lib.ListN.{length, getD, take, drop};
+ghost use Rattle.octets.specs.Answers.{refuses, spanSays, writtenSays};
 ghost use Rattle.octets.specs.Lent.{Wrote, lend};
 ghost use Rattle.octets.specs.SemiOctets.{semiOctets};
 ghost use Rattle.address.specs.Address.{digitCharacter, withoutF, valueText, addressWith, addressIn, addressSize, encoding};
-ghost use Rattle.address.specs.Internal.{fieldAt};
+ghost use Rattle.address.specs.Internal.{addressSpan};
 use crate::writing::TYPE_OF_NUMBER_ALPHANUMERIC;
 use octets::Octet;
 use octets::Place;
@@ -71,10 +72,7 @@ fn value_text(ton: u8, count: usize, value: &[u8], text: &mut [u8; 290]) -> usiz
     ensures { λ r. ⌜ Wrote 0 (valueText ton count (now (value .entry))) (now (text .entry)) r (now (text .exit)) ⌝ }
 {
     if ton == TYPE_OF_NUMBER_ALPHANUMERIC {
-        let unpacked = gsm7::decode::unpack_septets(value, 0, count * 4 / 7);
-        let shown = unpacked.text;
-        let n = unpacked.text_length;
-        return octets::put_octets(text, 0, &shown[..n]);
+        return gsm7::decode::unpack_septets(value, 0, count * 4 / 7, text, 0);
     }
     digits_text(value, count, text)
 }
@@ -91,9 +89,9 @@ pub fn no_address() -> SMSAddress
     }
 }
 
-// The address field at a place, if it is there whole: where it starts, and the place behind it.
-pub fn address_at(data: &[u8], place: Place) -> Span
-    ensures { λ r. ⌜ r ≡ fieldAt (now («data» .entry)) place ⌝ }
+// The address field at a place, if it is there whole: where it starts, and the place after it.
+pub fn address_span(data: &[u8], place: Place) -> Span
+    ensures { λ r. ⌜ spanSays r ≡ addressSpan (now («data» .entry)) place ⌝ }
 {
     let Octet::Read(length, _) = place.octet(data) else {
         return Span::Ended;
@@ -101,36 +99,36 @@ pub fn address_at(data: &[u8], place: Place) -> Span
     place.span(data, 2 + (length as usize + 1) / 2)
 }
 
+// The address field that starts at `at`.
+pub fn address_at(data: &[u8], at: usize) -> SMSAddress
+    requires { ⌜ at + addressSize (drop at (now «data»)) ≤ length (now «data») ⌝ }
+    ensures { λ r. ⌜ r ≡ addressIn (take (addressSize (drop at (now («data» .entry)))) (drop at (now («data» .entry)))) ⌝ }
+{
+    let count = data[at] as usize;
+    let type_of_address = data[at + 1];
+    let ton = type_of_address / 16 % 8;
+    let start = at + 2;
+    let end = start + (count + 1) / 2;
+    let mut address = [0u8; 290];
+    let address_length = value_text(ton, count, &data[start..end], &mut address);
+    SMSAddress {
+        ton,
+        npi: type_of_address % 16,
+        address,
+        address_length,
+    }
+}
+
 impl SMSAddress {
     // Writes the address to the start of a lent output (TS 23.040 §9.1.2.5).
     pub fn encode(self, out: &mut [u8]) -> Written
-        ensures { λ r. ⌜ (r, now (out .exit)) ≡ lend Written.Refused (encoding self) (now (out .entry)) ⌝ }
+        ensures { λ r. ⌜ (writtenSays r, now (out .exit)) ≡ lend refuses (encoding self) (now (out .entry)) ⌝ }
     {
         let n = self.address_length;
         if 290 < n {
             return Written::Refused(Refusal::LengthTooLarge);
         }
         let address = self.address;
-        writing::encode_parts(self.ton, self.npi, &address[..n], out)
-    }
-
-    // The address field that starts at `at`.
-    pub fn decode(data: &[u8], at: usize) -> SMSAddress
-        requires { ⌜ at + addressSize (drop at (now «data»)) ≤ length (now «data») ⌝ }
-        ensures { λ r. ⌜ r ≡ addressIn (take (addressSize (drop at (now («data» .entry)))) (drop at (now («data» .entry)))) ⌝ }
-    {
-        let count = data[at] as usize;
-        let type_of_address = data[at + 1];
-        let ton = type_of_address / 16 % 8;
-        let start = at + 2;
-        let end = start + (count + 1) / 2;
-        let mut address = [0u8; 290];
-        let address_length = value_text(ton, count, &data[start..end], &mut address);
-        SMSAddress {
-            ton,
-            npi: type_of_address % 16,
-            address,
-            address_length,
-        }
+        writing::encode_address(self.ton, self.npi, &address[..n], out)
     }
 }

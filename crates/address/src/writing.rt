@@ -1,14 +1,15 @@
-// Addresses (TS 23.040 §9.1.2.5), written from their parts: type of number, plan and text.
+// Addresses (TS 23.040 §9.1.2.5), written from type of number, plan and text.
 ghost use mathlib.Core.Path.{_≡_};
 ghost use mathlib.Core.List.{[], map};
 ghost use Prim.Native.Nat.{_+_, _/_, _≤_};
 ghost use lib.ListN.{length, getD};
+ghost use Rattle.octets.specs.Answers.{gives, refuses, writtenSays};
 ghost use Rattle.octets.specs.Each.{each};
 ghost use Rattle.octets.specs.Lent.{Wrote, lend};
 ghost use Rattle.octets.specs.SemiOctets.{inPairs};
 ghost use Rattle.septets.specs.Septets.{octetCount, packedSeptets};
 ghost use Rattle.gsm7.specs.Writing.{septetsOf};
-ghost use Rattle.address.specs.Writing.{digitValue, isDigit, addressOctets, octetsOr, textField, limited, addressMaking};
+ghost use Rattle.address.specs.Writing.{addressCheckSays, digitValue, isDigit, addressOctets, octetsOr, textField, limited, addressMaking};
 ghost use Rattle.address.specs.Internal.{checkOf, Spells, septetsOr};
 use gsm7::encode::Scanned;
 use octets::Refusal;
@@ -51,7 +52,7 @@ fn all_digits(text: &[u8]) -> bool
 
 // Whether a text in septets can be written.
 fn check_text(npi: u8, text: &[u8]) -> AddressCheck
-    ensures { λ r. ⌜ r ≡ checkOf (limited (textField 5 npi (septetsOf (now (text .entry))))) ⌝ }
+    ensures { λ r. ⌜ addressCheckSays r ≡ checkOf (limited (textField 5 npi (septetsOf (now (text .entry))))) ⌝ }
 {
     let mut codes = [0u8; 255];
     let Scanned::Counted(count) = gsm7::encode::scan_text(text, &mut codes) else {
@@ -65,7 +66,7 @@ fn check_text(npi: u8, text: &[u8]) -> AddressCheck
 
 // Whether type, plan and text can be written.
 pub fn check_address(ton: u8, npi: u8, text: &[u8]) -> AddressCheck
-    ensures { λ r. ⌜ r ≡ checkOf (addressMaking ton npi (now (text .entry))) ⌝ }
+    ensures { λ r. ⌜ addressCheckSays r ≡ checkOf (addressMaking ton npi (now (text .entry))) ⌝ }
 {
     if 7 < ton {
         return AddressCheck::Refused(Refusal::NumberTypeOrPlanTooLarge);
@@ -85,7 +86,7 @@ pub fn check_address(ton: u8, npi: u8, text: &[u8]) -> AddressCheck
     AddressCheck::Fine(text.len())
 }
 
-// The semi-octet of character i, F behind the end.
+// The semi-octet of character i, F after the end.
 fn semi_octet_or_f(text: &[u8], i: usize) -> u8
     ensures { λ r. ⌜ (r ≡ getD (map digitValue (now (text .entry))) i 15) × (r ≤ 15) ⌝ }
 {
@@ -96,7 +97,7 @@ fn semi_octet_or_f(text: &[u8], i: usize) -> u8
     }
 }
 
-// Writes digits two to an octet; the place behind them.
+// Writes digits two to an octet; the place after them.
 fn put_digits(text: &[u8], out: &mut [u8], at: usize) -> usize
     requires { ⌜ at + (length (now text) + 1) / 2 ≤ length (now out) ⌝ }
     ensures { λ r. ⌜ Wrote at (inPairs (map digitValue (now (text .entry)))) (now (out .entry)) r (now (out .exit)) ⌝ }
@@ -112,8 +113,8 @@ fn put_digits(text: &[u8], out: &mut [u8], at: usize) -> usize
     at + octets
 }
 
-// Writes a text in septets; the place behind it.
-fn put_text(text: &[u8], out: &mut [u8], at: usize) -> usize
+// Writes a text in septets; the place after it.
+fn put_septets(text: &[u8], out: &mut [u8], at: usize) -> usize
     requires { ⌜ Spells (septetsOf (now text)) 11 × (at + octetCount 0 (length (septetsOr (septetsOf (now text)))) ≤ length (now out)) ⌝ }
     ensures { λ r. ⌜ Wrote at (packedSeptets 0 (septetsOr (septetsOf (now (text .entry))))) (now (out .entry)) r (now (out .exit)) ⌝ }
 {
@@ -124,22 +125,22 @@ fn put_text(text: &[u8], out: &mut [u8], at: usize) -> usize
     septets::pack_octets(&codes[..count], 0, out, at)
 }
 
-// Writes an address that was checked, with the length octet that the check told; the place behind it.
+// Writes an address that was checked, with the length octet that the check told; the place after it.
 pub fn put_address(ton: u8, npi: u8, text: &[u8], count: usize, out: &mut [u8], at: usize) -> usize
-    requires { ⌜ (checkOf (addressMaking ton npi (now text)) ≡ AddressCheck.Fine count) × (at + 2 + (count + 1) / 2 ≤ length (now out)) ⌝ }
+    requires { ⌜ (checkOf (addressMaking ton npi (now text)) ≡ gives count) × (at + 2 + (count + 1) / 2 ≤ length (now out)) ⌝ }
     ensures { λ r. ⌜ Wrote at (octetsOr [] (addressOctets ton npi (now (text .entry)))) (now (out .entry)) r (now (out .exit)) ⌝ }
 {
     out[at] = count as u8;
     out[at + 1] = 128 + ton * 16 + npi;
     if ton == TYPE_OF_NUMBER_ALPHANUMERIC {
-        return put_text(text, out, at + 2);
+        return put_septets(text, out, at + 2);
     }
     put_digits(text, out, at + 2)
 }
 
 // Writes type, plan and text to the start of a lent output.
-pub fn encode_parts(ton: u8, npi: u8, text: &[u8], out: &mut [u8]) -> Written
-    ensures { λ r. ⌜ (r, now (out .exit)) ≡ lend Written.Refused (addressMaking ton npi (now (text .entry))) (now (out .entry)) ⌝ }
+pub fn encode_address(ton: u8, npi: u8, text: &[u8], out: &mut [u8]) -> Written
+    ensures { λ r. ⌜ (writtenSays r, now (out .exit)) ≡ lend refuses (addressMaking ton npi (now (text .entry))) (now (out .entry)) ⌝ }
 {
     match check_address(ton, npi, text) {
         AddressCheck::Refused(r) => Written::Refused(r),

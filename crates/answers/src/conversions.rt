@@ -1,24 +1,20 @@
 // The requests that name no kind of message: text packed and unpacked, addresses, codings and times.
-use address::SMSAddress;
-use coding::UserDataCoding;
-use gsm7::decode::unpack_gsm7;
-use gsm7::packing::Packed;
-use gsm7::packing::pack_gsm7;
-use output::Page;
+use crate::fields;
+use crate::fields::Lent;
+use crate::fields::unless_refused;
+use output::Output;
 use request_line::reasons;
 use request_line::values;
-use request_line::writing;
-use request_line::writing::Lent;
-use request_line::writing::unless_refused;
-use text_fields::field;
-use text_fields::part;
-use text_fields::word;
-use text_fields::word_number;
-use time::timestamp::timestamp_digits;
-use user_data_header::pack_gsm7_with_header;
-use user_data_header::unpack_gsm7_with_header;
+use text_fields::fields::field;
+use text_fields::lists::entry;
+use text_fields::lists::entry_number;
+use text_fields::slices::between;
+use tpdu::Packed;
+use tpdu::SMSAddress;
+use wording::meanings::coding_number;
 
-// The requests by number.
+// ---- the requests by number, in the order of their names
+
 const UNPACK: usize = 0;
 
 const UNPACK_HEADER: usize = 1;
@@ -34,59 +30,65 @@ const CODING: usize = 5;
 const DIGITS: usize = 6;
 
 // How many there are; as a request's number it says that there is no such request.
-pub const ALL: usize = 7;
+pub const REQUESTS: usize = 7;
 
+// The number of the request with a name.
 pub fn request_named(name: &[u8]) -> usize {
     let names = b"unpack\nunpack-header\npack\npack-header\naddress\ncoding\ndigits\n";
-    word_number(names, name)
+    entry_number(names, name)
 }
 
-// What is wrong with the fields of a request.
+// The reason against the line of a request; `request_line::values::has_form` says which form each letter stands for.
 pub fn against_request(request: usize, line: &[u8]) -> usize {
     let forms = b"wco\nwco\nwo\nwoo\nwnno\nwx\nwnnnnnnz\n";
-    reasons::against_fields(word(forms, request), line)
+    reasons::against_fields(entry(forms, request), line)
 }
 
 // ---- text
 
-fn unpack(octets: &[u8], septets: usize, show: bool, out: &mut Page, at: usize) -> usize {
-    let read = unpack_gsm7(octets, septets);
+fn unpack(octets: &[u8], septets: usize, show: bool, out: &mut Output, at: usize) -> usize {
+    let read = tpdu::unpack_gsm7(octets, septets);
     let outcome = read.outcome;
     let text = read.text;
-    let next = writing::octets(out, at, b"ok text=", part(&text, 0, read.text_length));
+    let next = fields::octets(out, at, b"ok text=", between(&text, 0, read.text_length));
     unless_refused(out, at, next, outcome, show)
 }
 
-fn unpack_header(octets: &[u8], septets: usize, show: bool, out: &mut Page, at: usize) -> usize {
-    let read = unpack_gsm7_with_header(octets, septets);
+fn unpack_header(octets: &[u8], septets: usize, show: bool, out: &mut Output, at: usize) -> usize {
+    let read = tpdu::unpack_gsm7_with_header(octets, septets);
     let outcome = read.outcome;
     let header = read.header;
     let text = read.text;
-    let p1 = writing::octets(out, at, b"ok header=", part(&header, 0, read.header_length));
-    let p2 = writing::octets(out, p1, b" text=", part(&text, 0, read.text_length));
+    let p1 = fields::octets(
+        out,
+        at,
+        b"ok header=",
+        between(&header, 0, read.header_length),
+    );
+    let p2 = fields::octets(out, p1, b" text=", between(&text, 0, read.text_length));
     unless_refused(out, at, p2, outcome, show)
 }
 
 // What a packer answered, and the octets that it wrote.
-fn packed(p: Packed, lent: &Lent, show: bool, out: &mut Page, at: usize) -> usize {
+fn packed(p: Packed, lent: &Lent, show: bool, out: &mut Output, at: usize) -> usize {
     let outcome = p.outcome;
     let p1 = output::put(out, at, b"ok septets=");
     let p2 = output::put_decimal(out, p1, p.septets as u64);
-    let p3 = writing::octets(out, p2, b" octets=", part(lent, 0, p.octets));
+    let p3 = fields::octets(out, p2, b" octets=", between(lent, 0, p.octets));
     unless_refused(out, at, p3, outcome, show)
 }
 
-fn pack(octets: &[u8], show: bool, out: &mut Page, at: usize) -> usize {
+fn pack(octets: &[u8], show: bool, out: &mut Output, at: usize) -> usize {
     let mut lent = [0u8; 255];
-    let p = pack_gsm7(octets, &mut lent);
+    let p = tpdu::pack_gsm7(octets, &mut lent);
     packed(p, &lent, show, out, at)
 }
 
-fn pack_header(line: &[u8], octets: &[u8], show: bool, out: &mut Page, at: usize) -> usize {
+fn pack_header(line: &[u8], octets: &[u8], show: bool, out: &mut Output, at: usize) -> usize {
     let mut header = [0u8; 4096];
     let n = values::octets_of(field(line, 1), &mut header);
     let mut lent = [0u8; 255];
-    let p = pack_gsm7_with_header(part(&header, 0, n), octets, &mut lent);
+    let p = tpdu::pack_gsm7_with_header(between(&header, 0, n), octets, &mut lent);
     packed(p, &lent, show, out, at)
 }
 
@@ -97,7 +99,7 @@ fn number(line: &[u8], n: usize) -> u8 {
     values::number_of(field(line, n))
 }
 
-fn address(line: &[u8], show: bool, out: &mut Page, at: usize) -> usize {
+fn address(line: &[u8], show: bool, out: &mut Output, at: usize) -> usize {
     let mut address = [0u8; 290];
     let address_length = values::octets_of(field(line, 3), &mut address);
     let a = SMSAddress {
@@ -108,27 +110,17 @@ fn address(line: &[u8], show: bool, out: &mut Page, at: usize) -> usize {
     };
     let mut lent = [0u8; 255];
     let w = a.encode(&mut lent);
-    writing::written(out, at, w, &lent, show)
+    fields::written(out, at, w, &lent, show)
 }
 
-// The number of a coding in the list of their names.
-fn coding_number(coding: UserDataCoding) -> usize {
-    match coding {
-        UserDataCoding::Gsm7Bit => 0,
-        UserDataCoding::EightBit => 1,
-        UserDataCoding::Ucs2 => 2,
-        UserDataCoding::Compressed => 3,
-    }
-}
-
-fn coding(line: &[u8], out: &mut Page, at: usize) -> usize {
-    let coding = coding::user_data_coding(values::octet_of(field(line, 1)));
+fn coding(line: &[u8], out: &mut Output, at: usize) -> usize {
+    let n = coding_number(values::octet_of(field(line, 1)));
     let names = b"ok 7bit\nok 8bit\nok ucs2\nok compressed\n";
-    output::put(out, at, word(names, coding_number(coding)))
+    output::put(out, at, entry(names, n))
 }
 
-fn digits(line: &[u8], show: bool, out: &mut Page, at: usize) -> usize {
-    let time = timestamp_digits(
+fn digits(line: &[u8], show: bool, out: &mut Output, at: usize) -> usize {
+    let time = tpdu::timestamp_digits(
         number(line, 1),
         number(line, 2),
         number(line, 3),
@@ -157,7 +149,7 @@ pub fn answer(
     line: &[u8],
     octets: &[u8],
     show: bool,
-    out: &mut Page,
+    out: &mut Output,
     at: usize,
 ) -> usize {
     match request {

@@ -1,4 +1,5 @@
-// Answers to requests: those that name no kind of message, a reader's record, and a writer's octets.
+// The answers to requests: a reader's record, a writer's octets, and conversions that need no message.
 pub mod conversions;
-pub mod readings;
-pub mod records;
+pub mod fields;
+pub mod reading;
+pub mod writing;

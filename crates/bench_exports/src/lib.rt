@@ -1,5 +1,22 @@
-// Functions over slices for a driver in another language, which times them beside the Rust (oracle/bench). Each answers a number that depends on its result, so that
-// the work is done, and 256 with a refusal's number added to it where it is refused.
+// Functions over slices for a driver in another language, which times them beside the Rust (oracle/bench). Each answers
+// a number that depends on its result: a count, or 256 and the refusal's number.
+ghost use mathlib.Core.Path.{_≡_};
+ghost use mathlib.Core.List.{[]};
+ghost use lib.ListN.{getD};
+ghost use Rattle.octets.specs.Answers.{refuses, outcomeSays, writtenSays};
+ghost use Rattle.octets.specs.Lent.{lend};
+ghost use Rattle.gsm7.specs.Packing.{packing, notPacked};
+ghost use Rattle.gsm7.specs.Reading.{unpacked};
+ghost use Rattle.time.specs.Timestamp.{timestamp};
+ghost use Rattle.address.specs.Address.{encoding};
+ghost use Rattle.layout.specs.Demand.{rewriting};
+ghost use Rattle.layout.specs.Layout.{read, answer};
+ghost use Rattle.submit.specs.Submit.{submit, submitting, octetsTaken, blank as blankSubmit};
+ghost use Rattle.deliver.specs.Deliver.{deliver, delivering, blank as blankDeliver};
+ghost use Rattle.status_report.specs.StatusReport.{statusReport, statusReporting, blank as blankStatusReport};
+ghost use Rattle.submit_report.specs.SubmitReport.{ack as submitReportAck, submitReporting, blank as blankSubmitReport};
+ghost use Rattle.deliver_report.specs.DeliverReport.{error as deliverReportError, deliverReporting, blank as blankDeliverReport};
+ghost use Rattle.bench_exports.specs.Numbers.{numbered, countNumber, lentNumber};
 use tpdu::Outcome;
 use tpdu::SMSAddress;
 use tpdu::SmsDeliver;
@@ -8,24 +25,31 @@ use tpdu::SmsStatusReport;
 use tpdu::SmsSubmitReport;
 use tpdu::Written;
 
-// The answer of a reader.
-fn taken(outcome: Outcome, number: usize) -> usize {
+// The number of an outcome with a count beside it.
+fn taken(outcome: Outcome, number: usize) -> usize
+    ensures { λ r. ⌜ r ≡ numbered (outcomeSays outcome) number ⌝ }
+{
     match outcome {
         Outcome::Done => number,
         Outcome::Refused(r) => 256 + r.number() as usize,
     }
 }
 
-// The answer of a writer.
-fn written(w: Written) -> usize {
+// The number of a writer's answer.
+fn written(w: Written) -> usize
+    ensures { λ r. ⌜ r ≡ countNumber (writtenSays w) ⌝ }
+{
     match w {
         Written::Done(n) => n,
         Written::Refused(r) => 256 + r.number() as usize,
     }
 }
 
+// The number of octets of user data.
 #[no_mangle]
-pub extern "C" fn tpdu_read_deliver(data: &[u8]) -> usize {
+pub extern "C" fn tpdu_read_deliver(data: &[u8]) -> usize
+    ensures { λ r. ⌜ (let a = answer blankDeliver (read deliver (now («data» .entry))) in r ≡ numbered (a .0) (a .1 .«tp_user_data» .length)) ⌝ }
+{
     let read = SmsDeliver::decode(data);
     let outcome = read.outcome;
     let message = read.message;
@@ -33,15 +57,21 @@ pub extern "C" fn tpdu_read_deliver(data: &[u8]) -> usize {
     taken(outcome, ud.length)
 }
 
+// The number of octets read.
 #[no_mangle]
-pub extern "C" fn tpdu_read_submit(data: &[u8]) -> usize {
+pub extern "C" fn tpdu_read_submit(data: &[u8]) -> usize
+    ensures { λ r. ⌜ (let x = read submit (now («data» .entry)) in r ≡ numbered (answer blankSubmit x .0) (octetsTaken x)) ⌝ }
+{
     let read = tpdu::decode_sms_submit_tpdu(data);
     let outcome = read.outcome;
     taken(outcome, read.octets_read)
 }
 
+// The number of octets of user data.
 #[no_mangle]
-pub extern "C" fn tpdu_read_status_report(data: &[u8]) -> usize {
+pub extern "C" fn tpdu_read_status_report(data: &[u8]) -> usize
+    ensures { λ r. ⌜ (let a = answer blankStatusReport (read statusReport (now («data» .entry))) in r ≡ numbered (a .0) (a .1 .«tp_user_data» .length)) ⌝ }
+{
     let read = SmsStatusReport::decode(data);
     let outcome = read.outcome;
     let message = read.message;
@@ -50,7 +80,9 @@ pub extern "C" fn tpdu_read_status_report(data: &[u8]) -> usize {
 }
 
 #[no_mangle]
-pub extern "C" fn tpdu_read_submit_report(data: &[u8]) -> usize {
+pub extern "C" fn tpdu_read_submit_report(data: &[u8]) -> usize
+    ensures { λ r. ⌜ (let a = answer blankSubmitReport (read submitReportAck (now («data» .entry))) in r ≡ numbered (a .0) (a .1 .«tp_user_data» .length)) ⌝ }
+{
     let read = SmsSubmitReport::decode_for_rp_ack(data);
     let outcome = read.outcome;
     let message = read.message;
@@ -59,7 +91,9 @@ pub extern "C" fn tpdu_read_submit_report(data: &[u8]) -> usize {
 }
 
 #[no_mangle]
-pub extern "C" fn tpdu_read_deliver_report(data: &[u8]) -> usize {
+pub extern "C" fn tpdu_read_deliver_report(data: &[u8]) -> usize
+    ensures { λ r. ⌜ (let a = answer blankDeliverReport (read deliverReportError (now («data» .entry))) in r ≡ numbered (a .0) (a .1 .«tp_user_data» .length)) ⌝ }
+{
     let read = SmsDeliverReport::decode_for_rp_error(data);
     let outcome = read.outcome;
     let message = read.message;
@@ -69,44 +103,60 @@ pub extern "C" fn tpdu_read_deliver_report(data: &[u8]) -> usize {
 
 // Read, and written back.
 #[no_mangle]
-pub extern "C" fn tpdu_rewrite_deliver(data: &[u8], out: &mut [u8]) -> usize {
+pub extern "C" fn tpdu_rewrite_deliver(data: &[u8], out: &mut [u8]) -> usize
+    ensures { λ r. ⌜ (r, now (out .exit)) ≡ lentNumber (lend refuses (rewriting delivering (read deliver (now («data» .entry)))) (now (out .entry))) ⌝ }
+{
     let w = tpdu::canonical_deliver(data, out);
     written(w)
 }
 
 #[no_mangle]
-pub extern "C" fn tpdu_rewrite_submit(data: &[u8], out: &mut [u8]) -> usize {
+pub extern "C" fn tpdu_rewrite_submit(data: &[u8], out: &mut [u8]) -> usize
+    ensures { λ r. ⌜ (r, now (out .exit)) ≡ lentNumber (lend refuses (rewriting submitting (read submit (now («data» .entry)))) (now (out .entry))) ⌝ }
+{
     let w = tpdu::canonical_submit(data, out);
     written(w)
 }
 
 #[no_mangle]
-pub extern "C" fn tpdu_rewrite_status_report(data: &[u8], out: &mut [u8]) -> usize {
+pub extern "C" fn tpdu_rewrite_status_report(data: &[u8], out: &mut [u8]) -> usize
+    ensures { λ r. ⌜ (r, now (out .exit)) ≡ lentNumber (lend refuses (rewriting statusReporting (read statusReport (now («data» .entry)))) (now (out .entry))) ⌝ }
+{
     let w = tpdu::canonical_status_report(data, out);
     written(w)
 }
 
 #[no_mangle]
-pub extern "C" fn tpdu_rewrite_submit_report(data: &[u8], out: &mut [u8]) -> usize {
+pub extern "C" fn tpdu_rewrite_submit_report(data: &[u8], out: &mut [u8]) -> usize
+    ensures { λ r. ⌜ (r, now (out .exit)) ≡ lentNumber (lend refuses (rewriting submitReporting (read submitReportAck (now («data» .entry)))) (now (out .entry))) ⌝ }
+{
     let w = tpdu::canonical_submit_report_ack(data, out);
     written(w)
 }
 
 #[no_mangle]
-pub extern "C" fn tpdu_rewrite_deliver_report(data: &[u8], out: &mut [u8]) -> usize {
+pub extern "C" fn tpdu_rewrite_deliver_report(data: &[u8], out: &mut [u8]) -> usize
+    ensures { λ r. ⌜ (r, now (out .exit)) ≡ lentNumber (lend refuses (rewriting deliverReporting (read deliverReportError (now («data» .entry)))) (now (out .entry))) ⌝ }
+{
     let w = tpdu::canonical_deliver_report_error(data, out);
     written(w)
 }
 
+// The number of octets packed.
 #[no_mangle]
-pub extern "C" fn tpdu_pack(text: &[u8], out: &mut [u8]) -> usize {
+pub extern "C" fn tpdu_pack(text: &[u8], out: &mut [u8]) -> usize
+    ensures { λ r. ⌜ (let lent = lend notPacked (packing [] (now (text .entry))) (now (out .entry)) in (r, now (out .exit)) ≡ (numbered (lent .0 .0) (lent .0 .1), lent .1)) ⌝ }
+{
     let p = tpdu::pack_gsm7(text, out);
     let outcome = p.outcome;
     taken(outcome, p.octets)
 }
 
+// The number of octets of text.
 #[no_mangle]
-pub extern "C" fn tpdu_unpack(data: &[u8], septets: usize) -> usize {
+pub extern "C" fn tpdu_unpack(data: &[u8], septets: usize) -> usize
+    ensures { λ r. ⌜ (let u = unpacked (now («data» .entry)) 0 septets in r ≡ numbered (u .0) (u .2)) ⌝ }
+{
     let u = tpdu::unpack_gsm7(data, septets);
     let outcome = u.outcome;
     taken(outcome, u.text_length)
@@ -120,7 +170,9 @@ pub extern "C" fn tpdu_address(
     text: &[u8; 290],
     length: usize,
     out: &mut [u8],
-) -> usize {
+) -> usize
+    ensures { λ r. ⌜ (r, now (out .exit)) ≡ lentNumber (lend refuses (encoding (record { ton = ton; npi = npi; address = now (text .entry); «address_length» = length })) (now (out .entry))) ⌝ }
+{
     let address = *text;
     let a = SMSAddress {
         ton,
@@ -132,8 +184,11 @@ pub extern "C" fn tpdu_address(
     written(w)
 }
 
+// The second digit of the second.
 #[no_mangle]
-pub extern "C" fn tpdu_digits(second: u8, zone: i8) -> usize {
+pub extern "C" fn tpdu_digits(second: u8, zone: i8) -> usize
+    ensures { λ r. ⌜ (let t = timestamp 24 2 15 12 30 second zone in r ≡ numbered (t .0) (getD (t .1) 11 0)) ⌝ }
+{
     let t = tpdu::timestamp_digits(24, 2, 15, 12, 30, second, zone);
     let outcome = t.outcome;
     let digits = t.digits;

@@ -1,11 +1,14 @@
 // Reading and writing back: the canonical octets of a message.
-ghost use mathlib.Core.Bool.{true, false};
-ghost use Rattle.layout.specs.Demand.{Rewrites};
-ghost use Rattle.submit.specs.Submit.{submit as submitLayout};
-ghost use Rattle.deliver.specs.Deliver.{deliver as deliverLayout};
-ghost use Rattle.submit_report.specs.SubmitReport.{ack as submitReportAck, error as submitReportError};
-ghost use Rattle.deliver_report.specs.DeliverReport.{ack as deliverReportAck, error as deliverReportError};
-ghost use Rattle.status_report.specs.StatusReport.{statusReport};
+ghost use mathlib.Core.Path.{_≡_};
+ghost use Rattle.octets.specs.Answers.{refuses, writtenSays};
+ghost use Rattle.octets.specs.Lent.{lend};
+ghost use Rattle.layout.specs.Demand.{rewriting};
+ghost use Rattle.layout.specs.Layout.{read};
+ghost use Rattle.submit.specs.Submit.{submit as submitLayout, submitting};
+ghost use Rattle.deliver.specs.Deliver.{deliver as deliverLayout, delivering};
+ghost use Rattle.submit_report.specs.SubmitReport.{ack as submitReportAck, error as submitReportError, submitReporting};
+ghost use Rattle.deliver_report.specs.DeliverReport.{ack as deliverReportAck, error as deliverReportError, deliverReporting};
+ghost use Rattle.status_report.specs.StatusReport.{statusReport, statusReporting};
 use deliver::SmsDeliver;
 use deliver_report::SmsDeliverReport;
 use octets::Outcome;
@@ -15,7 +18,7 @@ use submit_report::SmsSubmitReport;
 
 // Reads a message, and writes it back.
 pub fn canonical_submit(data: &[u8], out: &mut [u8]) -> Written
-    ensures { λ r. ⌜ Rewrites submitLayout false (now («data» .entry)) (now (out .entry)) r (now (out .exit)) ⌝ }
+    ensures { λ r. ⌜ (writtenSays r, now (out .exit)) ≡ lend refuses (rewriting submitting (read submitLayout (now («data» .entry)))) (now (out .entry)) ⌝ }
 {
     let read = submit::decode_sms_submit_tpdu(data);
     let outcome = read.outcome;
@@ -28,7 +31,7 @@ pub fn canonical_submit(data: &[u8], out: &mut [u8]) -> Written
 
 // Reads a message, and writes it back.
 pub fn canonical_deliver(data: &[u8], out: &mut [u8]) -> Written
-    ensures { λ r. ⌜ Rewrites deliverLayout false (now («data» .entry)) (now (out .entry)) r (now (out .exit)) ⌝ }
+    ensures { λ r. ⌜ (writtenSays r, now (out .exit)) ≡ lend refuses (rewriting delivering (read deliverLayout (now («data» .entry)))) (now (out .entry)) ⌝ }
 {
     let read = SmsDeliver::decode(data);
     let outcome = read.outcome;
@@ -41,7 +44,7 @@ pub fn canonical_deliver(data: &[u8], out: &mut [u8]) -> Written
 
 // Reads a report carried in an RP-ACK, and writes it back.
 pub fn canonical_submit_report_ack(data: &[u8], out: &mut [u8]) -> Written
-    ensures { λ r. ⌜ Rewrites submitReportAck false (now («data» .entry)) (now (out .entry)) r (now (out .exit)) ⌝ }
+    ensures { λ r. ⌜ (writtenSays r, now (out .exit)) ≡ lend refuses (rewriting submitReporting (read submitReportAck (now («data» .entry)))) (now (out .entry)) ⌝ }
 {
     let read = SmsSubmitReport::decode_for_rp_ack(data);
     let outcome = read.outcome;
@@ -54,7 +57,7 @@ pub fn canonical_submit_report_ack(data: &[u8], out: &mut [u8]) -> Written
 
 // Reads a report carried in an RP-ERROR, and writes it back.
 pub fn canonical_submit_report_error(data: &[u8], out: &mut [u8]) -> Written
-    ensures { λ r. ⌜ Rewrites submitReportError true (now («data» .entry)) (now (out .entry)) r (now (out .exit)) ⌝ }
+    ensures { λ r. ⌜ (writtenSays r, now (out .exit)) ≡ lend refuses (rewriting submitReporting (read submitReportError (now («data» .entry)))) (now (out .entry)) ⌝ }
 {
     let read = SmsSubmitReport::decode_for_rp_error(data);
     let outcome = read.outcome;
@@ -67,7 +70,7 @@ pub fn canonical_submit_report_error(data: &[u8], out: &mut [u8]) -> Written
 
 // Reads a report carried in an RP-ACK, and writes it back.
 pub fn canonical_deliver_report_ack(data: &[u8], out: &mut [u8]) -> Written
-    ensures { λ r. ⌜ Rewrites deliverReportAck false (now («data» .entry)) (now (out .entry)) r (now (out .exit)) ⌝ }
+    ensures { λ r. ⌜ (writtenSays r, now (out .exit)) ≡ lend refuses (rewriting deliverReporting (read deliverReportAck (now («data» .entry)))) (now (out .entry)) ⌝ }
 {
     let read = SmsDeliverReport::decode_for_rp_ack(data);
     let outcome = read.outcome;
@@ -80,7 +83,7 @@ pub fn canonical_deliver_report_ack(data: &[u8], out: &mut [u8]) -> Written
 
 // Reads a report carried in an RP-ERROR, and writes it back.
 pub fn canonical_deliver_report_error(data: &[u8], out: &mut [u8]) -> Written
-    ensures { λ r. ⌜ Rewrites deliverReportError false (now («data» .entry)) (now (out .entry)) r (now (out .exit)) ⌝ }
+    ensures { λ r. ⌜ (writtenSays r, now (out .exit)) ≡ lend refuses (rewriting deliverReporting (read deliverReportError (now («data» .entry)))) (now (out .entry)) ⌝ }
 {
     let read = SmsDeliverReport::decode_for_rp_error(data);
     let outcome = read.outcome;
@@ -93,7 +96,7 @@ pub fn canonical_deliver_report_error(data: &[u8], out: &mut [u8]) -> Written
 
 // Reads a report, and writes it back.
 pub fn canonical_status_report(data: &[u8], out: &mut [u8]) -> Written
-    ensures { λ r. ⌜ Rewrites statusReport false (now («data» .entry)) (now (out .entry)) r (now (out .exit)) ⌝ }
+    ensures { λ r. ⌜ (writtenSays r, now (out .exit)) ≡ lend refuses (rewriting statusReporting (read statusReport (now («data» .entry)))) (now (out .entry)) ⌝ }
 {
     let read = SmsStatusReport::decode(data);
     let outcome = read.outcome;

@@ -8,21 +8,32 @@ use mathlib.Core.List.{List, [], _∷_, _++_}
 use borrow.Author.Tests.{eq-eqb, eqb-true, le-ltb, lt-ltb, leb-true, leb-false}
 use lib.Dec.{eqb, leb, ltb}
 use lib.ListN.{length as size}
+use Rattle.octets.specs.Answers.{fine}
 use Rattle.octets.specs.Checks.{Check, _unless_, checked, afterChecked}
 use Rattle.octets.specs.Choice.{if_then_else_}
 use Rattle.octets.specs.Lent.{refused}
-use Rattle.octets.specs.declared.Checked.{Checked}
 use Rattle.octets.specs.declared.Refusal.the-variants.{UserDataLengthDisagrees, UserDataTooLong}
 use Rattle.octets.proofs.Checks.{checked-then, holds}
-use Rattle.octets.proofs.Laws.{take-pad}
+use Rattle.octets.proofs.Laws.{take-pad, cleared-pad}
+use Rattle.coding.specs.declared.UserData.{UserData}
 use Rattle.coding.specs.declared.UserDataCoding.{UserDataCoding}
 use Rattle.coding.specs.declared.UserDataCoding.the-variants.{Gsm7Bit, EightBit, Ucs2, Compressed}
-use Rattle.coding.specs.Coding.{codingOf, dataOctets, checkedData, dataChecks, dataWith, dataOf}
+use Rattle.coding.specs.Coding.{codingOf, dataOctets, checkedData, dataChecks, dataWith, dataOf, clearedData}
 
 -- what is stored is held
 pub data-held : (xs : List ℕ) → dataOf (dataWith xs) ≡ xs
 unfolding dataWith
 data-held xs = take-pad 255 xs
+
+-- and is cleared
+pub data-cleared : (xs : List ℕ) → clearedData (dataWith xs) ≡ dataWith xs
+unfolding dataWith
+data-cleared xs = rw (cleared-pad 255 xs)
+
+-- a record's user data, cleared
+pub data-back : (d : UserData) → size (dataOf d) ≡ d .length → dataWith (dataOf d) ≡ clearedData d
+unfolding dataWith
+data-back d n = rw n
 
 -- the number of octets of user data, as the calls tell it
 pub size-told : {n : ℕ} (dcs udl : ℕ) {k : UserDataCoding} → n ≡ dataOctets k udl → k ≡ codingOf dcs → n ≡ dataOctets (codingOf dcs) udl
@@ -35,7 +46,7 @@ module _ (dcs udl n : ℕ) where
   data-checked checks xs = checked-then xs (dataChecks dcs udl n) checks
 
   -- data that pass have the number that UDL and DCS give, and are few
-  pub data-passed : checkedData dcs udl n ≡ Checked.Fine → (n ≡ dataOctets (codingOf dcs) udl) × (n ≤ 140)
+  pub data-passed : checkedData dcs udl n ≡ fine → (n ≡ dataOctets (codingOf dcs) udl) × (n ≤ 140)
   unfolding checkedData
   data-passed e =
       let (size, f) = holds UserDataLengthDisagrees (eqb n (dataOctets (codingOf dcs) udl)) ((UserDataTooLong unless leb n 140) ∷ []) e in

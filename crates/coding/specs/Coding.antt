@@ -1,12 +1,13 @@
 -- TP-Data-Coding-Scheme (TS 23.038 §4) and TP-User-Data-Length (TS 23.040 §9.2.3.16).
 use Prim.Native.Nat.{ℕ, _+_, _*_, _/_, _%_}
+use mathlib.Core.Path.{_≡_, refl}
 use mathlib.Core.List.{List, [], _∷_}
 use lib.Dec.{eqb, leb}
 use lib.ListN.{length as size, take}
-use Rattle.octets.specs.Arrays.{pad}
+use Rattle.octets.specs.Answers.{Said, refuses, fine}
+use Rattle.octets.specs.Arrays.{pad, clearedArray}
 use Rattle.octets.specs.Checks.{Check, _unless_, found}
 use Rattle.octets.specs.Choice.{if_then_else_}
-use Rattle.octets.specs.declared.Checked.{Checked}
 use Rattle.octets.specs.declared.Refusal.the-variants.{UserDataLengthDisagrees, UserDataTooLong}
 use Rattle.coding.specs.declared.UserData.{UserData}
 use Rattle.coding.specs.declared.UserDataCoding.{UserDataCoding}
@@ -36,8 +37,17 @@ dataOctets Compressed udl = udl
 abbrev pub dataChecks : ℕ → ℕ → ℕ → List Check
 dataChecks dcs udl n = (UserDataLengthDisagrees unless eqb n (dataOctets (codingOf dcs) udl)) ∷ (UserDataTooLong unless leb n 140) ∷ []
 
-unfoldable pub checkedData : ℕ → ℕ → ℕ → Checked
+unfoldable pub checkedData : ℕ → ℕ → ℕ → Said Unit
 checkedData dcs udl n = found (dataChecks dcs udl n)
+
+known-codings : (codingOf 0x0c ≡ Gsm7Bit) × (codingOf 0x48 ≡ Ucs2) × (codingOf 0xc8 ≡ Gsm7Bit) × (codingOf 0xf4 ≡ EightBit) × (codingOf 0x20 ≡ Compressed)
+unfolding codingOf characterSet
+known-codings = (refl, refl, refl, refl, refl)
+
+-- 160 septets are 140 octets, and can be written; 161 can't
+known-sizes : (dataOctets Gsm7Bit 160 ≡ 140) × (checkedData 0x00 160 140 ≡ fine) × (checkedData 0x00 161 141 ≡ refuses UserDataTooLong) × (checkedData 0x00 160 139 ≡ refuses UserDataLengthDisagrees)
+unfolding codingOf characterSet dataOctets checkedData
+known-sizes = (refl, refl, refl, refl)
 
 -- octets as the user data of a record
 unfoldable pub dataWith : List ℕ → UserData
@@ -46,3 +56,11 @@ dataWith xs = record { octets = pad 255 xs; length = size xs }
 -- the user data that a record holds
 abbrev pub dataOf : UserData → List ℕ
 dataOf d = take (d .length) (d .octets)
+
+-- what lies after the length is no part of a record: set to zero
+abbrev pub clearedData : UserData → UserData
+clearedData d = record { length = d .length; octets = clearedArray 255 (d .length) (d .octets) }
+
+-- the array has the length of its type
+abbrev pub TypedData : UserData → Type 0
+TypedData d = size (d .octets) ≡ 255

@@ -3,6 +3,7 @@ ghost use mathlib.Core.Path.{_≡_};
 ghost use mathlib.Core.List.{[]};
 ghost use Prim.Native.Nat.{_≤_};
 ghost use lib.ListN.{length};
+ghost use Rattle.octets.specs.Answers.{checkedSays};
 ghost use Rattle.coding.specs.Coding.{codingOf, dataOctets, dataWith, checkedData};
 use octets::Checked;
 use octets::Refusal;
@@ -54,10 +55,10 @@ pub fn user_data_octets(coding: UserDataCoding, length: u8) -> usize
     }
 }
 
-// TP-User-Data as a record holds them: octets, and how many there are.
+// TP-User-Data as a record holds them: how many octets there are, and the octets.
 pub struct UserData {
-    pub octets: [u8; 255],
     pub length: usize,
+    pub octets: [u8; 255],
 }
 
 // Octets as a record holds them.
@@ -66,8 +67,8 @@ pub fn data_with(octets: &[u8]) -> UserData
     ensures { λ r. ⌜ r ≡ dataWith (now (octets .entry)) ⌝ }
 {
     UserData {
-        octets: octets::stored_octets(octets),
         length: octets.len(),
+        octets: octets::stored_octets(octets),
     }
 }
 
@@ -76,8 +77,8 @@ pub fn no_data() -> UserData
     ensures { λ r. ⌜ r ≡ dataWith [] ⌝ }
 {
     UserData {
-        octets: [0u8; 255],
         length: 0,
+        octets: [0u8; 255],
     }
 }
 
@@ -86,7 +87,7 @@ const MAX_USER_DATA_OCTETS: usize = 140;
 
 // Whether user data of so many octets go with DCS and TP-User-Data-Length.
 pub fn check_user_data(dcs: u8, length: u8, octets: usize) -> Checked
-    ensures { λ r. ⌜ r ≡ checkedData dcs length octets ⌝ }
+    ensures { λ r. ⌜ checkedSays r ≡ checkedData dcs length octets ⌝ }
 {
     if octets != user_data_octets(user_data_coding(dcs), length) {
         return Checked::Against(Refusal::UserDataLengthDisagrees);

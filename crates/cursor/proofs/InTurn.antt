@@ -1,4 +1,4 @@
--- SUBMITs that lie one behind the other are read in turn: the reader looks at no octet behind those that it takes, so each is read as if it stood alone.
+-- SUBMITs that lie one after the other are read in turn: the reader looks at no octet after those that it takes, so each is read as if it stood alone.
 -- Assumes nothing.
 use Prim.Native.Nat.{ℕ, _+_, _≤_}
 use mathlib.Core.Path.{_≡_, refl, sym, ap, _∙_}
@@ -6,34 +6,35 @@ use mathlib.Core.List.{List, [], _++_, append-assoc}
 use native.Mathlib.Omega.{arith}
 use lib.ListN.{length, take, length-append, take-append-drop}
 use lib.Seq.{length-take-le, take-length, take-at, drop-at}
-use Rattle.layout.specs.Layout.{Kind, size, cut, behind, canon, Format, field, require, endOr, done, Reached, reached, after, reading, readFrom, read}
+use Rattle.octets.specs.Answers.{fine}
+use Rattle.layout.specs.Layout.{answer, Kind, size, cut, behind, canon, Format, field, require, endOr, done, Reached, reached, after, reading, readFrom, read}
 use Rattle.layout.proofs.Fields.{own, cut-whole}
 use Rattle.layout.proofs.Laws.{goes-on, Taking, taken}
-use Rattle.submit.specs.Line.{behindFirst, behindCoding, line as fields}
-use Rattle.submit.specs.Submit.{line, submit, answer}
+use Rattle.submit.specs.Layout.{fields}
+use Rattle.submit.specs.Submit.{format, submit, blank, octetsTaken}
 use Rattle.submit.specs.declared.SmsSubmit.{SmsSubmit}
 use Rattle.cursor.specs.From.{submitFrom}
 
--- a line that never asks whether the string has ended
+-- a format that never asks whether the string has ended
 abbrev Endless : {R : Type 0} → Format R → Type 0
 Endless (field k next) = (c : List ℕ) → Endless (next c)
-Endless (require why holds line) = Endless line
-Endless (endOr line next) = ⊥
+Endless (require why holds format) = Endless format
+Endless (endOr format next) = ⊥
 Endless (done r) = Unit
 
--- what is read of s from a place on is read of the octets that it takes, whatever is behind them
-record Front {R : Type 0} (r : R) (n : ℕ) (line : Format R) (s : List ℕ) (at : ℕ) : Type 0 where
+-- what is read of s from a place on is read of the octets that it takes, whatever is after them
+record Front {R : Type 0} (r : R) (n : ℕ) (format : Format R) (s : List ℕ) (at : ℕ) : Type 0 where
   front : List ℕ
   rest : List ℕ
   splits : s ≡ front ++ rest
   counts : at + length front ≡ n
-  reads : (t : List ℕ) → reading line (front ++ t) at ≡ reached r n
+  reads : (t : List ℕ) → reading format (front ++ t) at ≡ reached r n
 
 module _ {R : Type 0} {r : R} {n : ℕ} where
   -- a field in front
-  behind-field : (k : Kind) (next : List ℕ → Format R) (s : List ℕ) (at : ℕ) → size k s ≤ length s → Front r n (next (canon k (cut k s))) (behind k s) (at + size k s) → Front r n (field k next) s at
+  after-field : (k : Kind) (next : List ℕ → Format R) (s : List ℕ) (at : ℕ) → size k s ≤ length s → Front r n (next (canon k (cut k s))) (behind k s) (at + size k s) → Front r n (field k next) s at
   unfolding reading
-  behind-field k next s at h g =
+  after-field k next s at h g =
       let f = cut k s in
       let whole = cut-whole k s h in
       let long : length f ≡ size k s = length-take-le (size k s) s h in
@@ -52,24 +53,24 @@ module _ {R : Type 0} {r : R} {n : ℕ} where
             rw (append-assoc f (g .front) t) e;
       }
 
-  fronts : Taking r n (λ line s at. Endless line → Front r n line s at)
+  fronts : Taking r n (λ format s at. Endless format → Front r n format s at)
   unfolding reading
   fronts = record {
-    by-field = λ k next s at h g endless. behind-field k next s at h (g (endless (canon k (cut k s))));
-    by-require = λ why line s at g endless. let f = g endless in record { front = f .front; rest = f .rest; splits = f .splits; counts = f .counts; reads = f .reads };
-    by-end = λ line next at e g endless. absurd endless;
-    by-more = λ line next x s at g endless. absurd endless;
+    by-field = λ k next s at h g endless. after-field k next s at h (g (endless (canon k (cut k s))));
+    by-require = λ why format s at g endless. let f = g endless in record { front = f .front; rest = f .rest; splits = f .splits; counts = f .counts; reads = f .reads };
+    by-end = λ format next at e g endless. absurd endless;
+    by-more = λ format next x s at g endless. absurd endless;
     by-done = λ s endless. record { front = []; rest = s; splits = refl; counts = omega arith; reads = λ t. refl };
   }
 
-submit-endless : Endless line
-unfolding line fields behindFirst behindCoding
+submit-endless : Endless format
+unfolding format fields
 submit-endless f mr da pid dcs vp udl ud = tt
 
--- s is a whole SUBMIT that lies behind anything and before anything: from its place on it is read as alone, with the number of its octets, which leads to the place behind it
-pub in-turn : (p s t : List ℕ) {r : SmsSubmit} → read submit s ≡ reached r (length s) → submitFrom (p ++ (s ++ t)) (length p) ≡ answer (reached r (length s))
+-- s is a whole SUBMIT that lies after anything and before anything: from its place on it is read as alone, with the number of its octets, which leads to the place after it
+pub in-turn : (p s t : List ℕ) {r : SmsSubmit} → read submit s ≡ reached r (length s) → submitFrom (p ++ (s ++ t)) (length p) ≡ ((fine, r), length s)
 unfolding read readFrom
 in-turn p s t e =
-    let g = taken fronts line s 0 e submit-endless in
+    let g = taken fronts format s 0 e submit-endless in
     let all : g .front ≡ s = sym (take-at (g .front) (g .rest) (length s) (omega (arith, g .counts))) ∙ ap (take (length s)) (sym (g .splits)) ∙ take-length s in
-    ap (λ (x : List ℕ). answer (read submit x)) (drop-at p (s ++ t) (length p) refl ∙ ap (λ (x : List ℕ). x ++ t) (sym all)) ∙ ap answer (g .reads t)
+    ap (λ (x : List ℕ). (answer blank (read submit x), octetsTaken (read submit x))) (drop-at p (s ++ t) (length p) refl ∙ ap (λ (x : List ℕ). x ++ t) (sym all)) ∙ ap (λ x. (answer blank x, octetsTaken x)) (g .reads t)

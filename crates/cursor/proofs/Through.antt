@@ -1,5 +1,5 @@
 -- A thin function over a cursor: it takes the struct apart and calls a covered function on the slice and the place, whose answer it hands back. One walk of that MIR, by hand, for every such function: what differs is the answer's
--- type, the callee's name, and the definition that both contracts equate the answer with. All that the walk knows of the callee is that it meets its contract.
+-- type, the callee's name, and the definition that both contracts equate what the answer says with. All that the walk knows of the callee is that it meets its contract.
 -- A cursor is Copy: what it owns is had twice, one copy is kept whole for the exit, and of the other what the slice owns goes to the callee, beside the lifetime's token, which comes back.
 -- Assumes nothing.
 use mathlib.Core.Path.{_≡_, refl, subst}
@@ -42,8 +42,8 @@ use Rattle.cursor.specs.declared.Cursor.{Cursor}
 use Rattle.cursor.proofs.Cursor.Laws.{mir as cursorTy, lowered}
 use Rattle.cursor.proofs.Held.{B, Of, laws, sliceIn, Own, OwnSlice, said, typed, with-slice, meets-by}
 
--- the answer's type, with its one MIR type; the definition; the callee
-module _ (R : RattleType) (τ : Ty) (one : R .mir ≡ τ ∷ []) (found : List ℕ → ℕ → R .Denot) (callee : Name) where
+-- the answer's type, with its one MIR type; what it says, and the definition of that; the callee
+module _ (R : RattleType) (τ : Ty) (one : R .mir ≡ τ ∷ []) {F : Type 0} (form : R .Denot → F) (found : List ℕ → ℕ → F) (callee : Name) where
   -- the callee's contract: of a slice and a place
   abbrev taking : Ended
   taking = record {
@@ -52,14 +52,14 @@ module _ (R : RattleType) (τ : Ty) (one : R .mir ≡ τ ∷ []) (found : List �
   }
 
   abbrev taken : {M : Type 1} (𝓤 : URA M) → Clauses 𝓤 taking
-  taken 𝓤 κs a = record { ghost = Unit {0}; requires = λ _. emp 𝓤; ensures = λ _ r _. fact 𝓤 (r ≡ found (now (a .0)) (a .1 .0)) }
+  taken 𝓤 κs a = record { ghost = Unit {0}; requires = λ _. emp 𝓤; ensures = λ _ r _. fact 𝓤 (form r ≡ found (now (a .0)) (a .1 .0)) }
 
   -- the function's own: the same of a cursor's
   abbrev thin : Ended
   thin = record { signature = record { lifetimes = 1; outlives = []; params = plain B ∷ []; result = plain (λ _. R) }; kept = (yes, tt) }
 
   abbrev clauses : {M : Type 1} (𝓤 : URA M) → Clauses 𝓤 thin
-  clauses 𝓤 κs a = record { ghost = Unit {0}; requires = λ _. emp 𝓤; ensures = λ _ r _. fact 𝓤 (r ≡ found (now (a .0 .octets)) (a .0 .place)) }
+  clauses 𝓤 κs a = record { ghost = Unit {0}; requires = λ _. emp 𝓤; ensures = λ _ r _. fact 𝓤 (form r ≡ found (now (a .0 .octets)) (a .0 .place)) }
 
   abbrev stayed : Stays (thin .signature .params) (thin .kept)
   stayed = (stay-none B yes, tt)
@@ -85,7 +85,7 @@ module _ (R : RattleType) (τ : Ty) (one : R .mir ≡ τ ∷ []) (found : List �
     abbrev mach : Val
     mach = lowered d
 
-    abbrev answer : R .Denot
+    abbrev answer : F
     answer = found (now (d .octets)) (d .place)
 
     abbrev Post : Val → SProp 𝓤
@@ -110,7 +110,7 @@ module _ (R : RattleType) (τ : Ty) (one : R .mir ≡ τ ∷ []) (found : List �
         move ! (2 ∷ []) $ owned ! usize (Is usize) (uint-makes 𝓤 H A W w64) (d .place) _ (refl, fits) $ fjoin ! $ move ! (1 ∷ 0 ∷ []) $ fjoin ! $
         move ! (2 ∷ 0 ∷ []) $ use2 W (raw (Taken 𝓤 H A .pre to)) asked $ frame ! $ done !
 
-    exits : (r : R .Denot) (u : Val) → r ≡ answer → ent 𝓤 (⋆ 𝓤 H A (‵ (R .own r (u ∷ [])) ∷ (‵ (flft κ q) ⊛ ‵ ftrue) ∷ ‵ (Own κ d) ∷ [])) (Post u)
+    exits : (r : R .Denot) (u : Val) → form r ≡ answer → ent 𝓤 (⋆ 𝓤 H A (‵ (R .own r (u ∷ [])) ∷ (‵ (flft κ q) ⊛ ‵ ftrue) ∷ ‵ (Own κ d) ∷ [])) (Post u)
     exits r u e =
         qed W (‵ (R .own r (u ∷ [])) ∷ (‵ (flft κ q) ⊛ ‵ ftrue) ∷ ‵ (Own κ d) ∷ []) ∵
         suffices ! _ (ends-at 𝓤 H A thin stayed (clauses 𝓤) W (((κ, tt), (q, tt), tt, (d, tt), (mach ∷ [], tt)), tt) u r (tt, tt) (tt, tt)) $ says ! e $
@@ -129,7 +129,7 @@ module _ (R : RattleType) (τ : Ty) (one : R .mir ≡ τ ∷ []) (found : List �
           move ! (8 ∷ []) $ use1 W (raw (Taken 𝓤 H A .pre to) ⊛ ‵ (Own κ d)) (apart (wt .1 .1 .0 .fits)) $ split ! $
           calls-at ! fm (Taken 𝓤 H A) known to (and-then ! (load ! (from ! (stop !)) (look ! 4 refl)) (and-then ! (load ! (from ! (stop !)) (look ! 2 refl)) (no-more !))) (λ u.
           use1 W (later (some (λ (r : R .Denot). ((‵ (flft κ q) ⊛ ‵ ftrue) ⊛ ‵ (R .own r (u ∷ []))) ⊛ raw (ensured 𝓤 H A taking (taken 𝓤) (κ, tt) (d .octets, (d .place, tt)) tt r)))) (id⊢ 𝓤 _) $ await ! tt $ pick ! (λ r.
-          split ! $ move ! (1 ∷ []) $ use1 W (raw (fact 𝓤 (r ≡ answer))) (said 𝓤 H A taking (κ, tt) (d .octets, (d .place, tt)) (r ≡ answer)) $ heard ! (r ≡ answer) (λ e. split ! $ move ! (1 ∷ []) $
+          split ! $ move ! (1 ∷ []) $ use1 W (raw (fact 𝓤 (form r ≡ answer))) (said 𝓤 H A taking (κ, tt) (d .octets, (d .place, tt)) (form r ≡ answer)) $ heard ! (form r ≡ answer) (λ e. split ! $ move ! (1 ∷ []) $
           -- [the result; the token; what the struct owns; _3; …; _2; …; _1; …; room for _0; …]
           peeks ! R (Is R) (shows 𝓤 H A R) r (u ∷ []) (λ is.
           land ! (from ! (stop !)) (init ! 9 refl (landing r u is)) $

@@ -4,20 +4,22 @@ use mathlib.Core.Path.{_≡_, refl}
 use mathlib.Core.List.{List, [], _∷_}
 use lib.Dec.{leb, ltb}
 use lib.ListN.{length, getD, drop}
+use Rattle.octets.specs.Answers.{Said, gives, refuses, outcomeSays}
 use Rattle.octets.specs.Choice.{if_then_else_}
 use Rattle.octets.specs.declared.Refusal.the-variants.{OctetsEnd}
-use Rattle.layout.specs.Layout.{Layout, Reached, read}
+use Rattle.layout.specs.Layout.{Layout, Reached, read, answer}
 use Rattle.cursor.specs.declared.from_place.OctetRead.{OctetRead}
 use Rattle.submit.specs.Submit as Submit
+use Rattle.submit.specs.declared.SmsSubmit.{SmsSubmit}
 use Rattle.submit.specs.declared.SubmitRead.{SubmitRead}
 use Rattle.deliver.specs.Deliver as Deliver
-use Rattle.deliver.specs.declared.DeliverRead.{DeliverRead}
+use Rattle.deliver.specs.declared.SmsDeliver.{SmsDeliver}
 use Rattle.submit_report.specs.SubmitReport as SubmitReport
-use Rattle.submit_report.specs.declared.SubmitReportRead.{SubmitReportRead}
+use Rattle.submit_report.specs.declared.SmsSubmitReport.{SmsSubmitReport}
 use Rattle.deliver_report.specs.DeliverReport as DeliverReport
-use Rattle.deliver_report.specs.declared.DeliverReportRead.{DeliverReportRead}
+use Rattle.deliver_report.specs.declared.SmsDeliverReport.{SmsDeliverReport}
 use Rattle.status_report.specs.StatusReport as StatusReport
-use Rattle.status_report.specs.declared.StatusReportRead.{StatusReportRead}
+use Rattle.status_report.specs.declared.SmsStatusReport.{SmsStatusReport}
 
 -- what a layout's reader finds from a place on; past the end there are no octets
 abbrev pub from : {R : Type 0} → Layout R → List ℕ → ℕ → Reached R
@@ -27,33 +29,42 @@ from layout s place = read layout (drop place s)
 unfoldable pub behindPlace : List ℕ → ℕ → ℕ → ℕ
 behindPlace s place count = if leb (place + count) (length s) then place + count else length s
 
+-- an octet, and the next place
+abbrev pub octetReadSays : OctetRead → Said (ℕ × ℕ)
+octetReadSays (OctetRead.Read x next) = gives (x, next)
+octetReadSays (OctetRead.Refused why) = refuses why
+
 -- the answers from a place on: one octet, and the seven readers'
-unfoldable pub octetFrom : List ℕ → ℕ → OctetRead
-octetFrom s place = if ltb place (length s) then OctetRead.Read (getD s place 0) (record { at = place + 1 }) else OctetRead.Refused OctetsEnd
+unfoldable pub octetFrom : List ℕ → ℕ → Said (ℕ × ℕ)
+octetFrom s place = if ltb place (length s) then gives (getD s place 0, place + 1) else refuses OctetsEnd
 
-abbrev pub submitFrom : List ℕ → ℕ → SubmitRead
-submitFrom s place = Submit.answer (from Submit.submit s place)
+-- a SUBMIT's answer, with the number of octets read beside the record
+abbrev pub submitReadSays : SubmitRead → (Said Unit × SmsSubmit) × ℕ
+submitReadSays r = ((outcomeSays (r .outcome), r .message), r .«octets_read»)
 
-abbrev pub deliverFrom : List ℕ → ℕ → DeliverRead
-deliverFrom s place = Deliver.answer (from Deliver.deliver s place)
+abbrev pub submitFrom : List ℕ → ℕ → (Said Unit × SmsSubmit) × ℕ
+submitFrom s place = (answer Submit.blank (from Submit.submit s place), Submit.octetsTaken (from Submit.submit s place))
 
-abbrev pub submitReportAckFrom : List ℕ → ℕ → SubmitReportRead
-submitReportAckFrom s place = SubmitReport.answer (from SubmitReport.ack s place)
+abbrev pub deliverFrom : List ℕ → ℕ → Said Unit × SmsDeliver
+deliverFrom s place = answer Deliver.blank (from Deliver.deliver s place)
 
-abbrev pub submitReportErrorFrom : List ℕ → ℕ → SubmitReportRead
-submitReportErrorFrom s place = SubmitReport.answer (from SubmitReport.error s place)
+abbrev pub submitReportAckFrom : List ℕ → ℕ → Said Unit × SmsSubmitReport
+submitReportAckFrom s place = answer SubmitReport.blank (from SubmitReport.ack s place)
 
-abbrev pub deliverReportAckFrom : List ℕ → ℕ → DeliverReportRead
-deliverReportAckFrom s place = DeliverReport.answer (from DeliverReport.ack s place)
+abbrev pub submitReportErrorFrom : List ℕ → ℕ → Said Unit × SmsSubmitReport
+submitReportErrorFrom s place = answer SubmitReport.blank (from SubmitReport.error s place)
 
-abbrev pub deliverReportErrorFrom : List ℕ → ℕ → DeliverReportRead
-deliverReportErrorFrom s place = DeliverReport.answer (from DeliverReport.error s place)
+abbrev pub deliverReportAckFrom : List ℕ → ℕ → Said Unit × SmsDeliverReport
+deliverReportAckFrom s place = answer DeliverReport.blank (from DeliverReport.ack s place)
 
-abbrev pub statusReportFrom : List ℕ → ℕ → StatusReportRead
-statusReportFrom s place = StatusReport.answer (from StatusReport.statusReport s place)
+abbrev pub deliverReportErrorFrom : List ℕ → ℕ → Said Unit × SmsDeliverReport
+deliverReportErrorFrom s place = answer DeliverReport.blank (from DeliverReport.error s place)
 
--- three octets: one further, to the end, and past it; the last octet, and none behind it
+abbrev pub statusReportFrom : List ℕ → ℕ → Said Unit × SmsStatusReport
+statusReportFrom s place = answer StatusReport.blank (from StatusReport.statusReport s place)
+
+-- three octets: one further, to the end, and past it; the last octet, and none after it
 known-places : (behindPlace (0x11 ∷ 0x22 ∷ 0x33 ∷ []) 1 1 ≡ 2) × (behindPlace (0x11 ∷ 0x22 ∷ 0x33 ∷ []) 1 2 ≡ 3) × (behindPlace (0x11 ∷ 0x22 ∷ 0x33 ∷ []) 1 3 ≡ 3)
-    × (octetFrom (0x11 ∷ 0x22 ∷ 0x33 ∷ []) 2 ≡ OctetRead.Read 0x33 (record { at = 3 })) × (octetFrom (0x11 ∷ 0x22 ∷ 0x33 ∷ []) 3 ≡ OctetRead.Refused OctetsEnd)
+    × (octetFrom (0x11 ∷ 0x22 ∷ 0x33 ∷ []) 2 ≡ gives (0x33, 3)) × (octetFrom (0x11 ∷ 0x22 ∷ 0x33 ∷ []) 3 ≡ refuses OctetsEnd)
 unfolding behindPlace octetFrom
 known-places = (refl, refl, refl, refl, refl)

@@ -1,12 +1,12 @@
-// Messages read from a place on, in octets where they lie one behind the other.
+// Messages read from a place on, in octets where they lie one after the other.
 ghost use mathlib.Core.Path.{_≡_};
 ghost use lib.ListN.{drop};
-ghost use Rattle.cursor.specs.From.{behindPlace, octetFrom, submitFrom, deliverFrom, submitReportAckFrom, submitReportErrorFrom, deliverReportAckFrom, deliverReportErrorFrom, statusReportFrom};
+ghost use Rattle.octets.specs.Answers.{outcomeSays};
+ghost use Rattle.cursor.specs.From.{behindPlace, octetReadSays, octetFrom, submitReadSays, submitFrom, deliverFrom, submitReportAckFrom, submitReportErrorFrom, deliverReportAckFrom, deliverReportErrorFrom, statusReportFrom};
 use deliver::DeliverRead;
 use deliver::SmsDeliver;
 use deliver_report::DeliverReportRead;
 use deliver_report::SmsDeliverReport;
-use octets::Place;
 use octets::Refusal;
 use status_report::SmsStatusReport;
 use status_report::StatusReportRead;
@@ -14,9 +14,9 @@ use submit::SubmitRead;
 use submit_report::SmsSubmitReport;
 use submit_report::SubmitReportRead;
 
-// The octet at a place and the place behind it; a refusal where the octets end.
+// The octet at a place and the place after it; a refusal where the octets end.
 pub enum OctetRead {
-    Read(u8, Place),
+    Read(u8, usize),
     Refused(Refusal),
 }
 
@@ -45,52 +45,52 @@ pub fn rest<'a>(octets: &'a [u8], place: usize) -> &'a [u8]
 
 // What is read from a place on: one octet, and each message.
 pub fn octet_at(octets: &[u8], place: usize) -> OctetRead
-    ensures { λ r. ⌜ r ≡ octetFrom (now (octets .entry)) place ⌝ }
+    ensures { λ r. ⌜ octetReadSays r ≡ octetFrom (now (octets .entry)) place ⌝ }
 {
     if octets.len() <= place {
         return OctetRead::Refused(Refusal::OctetsEnd);
     }
-    OctetRead::Read(octets[place], Place { at: place + 1 })
+    OctetRead::Read(octets[place], place + 1)
 }
 
 pub fn submit_at(octets: &[u8], place: usize) -> SubmitRead
-    ensures { λ r. ⌜ r ≡ submitFrom (now (octets .entry)) place ⌝ }
+    ensures { λ r. ⌜ submitReadSays r ≡ submitFrom (now (octets .entry)) place ⌝ }
 {
     submit::decode_sms_submit_tpdu(rest(octets, place))
 }
 
 pub fn deliver_at(octets: &[u8], place: usize) -> DeliverRead
-    ensures { λ r. ⌜ r ≡ deliverFrom (now (octets .entry)) place ⌝ }
+    ensures { λ r. ⌜ (outcomeSays (r .outcome), r .message) ≡ deliverFrom (now (octets .entry)) place ⌝ }
 {
     SmsDeliver::decode(rest(octets, place))
 }
 
 pub fn submit_report_ack_at(octets: &[u8], place: usize) -> SubmitReportRead
-    ensures { λ r. ⌜ r ≡ submitReportAckFrom (now (octets .entry)) place ⌝ }
+    ensures { λ r. ⌜ (outcomeSays (r .outcome), r .message) ≡ submitReportAckFrom (now (octets .entry)) place ⌝ }
 {
     SmsSubmitReport::decode_for_rp_ack(rest(octets, place))
 }
 
 pub fn submit_report_error_at(octets: &[u8], place: usize) -> SubmitReportRead
-    ensures { λ r. ⌜ r ≡ submitReportErrorFrom (now (octets .entry)) place ⌝ }
+    ensures { λ r. ⌜ (outcomeSays (r .outcome), r .message) ≡ submitReportErrorFrom (now (octets .entry)) place ⌝ }
 {
     SmsSubmitReport::decode_for_rp_error(rest(octets, place))
 }
 
 pub fn deliver_report_ack_at(octets: &[u8], place: usize) -> DeliverReportRead
-    ensures { λ r. ⌜ r ≡ deliverReportAckFrom (now (octets .entry)) place ⌝ }
+    ensures { λ r. ⌜ (outcomeSays (r .outcome), r .message) ≡ deliverReportAckFrom (now (octets .entry)) place ⌝ }
 {
     SmsDeliverReport::decode_for_rp_ack(rest(octets, place))
 }
 
 pub fn deliver_report_error_at(octets: &[u8], place: usize) -> DeliverReportRead
-    ensures { λ r. ⌜ r ≡ deliverReportErrorFrom (now (octets .entry)) place ⌝ }
+    ensures { λ r. ⌜ (outcomeSays (r .outcome), r .message) ≡ deliverReportErrorFrom (now (octets .entry)) place ⌝ }
 {
     SmsDeliverReport::decode_for_rp_error(rest(octets, place))
 }
 
 pub fn status_report_at(octets: &[u8], place: usize) -> StatusReportRead
-    ensures { λ r. ⌜ r ≡ statusReportFrom (now (octets .entry)) place ⌝ }
+    ensures { λ r. ⌜ (outcomeSays (r .outcome), r .message) ≡ statusReportFrom (now (octets .entry)) place ⌝ }
 {
     SmsStatusReport::decode(rest(octets, place))
 }

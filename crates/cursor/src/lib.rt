@@ -1,8 +1,9 @@
-// A cursor: octets and a place in them. Messages that lie one behind the other are read through it in turn.
+// A cursor: octets and a place in them. Messages that lie one after the other are read through it in turn.
 pub mod from_place;
 
 ghost use mathlib.Core.Path.{_≡_};
-ghost use Rattle.cursor.specs.From.{behindPlace, octetFrom, submitFrom, deliverFrom, submitReportAckFrom, submitReportErrorFrom, deliverReportAckFrom, deliverReportErrorFrom, statusReportFrom};
+ghost use Rattle.octets.specs.Answers.{outcomeSays};
+ghost use Rattle.cursor.specs.From.{behindPlace, octetReadSays, octetFrom, submitReadSays, submitFrom, deliverFrom, submitReportAckFrom, submitReportErrorFrom, deliverReportAckFrom, deliverReportErrorFrom, statusReportFrom};
 use crate::from_place::OctetRead;
 use deliver::DeliverRead;
 use deliver_report::DeliverReportRead;
@@ -42,50 +43,50 @@ impl<'a> Cursor<'a> {
 
     // The octet at the place, with the next place.
     pub fn read_octet(self) -> OctetRead
-        ensures { λ r. ⌜ r ≡ octetFrom (now (self .entry .octets)) (self .entry .place) ⌝ }
+        ensures { λ r. ⌜ octetReadSays r ≡ octetFrom (now (self .entry .octets)) (self .entry .place) ⌝ }
     {
         from_place::octet_at(self.octets, self.place)
     }
 
     // The message that starts at the place, by kind.
     pub fn decode_sms_submit_tpdu(self) -> SubmitRead
-        ensures { λ r. ⌜ r ≡ submitFrom (now (self .entry .octets)) (self .entry .place) ⌝ }
+        ensures { λ r. ⌜ submitReadSays r ≡ submitFrom (now (self .entry .octets)) (self .entry .place) ⌝ }
     {
         from_place::submit_at(self.octets, self.place)
     }
 
     pub fn decode_deliver(self) -> DeliverRead
-        ensures { λ r. ⌜ r ≡ deliverFrom (now (self .entry .octets)) (self .entry .place) ⌝ }
+        ensures { λ r. ⌜ (outcomeSays (r .outcome), r .message) ≡ deliverFrom (now (self .entry .octets)) (self .entry .place) ⌝ }
     {
         from_place::deliver_at(self.octets, self.place)
     }
 
     pub fn decode_submit_report_ack(self) -> SubmitReportRead
-        ensures { λ r. ⌜ r ≡ submitReportAckFrom (now (self .entry .octets)) (self .entry .place) ⌝ }
+        ensures { λ r. ⌜ (outcomeSays (r .outcome), r .message) ≡ submitReportAckFrom (now (self .entry .octets)) (self .entry .place) ⌝ }
     {
         from_place::submit_report_ack_at(self.octets, self.place)
     }
 
     pub fn decode_submit_report_error(self) -> SubmitReportRead
-        ensures { λ r. ⌜ r ≡ submitReportErrorFrom (now (self .entry .octets)) (self .entry .place) ⌝ }
+        ensures { λ r. ⌜ (outcomeSays (r .outcome), r .message) ≡ submitReportErrorFrom (now (self .entry .octets)) (self .entry .place) ⌝ }
     {
         from_place::submit_report_error_at(self.octets, self.place)
     }
 
     pub fn decode_deliver_report_ack(self) -> DeliverReportRead
-        ensures { λ r. ⌜ r ≡ deliverReportAckFrom (now (self .entry .octets)) (self .entry .place) ⌝ }
+        ensures { λ r. ⌜ (outcomeSays (r .outcome), r .message) ≡ deliverReportAckFrom (now (self .entry .octets)) (self .entry .place) ⌝ }
     {
         from_place::deliver_report_ack_at(self.octets, self.place)
     }
 
     pub fn decode_deliver_report_error(self) -> DeliverReportRead
-        ensures { λ r. ⌜ r ≡ deliverReportErrorFrom (now (self .entry .octets)) (self .entry .place) ⌝ }
+        ensures { λ r. ⌜ (outcomeSays (r .outcome), r .message) ≡ deliverReportErrorFrom (now (self .entry .octets)) (self .entry .place) ⌝ }
     {
         from_place::deliver_report_error_at(self.octets, self.place)
     }
 
     pub fn decode_status_report(self) -> StatusReportRead
-        ensures { λ r. ⌜ r ≡ statusReportFrom (now (self .entry .octets)) (self .entry .place) ⌝ }
+        ensures { λ r. ⌜ (outcomeSays (r .outcome), r .message) ≡ statusReportFrom (now (self .entry .octets)) (self .entry .place) ⌝ }
     {
         from_place::status_report_at(self.octets, self.place)
     }
@@ -93,7 +94,7 @@ impl<'a> Cursor<'a> {
 
 // The SUBMIT that stands behind so many octets.
 pub fn submit_behind(octets: &[u8], count: usize) -> SubmitRead
-    ensures { λ r. ⌜ r ≡ submitFrom (now (octets .entry)) count ⌝ }
+    ensures { λ r. ⌜ submitReadSays r ≡ submitFrom (now (octets .entry)) count ⌝ }
 {
     Cursor::new(octets).behind(count).decode_sms_submit_tpdu()
 }

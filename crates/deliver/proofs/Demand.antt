@@ -1,4 +1,4 @@
--- Demand 3 of DELIVER, and that its writer looks at the parts alone.
+-- Demand 3 of DELIVER, and that its writer looks at nothing that is no part of a record.
 -- Assumes nothing.
 use Prim.Native.Nat.{ℕ, _+_, _≤_, _<_}
 use mathlib.Core.Path.{_≡_, refl, sym, ap, _∙_}
@@ -8,50 +8,57 @@ use native.Mathlib.Omega.{arith}
 use borrow.Author.Tests.{eqb-true}
 use lib.Dec.{eqb, ltb}
 use lib.ListN.{length}
+use Rattle.octets.specs.Answers.{Said, gives}
 use Rattle.octets.specs.Checks.{Check, _unless_, checked}
 use Rattle.octets.specs.Choice.{if_then_else_, flag}
 use Rattle.octets.specs.Each.{Octets}
 use Rattle.octets.specs.Lent.{Making, refused, made}
 use Rattle.octets.specs.declared.Refusal.the-variants.{LengthTooLarge, WrongMessageType, NotATime, UserDataTooLong, AddressTooLong}
-use Rattle.octets.specs.declared.Written.{Written}
 use Rattle.octets.proofs.Table.{below}
 use Rattle.octets.proofs.Checks.{check-holds, no-checks}
-use Rattle.coding.specs.Coding.{codingOf, dataOctets, dataChecks, dataWith}
-use Rattle.coding.proofs.Laws.{data-held, data-at-most, data-limit}
+use Rattle.octets.proofs.Laws.{take-cleared}
+use Rattle.coding.specs.Coding.{codingOf, dataOctets, dataChecks, dataWith, dataOf}
+use Rattle.coding.proofs.Laws.{data-held, data-at-most, data-limit, data-cleared}
 use Rattle.time.specs.Time.{isTime, timeDigits, timeIn, digitsOf}
-use Rattle.time.proofs.Laws.{octets-back, digits-time, length-digits, time-held}
+use Rattle.time.proofs.Laws.{octets-back, digits-time, length-digits, time-held, time-cleared}
 use Rattle.address.specs.Writing.{addressChecks}
-use Rattle.address.specs.Address.{canonicalAddress}
-use Rattle.address.proofs.Laws.{canonical-reads, octets-again, length-short, read-checked, Field as AddressField}
+use Rattle.address.specs.Address.{canonicalAddress, textHeld}
+use Rattle.address.proofs.Laws.{address-cleared, canonical-reads, octets-again, length-short, read-checked, Field as AddressField}
 use Rattle.layout.specs.Demand.{Demand3}
 use Rattle.layout.specs.Layout.{messageType, kept, isSet, reached, read, canonicalOf, unwritable}
 use Rattle.layout.proofs.Makes.{Makes}
 use Rattle.layout.proofs.Demand.{Answers, Writes, demand3, answers-plain, answers-two}
-use Rattle.layout.proofs.Rewriting.{Told}
-use Rattle.deliver.proofs.RecordWritten.{fits, by-parts}
+use Rattle.deliver.proofs.RecordWritten.{fits, by-fields}
 use Rattle.deliver.specs.declared.SmsDeliver.{SmsDeliver}
-use Rattle.deliver.specs.Deliver.{delivered, line, deliver, answer, unread, delivering, Parts, parts}
-use Rattle.deliver.specs.Line.{bits, behindCoding, behindAddress, line as fields}
+use Rattle.deliver.specs.Deliver.{delivered, format, deliver, flagsOf, delivering, cleared, Typed}
+use Rattle.deliver.specs.Layout.{Fields, bits, fields}
 use Rattle.deliver.specs.Writing.{octetsIn, making}
 
--- ---- the parts alone
+-- ---- a record's octets
 
-abbrev partsFlags : Parts → ℕ
-partsFlags p = flag (p .rp) 128 + flag (p .udhi) 64 + flag (p .sri) 32 + flag (p .lp) 8 + flag (p .mms) 4
+abbrev octetsOf : SmsDeliver → List ℕ
+octetsOf r =
+    octetsIn (flagsOf r) (r .«tp_originating_address» .ton) (r .«tp_originating_address» .npi) (textHeld (r .«tp_originating_address»)) (r .«tp_pid») (r .«tp_dcs»)
+    (digitsOf (r .«tp_service_centre_timestamp»)) (r .«tp_user_data_length») (dataOf (r .«tp_user_data»))
 
-abbrev octetsOf : Parts → List ℕ
-octetsOf p = octetsIn (partsFlags p) (p .ton) (p .npi) (p .text) (p .pid) (p .dcs) (p .digits) (p .udl) (p .userData)
+-- what lies after the lengths is not written
+of-cleared : (r : SmsDeliver) → Typed r → delivering (cleared r) ≡ delivering r
+unfolding delivering
+of-cleared r (a, t, d) =
+    rw (
+      take-cleared 290 (r .«tp_originating_address» .«address_length») (r .«tp_originating_address» .address) a,
+      take-cleared 14 (r .«tp_service_centre_timestamp» .length) (r .«tp_service_centre_timestamp» .digits) t,
+      take-cleared 255 (r .«tp_user_data» .length) (r .«tp_user_data» .octets) d,
+    )
 
--- what the writer makes of the parts
-partsMaking : Parts → Making Written
-partsMaking p =
-    if ltb 290 (p .textLength) || (ltb 14 (p .timeLength) || ltb 255 (p .dataLength)) then refused LengthTooLarge
-    else making (partsFlags p) (p .mti) (p .ton) (p .npi) (p .text) (p .pid) (p .dcs) (p .digits) (p .udl) (p .userData)
+-- equal records are written alike
+pub written-alike : (r q : SmsDeliver) → Typed r → Typed q → cleared r ≡ cleared q → delivering r ≡ delivering q
+written-alike r q f g e = sym (of-cleared r f) ∙ ap delivering e ∙ of-cleared q g
 
--- two records with equal parts are written alike, whatever lies behind their lengths
-pub written-alike : (r q : SmsDeliver) → parts r ≡ parts q → delivering r ≡ delivering q
-unfolding delivering partsMaking
-written-alike r q e = ap partsMaking e
+-- a record that was made of fields is cleared
+pub made-cleared : (x : Fields) → cleared (delivered x) ≡ delivered x
+unfolding delivered
+made-cleared x = rw (address-cleared (x .oa), time-cleared (x .scts), data-cleared (x .ud))
 
 -- ---- a record that was read: its octets, and how its checks fare
 
@@ -68,18 +75,18 @@ module _ (x : ℕ) (hx : x < 256) (mti : eqb (messageType (kept bits x)) 0 ≡ t
   abbrev octets : List ℕ
   octets = kept bits x ∷ canonicalAddress f ++ pid ∷ dcs ∷ t ++ udl ∷ d
 
-  its-octets : octetsOf (parts r) ≡ octets
+  its-octets : octetsOf r ≡ octets
   unfolding delivered
   its-octets = rw (canonical-reads f wf, first-octet x hx mti, octets-again f wf, time-held t, octets-back t ot, data-held d)
 
   -- what its checks come to
-  abbrev answered : List ℕ → Making Written
-  answered xs = if ltb 140 (length d) then refused UserDataTooLong else if ltb 12 (length (canonicalAddress f)) then refused AddressTooLong else made xs (Written.Done (length xs))
+  abbrev answered : List ℕ → Making (Said ℕ)
+  answered xs = if ltb 140 (length d) then refused UserDataTooLong else if ltb 12 (length (canonicalAddress f)) then refused AddressTooLong else made xs (gives (length xs))
 
   abbrev later : List Check
-  later = addressChecks (parts r .ton) (parts r .npi) (parts r .text) ++ (NotATime unless isTime (parts r .digits)) ∷ []
+  later = addressChecks (r .«tp_originating_address» .ton) (r .«tp_originating_address» .npi) (textHeld (r .«tp_originating_address»)) ++ (NotATime unless isTime (digitsOf (r .«tp_service_centre_timestamp»))) ∷ []
 
-  its-checks : (xs : List ℕ) → checked (dataChecks dcs udl (length (parts r .userData)) ++ later) xs ≡ answered xs
+  its-checks : (xs : List ℕ) → checked (dataChecks dcs udl (length (dataOf (r .«tp_user_data»))) ++ later) xs ≡ answered xs
   unfolding delivered
   its-checks xs =
       rw (data-held d)
@@ -91,25 +98,21 @@ module _ (x : ℕ) (hx : x < 256) (mti : eqb (messageType (kept bits x)) 0 ≡ t
   its-making =
       let short : length (timeDigits t) ≤ 14 = omega (arith, length-digits t) in
       let few : length d ≤ 255 = omega (arith, data-at-most (codingOf dcs) udl) in
-      by-parts r (fits r (rw (canonical-reads f wf) (length-short f wf)) short few)
-      ∙ check-holds mti WrongMessageType (dataChecks dcs udl (length (parts r .userData)) ++ later) (octetsOf (parts r))
-      ∙ its-checks (octetsOf (parts r)) ∙ ap answered its-octets
+      by-fields r (fits r (rw (canonical-reads f wf) (length-short f wf)) short few)
+      ∙ check-holds mti WrongMessageType (dataChecks dcs udl (length (dataOf (r .«tp_user_data»))) ++ later) (octetsOf r)
+      ∙ its-checks (octetsOf r) ∙ ap answered its-octets
 
-delivered-makes : Makes (Writes parts delivering octetsOf) line
-unfolding line fields behindAddress behindCoding
+delivered-makes : Makes (Writes cleared delivering octetsOf) format
+unfolding format fields
 delivered-makes x hx mti f wf pid hp dcs hd t ot wt udl hu d od wd = record {
-  octets = its-octets x hx mti f wf pid dcs t ot wt udl hu d wd ∙ rw (append-nil, append-assoc);
+  octets = ap octetsOf (made-cleared _) ∙ its-octets x hx mti f wf pid dcs t ot wt udl hu d wd ∙ rw (append-nil, append-assoc);
   answer = rw (its-making x hx mti f wf pid dcs t ot wt udl hu d wd) (answers-two (ltb 12 (length (canonicalAddress f))) (ltb 140 (length d)) AddressTooLong UserDataTooLong _ _ (rw (append-nil, append-assoc)));
 }
 
 -- demand 3 of DELIVER
-pub deliver-demand3 : Demand3 parts deliver delivering false
-deliver-demand3 = demand3 parts delivering octetsOf line delivered-makes
+pub deliver-demand3 : Demand3 cleared deliver delivering false
+deliver-demand3 = demand3 cleared delivering octetsOf format delivered-makes
 
 -- what the writer makes of a record that was read, whatever the buffer
 pub deliver-answers : (s : List ℕ) → Octets s → (r : SmsDeliver) (n : ℕ) → read deliver s ≡ reached r n → Answers (delivering r) (canonicalOf deliver s) (unwritable deliver false s)
-deliver-answers = answers-plain parts delivering octetsOf line delivered-makes
-
-pub told : Told answer (λ m. m .outcome) (λ m. m .message)
-unfolding answer unread
-told = record { when-done = λ r n. (refl, refl); when-halted = λ why. refl }
+deliver-answers = answers-plain cleared delivering octetsOf format delivered-makes

@@ -6,7 +6,7 @@ use mathlib.Core.List.{List}
 use lib.Dec.{eqb}
 use lib.ListN.{take, drop}
 use Rattle.octets.specs.Each.{Octets}
-use Rattle.octets.specs.declared.Outcome.{Outcome}
+use Rattle.octets.specs.Answers.{Said, refuses, fine}
 use Rattle.octets.specs.declared.Refusal.{Refusal}
 use Rattle.octets.proofs.Laws.{part-is}
 use Rattle.coding.specs.Coding.{dataWith}
@@ -15,27 +15,28 @@ use Rattle.time.specs.Time.{timeIn}
 use Rattle.time.specs.declared.Time.{Time}
 use Rattle.address.specs.Address.{addressIn, addressSize}
 use Rattle.address.specs.declared.SMSAddress.{SMSAddress}
-use Rattle.layout.specs.Layout.{done, read, readFrom}
+use Rattle.layout.specs.Layout.{done, read, readFrom, answer}
 use Rattle.layout.proofs.Fields.{address-there}
 use Rattle.layout.proofs.FirstOctet.{kept-bit, kept-type}
 use Rattle.layout.proofs.Steps.{done-reached, then-goes-on, then-ends}
-use Rattle.deliver.specs.Line.{bits, line as fields, fieldsAt, told, Inside}
+use Rattle.deliver.specs.Layout.{bits, fields}
+use Rattle.deliver.specs.Internal.{fieldsAt, foundSays, Inside}
 use Rattle.deliver.specs.declared.reading.DeliverFields.{DeliverFields}
 use Rattle.deliver.specs.declared.reading.DeliverFound.{DeliverFound}
 use Rattle.deliver.specs.declared.SmsDeliver.{SmsDeliver}
-use Rattle.deliver.specs.declared.DeliverRead.{DeliverRead}
-use Rattle.deliver.specs.Deliver.{delivered, line, deliver, answer, unread}
+use Rattle.deliver.specs.Deliver.{delivered, format, deliver, blank}
 
 -- ---- the answer
 
 -- what fields that were found, or a refusal, come to
-pub answer-refused : (s : List ℕ) (why : Refusal) → told s (DeliverFound.Refused why) ≡ readFrom fields s 0 → unread why ≡ answer (read deliver s)
-unfolding answer read line
-answer-refused s why e = rw (then-ends s fields 0 (sym e) (λ x. done (delivered x)))
+pub answer-refused : (s : List ℕ) (why : Refusal) (r : SmsDeliver) → foundSays s (DeliverFound.Refused why) ≡ readFrom fields s 0 → r ≡ blank
+    → _≡_ {A = Said Unit × SmsDeliver} (refuses why, r) (answer blank (read deliver s))
+unfolding read format
+answer-refused s why r e is = rw (then-ends s fields 0 (sym e) (λ x. done (delivered x)), is)
 
-pub answer-done : (s : List ℕ) (f : DeliverFields) (r : SmsDeliver) → told s (DeliverFound.Whole f) ≡ readFrom fields s 0 → r ≡ delivered (fieldsAt s f)
-    → _≡_ {A = DeliverRead} (record { outcome = Outcome.Done; message = r }) (answer (read deliver s))
-unfolding answer read line
+pub answer-done : (s : List ℕ) (f : DeliverFields) (r : SmsDeliver) → foundSays s (DeliverFound.Whole f) ≡ readFrom fields s 0 → r ≡ delivered (fieldsAt s f)
+    → _≡_ {A = Said Unit × SmsDeliver} (fine, r) (answer blank (read deliver s))
+unfolding read format
 answer-done s f r e is = rw (then-goes-on s fields 0 (sym e) (λ x. done (delivered x)), done-reached, is)
 
 -- ---- the record

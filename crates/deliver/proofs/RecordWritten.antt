@@ -1,4 +1,4 @@
--- What the writer makes of a record: its lengths, then its parts.
+-- What the writer makes of a record: its lengths, then its fields.
 -- Assumes nothing.
 use Prim.Native.Nat.{_≤_}
 use mathlib.Core.Path.{_≡_}
@@ -16,7 +16,7 @@ use Rattle.deliver.specs.Deliver.{flagsOf, tooLong, delivering}
 use Rattle.deliver.specs.Writing.{making}
 use Rattle.deliver.specs.declared.SmsDeliver.{SmsDeliver}
 
--- ---- a record: its lengths, then its parts
+-- ---- a record: its lengths, then its fields
 
 module _ (r : SmsDeliver) where
   pub too-long : tooLong r ≡ true → delivering r ≡ refused LengthTooLarge
@@ -27,9 +27,9 @@ module _ (r : SmsDeliver) where
   fits a t u = rw (le-ltb 290 _ a, le-ltb 14 _ t, le-ltb 255 _ u)
 
   module _ (e : tooLong r ≡ false) where
-    pub by-parts : delivering r ≡ making (flagsOf r) (r .«tp_mti») (r .«tp_originating_address» .ton) (r .«tp_originating_address» .npi) (textHeld (r .«tp_originating_address»)) (r .«tp_pid») (r .«tp_dcs») (digitsOf (r .«tp_service_centre_timestamp»)) (r .«tp_user_data_length») (dataOf (r .«tp_user_data»))
+    pub by-fields : delivering r ≡ making (flagsOf r) (r .«tp_mti») (r .«tp_originating_address» .ton) (r .«tp_originating_address» .npi) (textHeld (r .«tp_originating_address»)) (r .«tp_pid») (r .«tp_dcs») (digitsOf (r .«tp_service_centre_timestamp»)) (r .«tp_user_data_length») (dataOf (r .«tp_user_data»))
     unfolding delivering
-    by-parts = rw e
+    by-fields = rw e
 
     pub all-fit : (r .«tp_originating_address» .«address_length» ≤ 290) × (r .«tp_service_centre_timestamp» .length ≤ 14) × (r .«tp_user_data» .length ≤ 255)
     all-fit =

@@ -1,27 +1,27 @@
--- SMS-DELIVER (TS 23.040 §9.2.2.1): the record of its line's fields, its reader's answer, and what its writer makes.
+-- SMS-DELIVER (TS 23.040 §9.2.2.1): the record that its fields make, what its writer makes of a record, and what is no part of one.
 use Prim.Native.Nat.{ℕ, _+_}
 use mathlib.Core.Bool.{Bool, false, _||_}
 use mathlib.Core.List.{List, [], _∷_}
 use lib.Dec.{ltb}
 use lib.ListN.{length}
+use Rattle.octets.specs.Answers.{Said}
 use Rattle.octets.specs.Choice.{if_then_else_, flag}
 use Rattle.octets.specs.Lent.{Making, refused}
-use Rattle.octets.specs.declared.Outcome.{Outcome}
-use Rattle.octets.specs.declared.Refusal.{Refusal}
 use Rattle.octets.specs.declared.Refusal.the-variants.{LengthTooLarge}
-use Rattle.octets.specs.declared.Written.{Written}
-use Rattle.coding.specs.Coding.{dataWith, dataOf}
-use Rattle.time.specs.Time.{timeIn, digitsOf, capitals}
-use Rattle.address.specs.Address.{addressIn, addressWith, textHeld}
-use Rattle.layout.specs.Layout.{Format, Layout, plain, Reached, reached, halted, done, _then_, isSet, messageType}
-use Rattle.deliver.specs.Line.{Fields, line as fields}
+use Rattle.coding.specs.Coding.{dataWith, dataOf, clearedData, TypedData}
+use Rattle.coding.specs.declared.UserData.{UserData}
+use Rattle.time.specs.Time.{timeIn, digitsOf, clearedTime, capitalTime, TypedTime}
+use Rattle.time.specs.declared.Time.{Time}
+use Rattle.address.specs.Address.{addressIn, addressWith, textHeld, clearedAddress, TypedAddress}
+use Rattle.address.specs.declared.SMSAddress.{SMSAddress}
+use Rattle.layout.specs.Layout.{Format, Layout, plain, done, _then_, isSet, messageType}
+use Rattle.deliver.specs.Layout.{Fields, fields}
 use Rattle.deliver.specs.Writing.{making}
 use Rattle.deliver.specs.declared.SmsDeliver.{SmsDeliver}
-use Rattle.deliver.specs.declared.DeliverRead.{DeliverRead}
 
 -- ---- reading
 
--- the record that the fields make
+-- the record that the fields make. An address is made from its canonical octets, since these are what a layout gives: they are read as the field itself is (law `canonical-reads` of crate address)
 unfoldable pub delivered : Fields → SmsDeliver
 delivered x = record {
   «tp_rp» = isSet 7 (x .first);
@@ -38,12 +38,12 @@ delivered x = record {
   «tp_user_data» = dataWith (x .ud);
 }
 
--- the line of fields (deliver/specs/Line.antt), and the record
-unfoldable pub line : Format SmsDeliver
-line = fields then λ x. done (delivered x)
+-- the layout of fields, and the record
+unfoldable pub format : Format SmsDeliver
+format = fields then λ x. done (delivered x)
 
 abbrev pub deliver : Layout SmsDeliver
-deliver = plain line
+deliver = plain format
 
 -- the blank record
 unfoldable pub blank : SmsDeliver
@@ -62,14 +62,6 @@ blank = record {
   «tp_user_data» = dataWith [];
 }
 
-unfoldable pub unread : Refusal → DeliverRead
-unread r = record { outcome = Outcome.Refused r; message = blank }
-
--- what the reader answers
-unfoldable pub answer : Reached SmsDeliver → DeliverRead
-answer (reached r n) = record { outcome = Outcome.Done; message = r }
-answer (halted why) = unread why
-
 -- ---- writing
 
 -- RP bit 7, UDHI 6, SRI 5, LP 3, MMS 2
@@ -81,73 +73,40 @@ abbrev pub tooLong : SmsDeliver → Bool
 tooLong r = ltb 290 (r .«tp_originating_address» .«address_length») || (ltb 14 (r .«tp_service_centre_timestamp» .length) || ltb 255 (r .«tp_user_data» .length))
 
 -- what the writer makes of a record
-unfoldable pub delivering : SmsDeliver → Making Written
+unfoldable pub delivering : SmsDeliver → Making (Said ℕ)
 delivering r =
     if tooLong r then refused LengthTooLarge
     else
     making (flagsOf r) (r .«tp_mti») (r .«tp_originating_address» .ton) (r .«tp_originating_address» .npi) (textHeld (r .«tp_originating_address»)) (r .«tp_pid») (r .«tp_dcs»)
     (digitsOf (r .«tp_service_centre_timestamp»)) (r .«tp_user_data_length») (dataOf (r .«tp_user_data»))
 
--- ---- the parts of a record: what lies behind a length is none
+-- ---- what is no part of a record
 
-pub record Parts : Type 0 where
-  pub rp : Bool
-  pub udhi : Bool
-  pub sri : Bool
-  pub lp : Bool
-  pub mms : Bool
-  pub mti : ℕ
-  pub ton : ℕ
-  pub npi : ℕ
-  pub textLength : ℕ
-  pub text : List ℕ
-  pub pid : ℕ
-  pub dcs : ℕ
-  pub timeLength : ℕ
-  pub digits : List ℕ
-  pub udl : ℕ
-  pub dataLength : ℕ
-  pub userData : List ℕ
-
-abbrev pub parts : SmsDeliver → Parts
-parts r = record {
-  rp = r .«tp_rp»;
-  udhi = r .«tp_udhi»;
-  sri = r .«tp_sri»;
-  lp = r .«tp_lp»;
-  mms = r .«tp_mms»;
-  mti = r .«tp_mti»;
-  ton = r .«tp_originating_address» .ton;
-  npi = r .«tp_originating_address» .npi;
-  textLength = r .«tp_originating_address» .«address_length»;
-  text = textHeld (r .«tp_originating_address»);
-  pid = r .«tp_pid»;
-  dcs = r .«tp_dcs»;
-  timeLength = r .«tp_service_centre_timestamp» .length;
-  digits = digitsOf (r .«tp_service_centre_timestamp»);
-  udl = r .«tp_user_data_length»;
-  dataLength = r .«tp_user_data» .length;
-  userData = dataOf (r .«tp_user_data»);
+-- the same record with address, time and user data changed
+abbrev pub changed : (SMSAddress → SMSAddress) → (Time → Time) → (UserData → UserData) → SmsDeliver → SmsDeliver
+changed address time userData r = record {
+  «tp_rp» = r .«tp_rp»;
+  «tp_udhi» = r .«tp_udhi»;
+  «tp_sri» = r .«tp_sri»;
+  «tp_lp» = r .«tp_lp»;
+  «tp_mms» = r .«tp_mms»;
+  «tp_mti» = r .«tp_mti»;
+  «tp_originating_address» = address (r .«tp_originating_address»);
+  «tp_pid» = r .«tp_pid»;
+  «tp_dcs» = r .«tp_dcs»;
+  «tp_service_centre_timestamp» = time (r .«tp_service_centre_timestamp»);
+  «tp_user_data_length» = r .«tp_user_data_length»;
+  «tp_user_data» = userData (r .«tp_user_data»);
 }
 
--- the same parts with the time's letters capital: what a writer wrote reads back so (document 01, demand 2)
-abbrev pub capitalised : Parts → Parts
-capitalised p = record {
-  rp = p .rp;
-  udhi = p .udhi;
-  sri = p .sri;
-  lp = p .lp;
-  mms = p .mms;
-  mti = p .mti;
-  ton = p .ton;
-  npi = p .npi;
-  textLength = p .textLength;
-  text = p .text;
-  pid = p .pid;
-  dcs = p .dcs;
-  timeLength = p .timeLength;
-  digits = capitals (p .digits);
-  udl = p .udl;
-  dataLength = p .dataLength;
-  userData = p .userData;
-}
+-- what lies after a length set to zero: records are equal where these are
+abbrev pub cleared : SmsDeliver → SmsDeliver
+cleared = changed clearedAddress clearedTime clearedData
+
+-- the time's letters capital
+abbrev pub capitalised : SmsDeliver → SmsDeliver
+capitalised = changed (λ a. a) capitalTime (λ d. d)
+
+-- the arrays have the lengths of their types
+abbrev pub Typed : SmsDeliver → Type 0
+Typed r = TypedAddress (r .«tp_originating_address») × TypedTime (r .«tp_service_centre_timestamp») × TypedData (r .«tp_user_data»)

@@ -4,11 +4,12 @@ pub mod writing;
 
 ghost use mathlib.Core.Path.{_≡_};
 ghost use Prim.Native.Nat.{_+_};
+ghost use Rattle.octets.specs.Answers.{refuses, outcomeSays, writtenSays};
 ghost use Rattle.octets.specs.Choice.{flag};
 ghost use Rattle.octets.specs.Lent.{lend};
-ghost use Rattle.layout.specs.Layout.{read};
-ghost use Rattle.deliver.specs.Line.{fieldsAt, Inside};
-ghost use Rattle.deliver.specs.Deliver.{delivered, deliver, blank as blankMessage, answer, unread, delivering};
+ghost use Rattle.layout.specs.Layout.{read, answer};
+ghost use Rattle.deliver.specs.Internal.{fieldsAt, Inside};
+ghost use Rattle.deliver.specs.Deliver.{delivered, deliver, blank as blankMessage, delivering};
 use crate::reading::DeliverFields;
 use crate::reading::DeliverFound;
 use address::SMSAddress;
@@ -59,15 +60,6 @@ fn blank() -> SmsDeliver
     }
 }
 
-fn refused(r: Refusal) -> DeliverRead
-    ensures { λ u. ⌜ u ≡ unread r ⌝ }
-{
-    DeliverRead {
-        outcome: Outcome::Refused(r),
-        message: blank(),
-    }
-}
-
 // The message of fields that are there.
 fn message(data: &[u8], f: DeliverFields) -> SmsDeliver
     requires { ⌜ Inside (now «data») (DeliverFound.Whole f) ⌝ }
@@ -76,7 +68,7 @@ fn message(data: &[u8], f: DeliverFields) -> SmsDeliver
     let start = f.data;
     let end = start + f.octets;
     let first = f.first;
-    let originator = SMSAddress::decode(data, f.address);
+    let originator = address::address_at(data, f.address);
     let timestamp = time::time_at(data, f.timestamp);
     let user_data = coding::data_with(&data[start..end]);
     SmsDeliver {
@@ -109,7 +101,7 @@ fn flags(rp: bool, udhi: bool, sri: bool, lp: bool, mms: bool) -> u8
 impl SmsDeliver {
     // Writes the message to the start of a lent output.
     pub fn encode(self, out: &mut [u8]) -> Written
-        ensures { λ r. ⌜ (r, now (out .exit)) ≡ lend Written.Refused (delivering self) (now (out .entry)) ⌝ }
+        ensures { λ r. ⌜ (writtenSays r, now (out .exit)) ≡ lend refuses (delivering self) (now (out .entry)) ⌝ }
     {
         let n = self.tp_originating_address.address_length;
         let m = self.tp_service_centre_timestamp.length;
@@ -127,7 +119,7 @@ impl SmsDeliver {
         let text = self.tp_originating_address.address;
         let digits = self.tp_service_centre_timestamp.digits;
         let octets = self.tp_user_data.octets;
-        writing::encode_parts(
+        writing::encode_fields(
             flags,
             self.tp_mti,
             self.tp_originating_address.ton,
@@ -144,10 +136,13 @@ impl SmsDeliver {
 
     // Reads a message.
     pub fn decode(data: &[u8]) -> DeliverRead
-        ensures { λ r. ⌜ r ≡ answer (read deliver (now («data» .entry))) ⌝ }
+        ensures { λ r. ⌜ (outcomeSays (r .outcome), r .message) ≡ answer blankMessage (read deliver (now («data» .entry))) ⌝ }
     {
         match reading::fields_of(data) {
-            DeliverFound::Refused(r) => refused(r),
+            DeliverFound::Refused(r) => DeliverRead {
+                outcome: Outcome::Refused(r),
+                message: blank(),
+            },
             DeliverFound::Whole(f) => DeliverRead {
                 outcome: Outcome::Done,
                 message: message(data, f),

@@ -4,7 +4,8 @@ ghost use Prim.Native.Nat.{_+_, _≤_};
 ghost use lib.ListN.{length, drop};
 ghost use Rattle.layout.specs.Layout.{readFrom, kept, cut, address as addressKind};
 ghost use Rattle.address.specs.Address.{addressSize, canonicalAddress};
-ghost use Rattle.deliver.specs.Line.{bits, line, behindAddress, behindCoding, told, Inside};
+ghost use Rattle.deliver.specs.Layout.{bits, fields};
+ghost use Rattle.deliver.specs.Internal.{afterAddress, afterCoding, foundSays, Inside};
 use octets::Octet;
 use octets::Place;
 use octets::Refusal;
@@ -31,7 +32,7 @@ pub enum DeliverFound {
 }
 
 // What follows TP-DCS.
-fn behind_coding(
+fn after_coding(
     data: &[u8],
     first: u8,
     address: usize,
@@ -40,7 +41,7 @@ fn behind_coding(
     place: Place,
 ) -> DeliverFound
     requires { ⌜ (address + addressSize (drop address (now «data»)) ≤ length (now «data»)) × (place .at ≤ length (now «data»)) ⌝ }
-    ensures { λ r. ⌜ (told (now («data» .entry)) r ≡ readFrom (behindCoding (kept bits first) (canonicalAddress (cut addressKind (drop address (now («data» .entry))))) pid dcs) (now («data» .entry)) (place .at)) × Inside (now («data» .entry)) r ⌝ }
+    ensures { λ r. ⌜ (foundSays (now («data» .entry)) r ≡ readFrom (afterCoding (kept bits first) (canonicalAddress (cut addressKind (drop address (now («data» .entry))))) pid dcs) (now («data» .entry)) (place .at)) × Inside (now («data» .entry)) r ⌝ }
 {
     let Span::There(timestamp, place2) = place.span(data, 7) else {
         return DeliverFound::Refused(Refusal::OctetsEnd);
@@ -65,9 +66,9 @@ fn behind_coding(
 }
 
 // What follows the address.
-fn behind_address(data: &[u8], first: u8, address: usize, place: Place) -> DeliverFound
+fn after_address(data: &[u8], first: u8, address: usize, place: Place) -> DeliverFound
     requires { ⌜ address + addressSize (drop address (now «data»)) ≤ length (now «data») ⌝ }
-    ensures { λ r. ⌜ (told (now («data» .entry)) r ≡ readFrom (behindAddress (kept bits first) (canonicalAddress (cut addressKind (drop address (now («data» .entry)))))) (now («data» .entry)) (place .at)) × Inside (now («data» .entry)) r ⌝ }
+    ensures { λ r. ⌜ (foundSays (now («data» .entry)) r ≡ readFrom (afterAddress (kept bits first) (canonicalAddress (cut addressKind (drop address (now («data» .entry)))))) (now («data» .entry)) (place .at)) × Inside (now («data» .entry)) r ⌝ }
 {
     let Octet::Read(pid, place2) = place.octet(data) else {
         return DeliverFound::Refused(Refusal::OctetsEnd);
@@ -75,12 +76,12 @@ fn behind_address(data: &[u8], first: u8, address: usize, place: Place) -> Deliv
     let Octet::Read(dcs, place3) = place2.octet(data) else {
         return DeliverFound::Refused(Refusal::OctetsEnd);
     };
-    behind_coding(data, first, address, pid, dcs, place3)
+    after_coding(data, first, address, pid, dcs, place3)
 }
 
 // The fields of a message.
 pub fn fields_of(data: &[u8]) -> DeliverFound
-    ensures { λ r. ⌜ (told (now («data» .entry)) r ≡ readFrom line (now («data» .entry)) 0) × Inside (now («data» .entry)) r ⌝ }
+    ensures { λ r. ⌜ (foundSays (now («data» .entry)) r ≡ readFrom fields (now («data» .entry)) 0) × Inside (now («data» .entry)) r ⌝ }
 {
     let start = Place { at: 0 };
     let Octet::Read(first, place) = start.octet(data) else {
@@ -89,8 +90,8 @@ pub fn fields_of(data: &[u8]) -> DeliverFound
     if first % 4 != MTI_DELIVER {
         return DeliverFound::Refused(Refusal::WrongMessageType);
     }
-    let Span::There(address, place2) = address::address_at(data, place) else {
+    let Span::There(address, place2) = address::address_span(data, place) else {
         return DeliverFound::Refused(Refusal::OctetsEnd);
     };
-    behind_address(data, first, address, place2)
+    after_address(data, first, address, place2)
 }

@@ -1,8 +1,9 @@
-// SMS-DELIVER (TS 23.040 §9.2.2.1), written from its parts.
+// SMS-DELIVER (TS 23.040 §9.2.2.1), written from its fields' values.
 ghost use mathlib.Core.Path.{_≡_};
 ghost use mathlib.Core.Bool.{true};
 ghost use Prim.Native.Nat.{_+_, _/_, _≤_, _<_};
 ghost use lib.ListN.{length};
+ghost use Rattle.octets.specs.Answers.{gives, refuses, writtenSays};
 ghost use Rattle.octets.specs.Lent.{Wrote, lend};
 ghost use Rattle.time.specs.Time.{isTime};
 ghost use Rattle.address.specs.Writing.{addressMaking};
@@ -15,8 +16,8 @@ use octets::Written;
 
 const MTI_DELIVER: u8 = 0;
 
-// Writes parts that were checked; how many octets they take.
-fn put_parts(
+// Writes values that were checked; how many octets they take.
+fn put_fields(
     flags: u8,
     ton: u8,
     npi: u8,
@@ -29,7 +30,7 @@ fn put_parts(
     data: &[u8],
     out: &mut [u8],
 ) -> usize
-    requires { ⌜ (checkOf (addressMaking ton npi (now text)) ≡ AddressCheck.Fine count) × (isTime (now digits) ≡ true) × (13 + (count + 1) / 2 + length (now «data») ≤ length (now out)) ⌝ }
+    requires { ⌜ (checkOf (addressMaking ton npi (now text)) ≡ gives count) × (isTime (now digits) ≡ true) × (13 + (count + 1) / 2 + length (now «data») ≤ length (now out)) ⌝ }
     ensures { λ r. ⌜ Wrote 0 (octetsIn flags ton npi (now (text .entry)) pid dcs (now (digits .entry)) udl (now («data» .entry))) (now (out .entry)) r (now (out .exit)) ⌝ }
 {
     let p1 = octets::put_octet(out, 0, flags);
@@ -41,8 +42,8 @@ fn put_parts(
     octets::put_octets(out, p6, data)
 }
 
-// Writes the parts to the start of a lent output: checks in order, then the size, then the octets.
-pub fn encode_parts(
+// Writes the values to the start of a lent output: checks in order, then the size, then the octets.
+pub fn encode_fields(
     flags: u8,
     mti: u8,
     ton: u8,
@@ -55,7 +56,7 @@ pub fn encode_parts(
     data: &[u8],
     out: &mut [u8],
 ) -> Written
-    ensures { λ r. ⌜ (r, now (out .exit)) ≡ lend Written.Refused (making flags mti ton npi (now (text .entry)) pid dcs (now (digits .entry)) udl (now («data» .entry))) (now (out .entry)) ⌝ }
+    ensures { λ r. ⌜ (writtenSays r, now (out .exit)) ≡ lend refuses (making flags mti ton npi (now (text .entry)) pid dcs (now (digits .entry)) udl (now («data» .entry))) (now (out .entry)) ⌝ }
 {
     if mti != MTI_DELIVER {
         return Written::Refused(Refusal::WrongMessageType);
@@ -72,7 +73,7 @@ pub fn encode_parts(
             if out.len() < 13 + (count + 1) / 2 + data.len() {
                 return Written::Refused(Refusal::OutputTooShort);
             }
-            Written::Done(put_parts(
+            Written::Done(put_fields(
                 flags,
                 ton,
                 npi,

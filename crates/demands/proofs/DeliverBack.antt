@@ -1,35 +1,37 @@
--- Demand 2 of document 01 for SMS-DELIVER: what was written is read back with the same parts, time letters capital.
+-- Demand 2 of document 01 for SMS-DELIVER: what was written is read back as the same record, time letters capital.
 -- Assumes nothing.
 use Prim.Native.Nat.{ℕ, _+_, _≤_}
 use mathlib.Core.Path.{_≡_, refl, sym, ap, _∙_}
-use mathlib.Core.Bool.{Bool, true, _&&_}
+use mathlib.Core.Bool.{Bool, true, false, _&&_}
 use mathlib.Core.List.{List, [], _∷_, _++_, append-assoc}
 use native.Mathlib.Omega.{arith}
 use borrow.Author.Tests.{eqb-true, ltb-false}
 use lib.Dec.{eqb, ltb}
-use lib.ListN.{length, take, length-append}
+use lib.ListN.{length, length-append}
 use lib.Seq.{length-take-le}
+use Rattle.octets.specs.Answers.{Said, gives, fine}
 use Rattle.octets.specs.Checks.{_unless_}
 use Rattle.octets.specs.Choice.{flag}
 use Rattle.octets.specs.Lent.{made}
 use Rattle.octets.specs.declared.Refusal.the-variants.{LengthTooLarge, WrongMessageType, NotATime}
-use Rattle.octets.specs.declared.Written.{Written}
 use Rattle.octets.proofs.Choice.{and-true, or-false, both, both-holds, same, same-is}
-use Rattle.octets.proofs.Checks.{holds, both-hold, made-unless, made-told}
-use Rattle.octets.proofs.Laws.{take-pad}
-use Rattle.coding.specs.Coding.{codingOf, dataOctets, dataWith, dataOf, dataChecks, checkedData}
-use Rattle.coding.proofs.Laws.{data-held, data-passed}
-use Rattle.time.specs.Time.{isTime, timeDigits, timeOctets, timeIn, digitsOf, capitals}
-use Rattle.time.proofs.Laws.{digits-back, length-digits, time-means, time-held, time-size}
+use Rattle.octets.proofs.Checks.{never, holds, both-hold, made-unless, made-told, made-counts}
+use Rattle.coding.specs.Coding.{codingOf, dataOctets, dataWith, dataOf, dataChecks, checkedData, clearedData}
+use Rattle.coding.proofs.Laws.{data-back, data-passed}
+use Rattle.time.specs.Time.{isTime, timeOctets, timeIn, digitsOf, clearedTime, capitalTime}
+use Rattle.time.proofs.Laws.{time-back, time-size}
 use Rattle.address.specs.Writing.{addressOctets, octetsOr, addressChecks}
-use Rattle.address.specs.Address.{addressIn, addressWith, addressSize, canonicalAddress, textHeld}
-use Rattle.address.proofs.Laws.{Spelled, address-passed}
+use Rattle.address.specs.Address.{addressIn, addressSize, canonicalAddress, textHeld, clearedAddress}
+use Rattle.address.proofs.Laws.{Spelled, address-passed, address-held}
+use Rattle.layout.specs.Demand.{Demand2}
 use Rattle.layout.specs.Layout.{first, octet, octets, any, address, userData, isSet, messageType, kept, Format, field, done, reached, reading, readFrom, read}
 use Rattle.layout.proofs.Steps.{done-reached, then-goes-on}
 use Rattle.demands.proofs.LayoutBack.{field-read, field-last, message-read, done-read}
 use Rattle.deliver.specs.declared.SmsDeliver.{SmsDeliver}
-use Rattle.deliver.specs.Deliver.{delivered, line, deliver, flagsOf, delivering, parts, capitalised, tooLong}
-use Rattle.deliver.specs.Line.{Fields, bits, behindCoding, behindAddress, line as fields}
+use Rattle.deliver.specs.Deliver.{delivered, format, deliver, flagsOf, delivering, tooLong, cleared, capitalised, Typed}
+use Rattle.deliver.specs.Layout.{Fields, bits, fields}
+use Rattle.deliver.specs.Internal.{afterCoding, afterAddress}
+use Rattle.deliver.proofs.Demand.{made-cleared}
 use Rattle.deliver.specs.Writing.{octetsIn, making}
 
 -- ---- the checks that a written record passed
@@ -80,54 +82,48 @@ first-tells rp udhi sri lp mms =
     let (d, g) = and-true _ _ e5 in
     record { whole = eqb-true _ _ whole; mti-is = eqb-true _ _ mti; rp-is = same-is _ _ a; udhi-is = same-is _ _ b; sri-is = same-is _ _ c; lp-is = same-is _ _ d; mms-is = same-is _ _ g }
 
--- ---- octets in the line's order are read as the fields that they are
+-- ---- octets in the layout's order are read as the fields that they are
 
 module _ (f : ℕ) (whole : kept bits f ≡ f) (mti : messageType f ≡ 0) (oa : List ℕ) (size : addressSize oa ≡ length oa) (again : canonicalAddress oa ≡ oa) (pid dcs : ℕ)
     (scts : List ℕ) (seven : 7 ≡ length scts) (udl : ℕ) (ud : List ℕ) (size-is : dataOctets (codingOf dcs) udl ≡ length ud) where
-  abbrev behindFirst : ℕ → Format Fields
-  behindFirst f = field address λ oa. behindAddress f oa
+  abbrev afterFirst : ℕ → Format Fields
+  afterFirst f = field address λ oa. afterAddress f oa
 
-  to-first : (rest : List ℕ) → readFrom fields (f ∷ rest) 0 ≡ reading (behindFirst f) rest 1
-  unfolding readFrom fields
-  to-first rest = message-read 0 bits behindFirst f whole mti rest 0
+  to-first : (rest : List ℕ) → readFrom fields (f ∷ rest) 0 ≡ reading (afterFirst f) rest 1
+  unfolding readFrom fields afterAddress afterCoding
+  to-first rest = message-read 0 bits afterFirst f whole mti rest 0
 
-  to-pid : (rest : List ℕ) → reading (behindFirst f) (oa ++ rest) 1 ≡ reading (behindAddress f oa) rest (1 + length oa)
-  to-pid rest = field-read address (λ oa. behindAddress f oa) oa rest 1 size ∙ rw again
+  to-pid : (rest : List ℕ) → reading (afterFirst f) (oa ++ rest) 1 ≡ reading (afterAddress f oa) rest (1 + length oa)
+  to-pid rest = field-read address (λ oa. afterAddress f oa) oa rest 1 size ∙ rw again
 
   abbrev its-fields : Fields
   its-fields = record { first = f; oa = oa; pid = pid; dcs = dcs; scts = scts; udl = udl; ud = ud }
 
-  to-end : (at : ℕ) → reading (behindAddress f oa) (pid ∷ dcs ∷ (scts ++ (udl ∷ ud))) at ≡ reached its-fields (at + 1 + 1 + length scts + 1 + length ud)
-  unfolding behindAddress behindCoding
+  to-end : (at : ℕ) → reading (afterAddress f oa) (pid ∷ dcs ∷ (scts ++ (udl ∷ ud))) at ≡ reached its-fields (at + 1 + 1 + length scts + 1 + length ud)
+  unfolding afterAddress afterCoding
   to-end at =
       field-read octet _ (pid ∷ []) (dcs ∷ (scts ++ (udl ∷ ud))) at refl ∙ field-read octet _ (dcs ∷ []) (scts ++ (udl ∷ ud)) (at + 1) refl
       ∙ field-read (octets any 7) _ scts (udl ∷ ud) (at + 1 + 1) seven ∙ field-read octet _ (udl ∷ []) ud (at + 1 + 1 + length scts) refl
       ∙ field-last (userData (dataOctets (codingOf dcs) udl)) _ ud (at + 1 + 1 + length scts + 1) size-is ∙ done-read [] _ _
 
   written-read : read deliver (f ∷ oa ++ pid ∷ dcs ∷ scts ++ udl ∷ ud) ≡ reached (delivered its-fields) (1 + length oa + 1 + 1 + length scts + 1 + length ud)
-  unfolding read line
+  unfolding read format
   written-read =
       let s = (f ∷ oa) ++ (pid ∷ dcs ∷ scts) ++ (udl ∷ ud) in
       then-goes-on s fields 0 (ap (λ s. readFrom fields s 0) (append-assoc (f ∷ oa) (pid ∷ dcs ∷ scts) (udl ∷ ud)) ∙ to-first _ ∙ to-pid _ ∙ to-end _) (λ x. done (delivered x)) ∙ done-reached s _ _
 
--- ---- the parts
+-- ---- the record that they make
 
-same-parts : (r : SmsDeliver) (f : ℕ) → Tells (r .«tp_rp») (r .«tp_udhi») (r .«tp_sri») (r .«tp_lp») (r .«tp_mms») f → r .«tp_mti» ≡ 0
-    → (oa : List ℕ) → addressIn oa ≡ addressWith (r .«tp_originating_address» .ton) (r .«tp_originating_address» .npi) (textHeld (r .«tp_originating_address»))
-    → length (textHeld (r .«tp_originating_address»)) ≡ r .«tp_originating_address» .«address_length»
-    → (scts : List ℕ) → timeDigits scts ≡ capitals (digitsOf (r .«tp_service_centre_timestamp»)) → length (timeDigits scts) ≡ r .«tp_service_centre_timestamp» .length
-    → length (dataOf (r .«tp_user_data»)) ≡ r .«tp_user_data» .length
-    → parts (delivered (record { first = f; oa = oa; pid = r .«tp_pid»; dcs = r .«tp_dcs»; scts = scts; udl = r .«tp_user_data_length»; ud = dataOf (r .«tp_user_data») })) ≡ capitalised (parts r)
-unfolding delivered addressWith timeIn dataWith
-same-parts r f t mti oa back text scts digits count size =
-    let a : take (length (textHeld (r .«tp_originating_address»))) (addressWith 0 0 (textHeld (r .«tp_originating_address»)) .address) ≡ textHeld (r .«tp_originating_address») = take-pad 290 _ in
-    let b : digitsOf (timeIn scts) ≡ capitals (digitsOf (r .«tp_service_centre_timestamp»)) = time-held scts ∙ digits in
-    let c : dataOf (dataWith (dataOf (r .«tp_user_data»))) ≡ dataOf (r .«tp_user_data») = data-held _ in
-    rw (t .rp-is, t .udhi-is, t .sri-is, t .lp-is, t .mms-is, t .mti-is, mti, back, a, b, c, text, count, size)
+same-record : (r : SmsDeliver) (f : ℕ) → Tells (r .«tp_rp») (r .«tp_udhi») (r .«tp_sri») (r .«tp_lp») (r .«tp_mms») f → r .«tp_mti» ≡ 0
+    → (oa scts : List ℕ) → addressIn oa ≡ clearedAddress (r .«tp_originating_address») → timeIn scts ≡ capitalTime (clearedTime (r .«tp_service_centre_timestamp»))
+    → dataWith (dataOf (r .«tp_user_data»)) ≡ clearedData (r .«tp_user_data»)
+    → delivered (record { first = f; oa = oa; pid = r .«tp_pid»; dcs = r .«tp_dcs»; scts = scts; udl = r .«tp_user_data_length»; ud = dataOf (r .«tp_user_data») }) ≡ capitalised (cleared r)
+unfolding delivered
+same-record r f t mti oa scts ea et ed = rw (t .rp-is, t .udhi-is, t .sri-is, t .lp-is, t .mms-is, t .mti-is, mti, ea, et, ed)
 
 -- ---- a record
 
-module _ {octets : List ℕ} {answer : Written} (r : SmsDeliver) (e : delivering r ≡ made octets answer) where
+module _ {octets : List ℕ} {answer : Said ℕ} (r : SmsDeliver) (e : delivering r ≡ made octets answer) where
   passed : Passed r octets
   unfolding delivering making checkedData
   passed =
@@ -162,26 +158,33 @@ module _ {octets : List ℕ} {answer : Written} (r : SmsDeliver) (e : delivering
       rw (← passed .is) (simp length-append (omega (arith, n, passed .few, passed .address .short)))
 
   -- what was written is read back
-  pub read-back : length (r .«tp_originating_address» .address) ≡ 290 → length (r .«tp_service_centre_timestamp» .digits) ≡ 14 → length (r .«tp_user_data» .octets) ≡ 255
-      → (q : SmsDeliver) × (n : ℕ) × (read deliver octets ≡ reached q n) × (parts q ≡ capitalised (parts r))
-  read-back ha ht hd =
+  read-back : Typed r → (q : SmsDeliver) × (n : ℕ) × (read deliver octets ≡ reached q n) × (cleared q ≡ capitalised (cleared r))
+  read-back (ha, ht, hd) =
       let p = passed in
       let a = r .«tp_originating_address» in
-      let text = textHeld a in
+      let stamp = r .«tp_service_centre_timestamp» in
+      let d = r .«tp_user_data» in
       let oa = addressOf r in
-      let digits = digitsOf (r .«tp_service_centre_timestamp») in
-      let scts = timeOctets digits in
-      let ud = dataOf (r .«tp_user_data») in
+      let scts = timeOctets (digitsOf stamp) in
       let f = flagsOf r in
       let t = first-tells (r .«tp_rp») (r .«tp_udhi») (r .«tp_sri») (r .«tp_lp») (r .«tp_mms») in
-      let m : length digits ≡ 14 = time-means digits .0 (p .time-is) .0 in
-      let n = time-size digits (p .time-is) in
-      let la : length text ≡ a .«address_length» = length-take-le (a .«address_length») (a .address) (omega (arith, ha, p .text-fits)) in
-      let lt : length digits ≡ r .«tp_service_centre_timestamp» .length = length-take-le (r .«tp_service_centre_timestamp» .length) (r .«tp_service_centre_timestamp» .digits) (omega (arith, ht, p .time-fits)) in
-      let ld : length ud ≡ r .«tp_user_data» .length = length-take-le (r .«tp_user_data» .length) (r .«tp_user_data» .octets) (omega (arith, hd, p .data-fits)) in
-      let lq : length (timeDigits scts) ≡ r .«tp_service_centre_timestamp» .length = omega (arith, length-digits scts, n, m, lt) in (
-        delivered (record { first = f; oa = oa; pid = r .«tp_pid»; dcs = r .«tp_dcs»; scts = scts; udl = r .«tp_user_data_length»; ud = ud }),
-        1 + length oa + 1 + 1 + length scts + 1 + length ud,
-        ap (read deliver) (sym (p .is)) ∙ written-read f (t .whole) (t .mti-is) oa (p .address .whole) (p .address .again) (r .«tp_pid») (r .«tp_dcs») scts (sym n) (r .«tp_user_data_length») ud (sym (p .size-is)),
-        same-parts r f t (p .mti-is) oa (p .address .back) la scts (digits-back digits (p .time-is)) lq ld,
+      let la : length (textHeld a) ≡ a .«address_length» = length-take-le (a .«address_length») (a .address) (omega (arith, ha, p .text-fits)) in
+      let lt : length (digitsOf stamp) ≡ stamp .length = length-take-le (stamp .length) (stamp .digits) (omega (arith, ht, p .time-fits)) in
+      let ld : length (dataOf d) ≡ d .length = length-take-le (d .length) (d .octets) (omega (arith, hd, p .data-fits)) in (
+        delivered (record { first = f; oa = oa; pid = r .«tp_pid»; dcs = r .«tp_dcs»; scts = scts; udl = r .«tp_user_data_length»; ud = dataOf d }),
+        1 + length oa + 1 + 1 + length scts + 1 + length (dataOf d),
+        ap (read deliver) (sym (p .is))
+        ∙ written-read f (t .whole) (t .mti-is) oa (p .address .whole) (p .address .again) (r .«tp_pid») (r .«tp_dcs») scts (sym (time-size (digitsOf stamp) (p .time-is))) (r .«tp_user_data_length») (dataOf d) (sym (p .size-is)),
+        made-cleared _ ∙ same-record r f t (p .mti-is) oa scts (p .address .back ∙ address-held a la) (time-back stamp (p .time-is) lt) (data-back d ld),
       )
+
+pub deliver-demand2 : Demand2 Typed cleared capitalised (λ r. deliver) delivering (λ r. fine) (λ r. false)
+deliver-demand2 = record {
+  back = λ r t octets n e x. read-back r e t;
+  excepted = λ r t octets n e why x. absurd (never x);
+  only = λ r why x. absurd (never x);
+}
+
+pub deliver-counts : (r : SmsDeliver) (xs : List ℕ) (a : Said ℕ) → delivering r ≡ made xs a → a ≡ gives (length xs)
+unfolding delivering making
+deliver-counts r xs a e = made-counts _ _ (made-unless LengthTooLarge (tooLong r) e .1)

@@ -1,45 +1,56 @@
--- Demand 3 (document 01) of each reader with the writer of its kind. `Demand3` (layout/specs/Demand.antt) says: the reader takes a string exactly when the layout generates it; equal parts of two
--- records that were read give equal canonical octets, and equal canonical octets give equal records; and the writer of a record that was read puts exactly the canonical octets into any buffer that
--- is long enough, except where `unwritable` (layout/specs/Layout.antt) has one of document 01's four cases. The last argument says whether the kind's writer refuses the stopped record.
+-- Demands 2 and 3 (document 01) of the five messages, a line for each reader and writer, as layout/specs/Demand.antt says them.
+-- Demand 3: the reader takes a string exactly when the layout generates it; two records that were read are equal exactly when the canonical octets are; and the writer of a record that was read puts exactly
+-- the canonical octets into any buffer that is long enough, except where `unwritable` has one of document 01's four cases. The last argument says whether the kind's writer refuses the stopped record.
+-- Demand 2: what a writer wrote is read back as the same record, time letters capital, by the reader of its outcome; SUBMIT's reader may answer 17 or 18, exactly where `headerAnswer` says so, and never without UDHI.
 -- Assumes nothing.
 use mathlib.Core.Bool.{true, false}
-use Rattle.layout.specs.Demand.{Demand3}
-use Rattle.submit.specs.Parts.{parts as submitParts}
-use Rattle.submit.specs.Submit.{submit, submitting}
+use Rattle.octets.specs.Answers.{refuses, fine}
+use Rattle.octets.specs.Lent.{lend}
+use Rattle.layout.specs.Demand.{Demand2, Demand3, Answers2, Answers3}
+use Rattle.layout.specs.Layout.{read, answer}
+use Rattle.layout.proofs.Answered.{answers2, answers3}
+use Rattle.submit.specs.Submit as Submit
 use Rattle.submit.proofs.Demand.{submit-demand3}
-use Rattle.deliver.specs.Deliver.{parts as deliverParts, deliver, delivering}
+use Rattle.deliver.specs.Deliver as Deliver
 use Rattle.deliver.proofs.Demand.{deliver-demand3}
-use Rattle.submit_report.specs.SubmitReport.{parts as submitReportParts, ack as submitReportAck, error as submitReportError, reporting as submitReporting}
+use Rattle.submit_report.specs.SubmitReport as SubmitReport
 use Rattle.submit_report.proofs.Demand.{ack-demand3 as submit-ack, error-demand3 as submit-error}
-use Rattle.deliver_report.specs.DeliverReport.{parts as deliverReportParts, ack as deliverReportAck, error as deliverReportError, reporting as deliverReporting}
+use Rattle.deliver_report.specs.DeliverReport as DeliverReport
 use Rattle.deliver_report.proofs.Demand.{ack-demand3 as deliver-ack, error-demand3 as deliver-error}
-use Rattle.status_report.specs.StatusReport.{parts as statusReportParts, statusReport, reporting as statusReporting}
+use Rattle.status_report.specs.StatusReport as StatusReport
 use Rattle.status_report.proofs.Demand.{status-report-demand3}
+use Rattle.demands.proofs.SubmitBack.{submit-demand2, submit-counts}
+use Rattle.demands.proofs.DeliverBack.{deliver-demand2, deliver-counts}
+use Rattle.demands.proofs.SubmitReportBack.{submit-report-demand2, submit-report-counts}
+use Rattle.demands.proofs.DeliverReportBack.{deliver-report-demand2, deliver-report-counts}
+use Rattle.demands.proofs.StatusReportBack.{status-report-demand2, status-report-counts}
+
+-- ---- demand 3, of the seven readers
 
 -- `decode_sms_submit_tpdu`
-pub of-submit : Demand3 submitParts submit submitting false
+pub of-submit : Demand3 Submit.cleared Submit.submit Submit.submitting false
 of-submit = submit-demand3
 
 -- `SmsDeliver::decode`
-pub of-deliver : Demand3 deliverParts deliver delivering false
+pub of-deliver : Demand3 Deliver.cleared Deliver.deliver Deliver.delivering false
 of-deliver = deliver-demand3
 
 -- `SmsSubmitReport::decode_for_rp_ack`
-pub of-submit-report-ack : Demand3 submitReportParts submitReportAck submitReporting false
+pub of-submit-report-ack : Demand3 SubmitReport.cleared SubmitReport.ack SubmitReport.submitReporting false
 of-submit-report-ack = submit-ack
 
 -- `SmsSubmitReport::decode_for_rp_error`
-pub of-submit-report-error : Demand3 submitReportParts submitReportError submitReporting true
+pub of-submit-report-error : Demand3 SubmitReport.cleared SubmitReport.error SubmitReport.submitReporting true
 of-submit-report-error = submit-error
 
 -- `SmsDeliverReport::decode_for_rp_ack`
-pub of-deliver-report-ack : Demand3 deliverReportParts deliverReportAck deliverReporting false
+pub of-deliver-report-ack : Demand3 DeliverReport.cleared DeliverReport.ack DeliverReport.deliverReporting false
 of-deliver-report-ack = deliver-ack
 
 -- `SmsDeliverReport::decode_for_rp_error`
-pub of-deliver-report-error : Demand3 deliverReportParts deliverReportError deliverReporting false
+pub of-deliver-report-error : Demand3 DeliverReport.cleared DeliverReport.error DeliverReport.deliverReporting false
 of-deliver-report-error = deliver-error
 
 -- `SmsStatusReport::decode`
-pub of-status-report : Demand3 statusReportParts statusReport statusReporting false
+pub of-status-report : Demand3 StatusReport.cleared StatusReport.statusReport StatusReport.statusReporting false
 of-status-report = status-report-demand3

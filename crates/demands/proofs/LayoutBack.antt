@@ -1,4 +1,4 @@
--- Octets in a line's order are read as the fields that they are: the reader's half of read-back (document 01, demand 2).
+-- Octets in a layout's order are read as the fields that they are: the reader's half of read-back (document 01, demand 2).
 -- Assumes nothing.
 use Prim.Native.Nat.{ℕ, _+_}
 use mathlib.Core.Path.{_≡_, refl, sym, ap, _∙_}
@@ -16,7 +16,7 @@ use Rattle.layout.proofs.Fields.{own}
 use Rattle.layout.proofs.Laws.{goes-on}
 
 module _ {R : Type 0} (k : Kind) (next : List ℕ → Format R) where
-  -- a whole field at the start is read, and the rest behind it
+  -- a whole field at the start is read, and the rest after it
   pub field-read : (f rest : List ℕ) (at : ℕ) → Whole k f → reading (field k next) (f ++ rest) at ≡ reading (next (canon k f)) rest (at + length f)
   unfolding reading
   field-read f rest at w =
@@ -34,15 +34,15 @@ module _ {R : Type 0} (k : Kind) (next : List ℕ → Format R) where
       ap (λ (l : List ℕ). reading (field k next) l at) e ∙ field-read f rest at w ∙ ap (λ (l : List ℕ). reading (next (canon k f)) l (at + length f)) d
 
 module _ {R : Type 0} (s : List ℕ) (at : ℕ) where
-  pub require-read : {holds : Bool} → holds ≡ true → (why : Refusal) (line : Format R) → reading (require why holds line) s at ≡ reading line s at
+  pub require-read : {holds : Bool} → holds ≡ true → (why : Refusal) (format : Format R) → reading (require why holds format) s at ≡ reading format s at
   unfolding reading
-  require-read e why line = rw e
+  require-read e why format = rw e
 
   pub done-read : (r : R) → reading (done r) s at ≡ reached r at
   unfolding reading
   done-read r = refl
 
--- a first octet in its canonical form, with the line's MTI
+-- a first octet in its canonical form, with the layout's MTI
 pub message-read : {R : Type 0} (mti : ℕ) (bits : List ℕ) (next : ℕ → Format R) (f : ℕ) → kept bits f ≡ f → messageType f ≡ mti → (s : List ℕ) (at : ℕ) → reading (message mti bits next) (f ∷ s) at ≡ reading (next f) s (at + 1)
 message-read mti bits next f whole m s at =
     field-read (first bits) (λ c. require WrongMessageType (eqb (messageType (leading c)) mti) (next (leading c))) (f ∷ []) s at refl

@@ -1,23 +1,23 @@
--- Document 01's known messages, the rows marked + (those of the parts that are here).
+-- Document 01's known messages: the ten rows marked +.
 use Prim.Native.Nat.{ℕ}
 use lib.IntN.{ℤ, pos, negsuc}
 use lib.ListN.{length, drop}
 use mathlib.Core.Path.{_≡_}
 use mathlib.Core.List.{List, [], _∷_, _++_}
+use Rattle.octets.specs.Answers.{gives, fine}
 use Rattle.octets.specs.Lent.{made}
 use Rattle.octets.specs.Texts.{codes}
-use Rattle.octets.specs.declared.Written.{Written}
 use Rattle.coding.specs.declared.UserDataCoding.{UserDataCoding}
 use Rattle.coding.specs.declared.UserDataCoding.the-variants.{Gsm7Bit, EightBit, Ucs2}
 use Rattle.coding.specs.Coding.{codingOf}
-use Rattle.gsm7.specs.Reading.{unpacked, shown as shownText}
+use Rattle.gsm7.specs.Reading.{unpacked, textGiven}
 use Rattle.gsm7.specs.Packing.{packing, packedAs}
 use Rattle.time.specs.Time.{timeOctets, timeDigits}
 use Rattle.time.specs.Timestamp.{timestamp}
 use Rattle.address.specs.Address.{addressWith, addressIn, encoding, canonicalAddress}
-use Rattle.layout.specs.Layout.{read}
-use Rattle.deliver_report.specs.DeliverReport.{error, answer}
-use Rattle.user_data_header.specs.Header.{unpackedWithHeader, packingWithHeader, shown}
+use Rattle.layout.specs.Layout.{read, answer}
+use Rattle.deliver_report.specs.DeliverReport.{error, blank, stopped}
+use Rattle.user_data_header.specs.Header.{unpackedWithHeader, packingWithHeader, headerGiven}
 
 pub data Row : Type 0 where
   -- a DCS and its coding
@@ -26,9 +26,9 @@ pub data Row : Type 0 where
   reads : List ℕ → ℕ → List ℕ → Row
   -- a text, its octets and their count of septets
   packs : List ℕ → List ℕ → ℕ → Row
-  -- a header and a text; what stands behind the header, and the count of septets: packed, and read back
-  packsBehind : List ℕ → List ℕ → List ℕ → ℕ → Row
-  readsBehind : List ℕ → List ℕ → List ℕ → ℕ → Row
+  -- a header and a text; what stands after the header, and the count of septets: packed, and read back
+  packsAfter : List ℕ → List ℕ → List ℕ → ℕ → Row
+  readsAfter : List ℕ → List ℕ → List ℕ → ℕ → Row
   -- fourteen digits and their seven octets, both ways
   time : List ℕ → List ℕ → Row
   digits : List ℕ → List ℕ → Row
@@ -40,23 +40,23 @@ pub data Row : Type 0 where
   readsAddress : List ℕ → ℕ → ℕ → List ℕ → Row
   -- an address field and its canonical octets
   canonical : List ℕ → List ℕ → Row
-  -- two DELIVER-REPORTs of an RP-ERROR that are the same record
-  sameReport : List ℕ → List ℕ → Row
+  -- a DELIVER-REPORT of an RP-ERROR that is read as the stopped record: UDHI 0, cause FF, indicator 0, nothing else
+  readsStopped : List ℕ → Row
 
 -- what a row says
 unfoldable pub Holds : Row → Type 0
 Holds (coding dcs c) = codingOf dcs ≡ c
-Holds (reads octets n text) = unpacked octets 0 n ≡ shownText text
+Holds (reads octets n text) = unpacked octets 0 n ≡ textGiven text
 Holds (packs text octets n) = packing [] text ≡ made octets (packedAs octets n)
-Holds (packsBehind header text octets n) = packingWithHeader header text ≡ made (header ++ octets) (packedAs (header ++ octets) n)
-Holds (readsBehind header text octets n) = unpackedWithHeader (header ++ octets) n ≡ shown header text
+Holds (packsAfter header text octets n) = packingWithHeader header text ≡ made (header ++ octets) (packedAs (header ++ octets) n)
+Holds (readsAfter header text octets n) = unpackedWithHeader (header ++ octets) n ≡ headerGiven header text
 Holds (time ds octets) = timeOctets ds ≡ octets
 Holds (digits octets ds) = timeDigits octets ≡ ds
-Holds (zone z ds) = drop 12 (timestamp 24 2 15 12 30 45 z .digits) ≡ ds
-Holds (writesAddress ton npi text octets) = encoding (addressWith ton npi text) ≡ made octets (Written.Done (length octets))
+Holds (zone z ds) = drop 12 (timestamp 24 2 15 12 30 45 z .1) ≡ ds
+Holds (writesAddress ton npi text octets) = encoding (addressWith ton npi text) ≡ made octets (gives (length octets))
 Holds (readsAddress f ton npi text) = addressIn f ≡ addressWith ton npi text
 Holds (canonical f octets) = canonicalAddress f ≡ octets
-Holds (sameReport s t) = answer (read error s) ≡ answer (read error t)
+Holds (readsStopped s) = answer blank (read error s) ≡ (fine, stopped)
 
 abbrev pub rows : List Row
 rows =
@@ -70,8 +70,8 @@ rows =
     reads (0x9b ∷ 0x0d ∷ []) 2 (0x20 ∷ []) ∷
     reads (0x9b ∷ 0x20 ∷ []) 2 (0x41 ∷ []) ∷
     -- header 05 00 03 01 02 01 and "A": the header, 82; 8 septets
-    packsBehind (0x05 ∷ 0x00 ∷ 0x03 ∷ 0x01 ∷ 0x02 ∷ 0x01 ∷ []) (0x41 ∷ []) (0x82 ∷ []) 8 ∷
-    readsBehind (0x05 ∷ 0x00 ∷ 0x03 ∷ 0x01 ∷ 0x02 ∷ 0x01 ∷ []) (0x41 ∷ []) (0x82 ∷ []) 8 ∷
+    packsAfter (0x05 ∷ 0x00 ∷ 0x03 ∷ 0x01 ∷ 0x02 ∷ 0x01 ∷ []) (0x41 ∷ []) (0x82 ∷ []) 8 ∷
+    readsAfter (0x05 ∷ 0x00 ∷ 0x03 ∷ 0x01 ∷ 0x02 ∷ 0x01 ∷ []) (0x41 ∷ []) (0x82 ∷ []) 8 ∷
     -- 24021512304500 is 42 20 51 21 03 54 00
     time (codes "24021512304500") (0x42 ∷ 0x20 ∷ 0x51 ∷ 0x21 ∷ 0x03 ∷ 0x54 ∷ 0x00 ∷ []) ∷
     digits (0x42 ∷ 0x20 ∷ 0x51 ∷ 0x21 ∷ 0x03 ∷ 0x54 ∷ 0x00 ∷ []) (codes "24021512304500") ∷
@@ -87,7 +87,8 @@ rows =
     -- type 5 plan 0 "AB" is 04 D0 41 21
     writesAddress 5 0 (codes "AB") (0x04 ∷ 0xd0 ∷ 0x41 ∷ 0x21 ∷ []) ∷
     -- RP-ERROR DELIVER-REPORT 04 is the same record as 00 FF 00
-    sameReport (0x04 ∷ []) (0x00 ∷ 0xff ∷ 0x00 ∷ []) ∷
+    readsStopped (0x04 ∷ []) ∷
+    readsStopped (0x00 ∷ 0xff ∷ 0x00 ∷ []) ∷
     []
 
 infixr 5 _also_

@@ -2,7 +2,7 @@
 -- Assumes nothing.
 use Prim.Native.Nat.{ℕ, zero, suc, _+_, _-_, _/_, _%_, _<_, _≤_}
 use mathlib.Core.Path.{_≡_, refl, sym, _∙_, ap, ap₂, subst}
-use mathlib.Core.Bool.{Bool, true, false, true≢false}
+use mathlib.Core.Bool.{Bool, true, false}
 use mathlib.Core.List.{List, [], _∷_, _++_}
 use mathlib.Core.Option.{Option, none, some}
 use mathlib.Core.Logic.{_↔_}
@@ -12,32 +12,20 @@ use borrow.Author.Tests.{ltb-true, ltb-false, eqb-true, ne-eqb, lt-ltb, le-ltb}
 use lib.Dec.{eqb, ltb}
 use lib.ListN.{length, getD, drop, length-append}
 use lib.Seq.{drop-append-seam}
+use Rattle.octets.specs.Answers.{Said, gives, refuses}
 use Rattle.octets.specs.Choice.{if_then_else_}
-use Rattle.octets.proofs.Choice.{and-true}
+use Rattle.octets.specs.declared.Refusal.the-variants.{NotInAlphabet}
 use Rattle.octets.proofs.Table.{below}
 use Rattle.septets.specs.Septets.{Digits, septetsIn, packedSeptets}
 use Rattle.septets.proofs.Inverse.{unpack-pack}
-use Rattle.gsm7.specs.declared.encode.Code.{Code}
-use Rattle.gsm7.specs.declared.encode.Code.the-variants.{Single, Escaped, Absent}
-use Rattle.gsm7.specs.declared.encode.Scalar.{Scalar}
-use Rattle.gsm7.specs.declared.encode.Scalar.the-variants.{Read, Broken}
 use Rattle.gsm7.specs.Alphabet.{alphabet, extension, row, character}
 use Rattle.gsm7.specs.Reading.{utf8, textOf, afterEscape}
-use Rattle.gsm7.specs.Writing.{same, codeOf, before, behind, scan, septetsOf, twoOctets, threeOctets, firstCharacter}
+use Rattle.gsm7.specs.Writing.{same, codeOf, before, startingWith, scan, septetsOf, twoOctets, threeOctets, firstCharacter}
 use Rattle.gsm7.specs.Characters.{Entry, plain, extended, octetsFor, septetsFor, spelled, coded}
 use Rattle.gsm7.proofs.Utf8.{utf8-one, utf8-two, utf8-three}
-use Rattle.gsm7.proofs.Decoding.{two, three, two-read, three-read}
+use Rattle.gsm7.proofs.FirstCharacter.{two, three, two-read, three-read}
 use Rattle.gsm7.proofs.Scanning.{first-width, scan-read}
-use Rattle.gsm7.proofs.Tables.{Says, code-says, alphabet-one-to-one, extension-coded, extension-shown, extension-small}
-
-same-is : (xs ys : List ℕ) → same xs ys ≡ true → xs ≡ ys
-unfolding same
-same-is [] [] e = refl
-same-is [] (y ∷ ys) e = absurd (true≢false (sym e))
-same-is (x ∷ xs) [] e = absurd (true≢false (sym e))
-same-is (x ∷ xs) (y ∷ ys) e =
-    let t = and-true (same xs ys) (eqb x y) e in
-    ap₂ _∷_ (eqb-true x y (t .1)) (same-is xs ys (t .0))
+use Rattle.gsm7.proofs.Tables.{Says, code-says, same-is, alphabet-one-to-one, extension-coded, extension-shown, extension-small}
 
 -- a second and a third octet are at least 128
 utf8-second : (c a b : ℕ) (r : List ℕ) → utf8 c ≡ a ∷ b ∷ r → 128 ≤ b
@@ -57,11 +45,11 @@ utf8-third c a b d r e = by-test (ltb c 0x80) refl (ltb c 0x800) refl
     by-test false p false q = let z : d ≡ 128 + c % 64 = cc (utf8-three c (ltb-false _ _ q)) in omega arith
 
 -- a character that is read: its octets stand at the start of the text
-abbrev Starts : List ℕ → Scalar → Type 0
-Starts xs (Read c w) = (xs ≡ utf8 c ++ drop w xs) × (1 ≤ w)
-Starts xs Broken = Unit
+abbrev Starts : List ℕ → Said (ℕ × ℕ) → Type 0
+Starts xs (gives (c, w)) = (xs ≡ utf8 c ++ drop w xs) × (1 ≤ w)
+Starts xs (refuses why) = Unit
 
-accept : (xs : List ℕ) (c w : ℕ) (t : Bool) → (t ≡ true → Starts xs (Read c w)) → Starts xs (if t then Read c w else Broken)
+accept : (xs : List ℕ) (c w : ℕ) (t : Bool) → (t ≡ true → Starts xs (gives (c, w))) → Starts xs (if t then gives (c, w) else refuses NotInAlphabet)
 accept xs c w true f = f refl
 accept xs c w false f = tt
 
@@ -86,7 +74,7 @@ unfolding firstCharacter
 starts x xs = by-first (ltb x 0x80) refl (ltb x 0xe0)
   where
     by-first : (t : Bool) → ltb x 0x80 ≡ t → (u : Bool)
-        → Starts (x ∷ xs) (if t then Read x 1 else if u then twoOctets x (getD xs 0 0) else threeOctets x (getD xs 0 0) (getD xs 1 0))
+        → Starts (x ∷ xs) (if t then gives (x, 1) else if u then twoOctets x (getD xs 0 0) else threeOctets x (getD xs 0 0) (getD xs 1 0))
     by-first true e u = (rw (utf8-one x (ltb-true _ _ e)), omega arith)
     by-first false e true = starts-two (x ∷ xs) (omega arith)
     by-first false e false = starts-three (x ∷ xs) (omega arith)
@@ -102,20 +90,16 @@ Entries xs none = Unit
 Entries xs (some ss) = (es : List Entry) × (spelled es ≡ xs) × (coded es ≡ ss)
 
 module _ (x : ℕ) (xs : List ℕ) where
-  by-code : (c w : ℕ) → Starts (x ∷ xs) (Read c w) → (d : Code) → Says c d → (r : Option (List ℕ)) → Entries (drop (w - 1) xs) r → Entries (x ∷ xs) (before d r)
+  by-code : (c w : ℕ) → Starts (x ∷ xs) (gives (c, w)) → (a : Said (List ℕ)) → Says c a → (r : Option (List ℕ)) → Entries (drop (w - 1) xs) r → Entries (x ∷ xs) (before a r)
   unfolding before spelled coded
-  by-code c w st (Single k) says none b = tt
-  by-code c w st (Single k) says (some ss) b =
-      (plain k (says .2) (says .1) ∷ b .0, rw (says .0, b .1, ← drop-first x xs w (st .1)) (sym (st .0)), rw (b .2))
-  by-code c w st (Escaped k) says none b = tt
-  by-code c w st (Escaped k) says (some ss) b =
-      (extended (says .0) (says .1) ∷ b .0, rw (says .3, b .1, ← drop-first x xs w (st .1)) (sym (st .0)), rw (says .2, b .2))
-  by-code c w st Absent says r b = tt
+  by-code c w st (gives ks) says none b = tt
+  by-code c w st (gives ks) says (some ss) b = (says .0 ∷ b .0, rw (says .1, b .1, ← drop-first x xs w (st .1)) (sym (st .0)), rw (says .2, b .2))
+  by-code c w st (refuses why) says r b = tt
 
-  by-character : (f : Scalar) → Starts (x ∷ xs) f → ((k : ℕ) → Entries (drop k xs) (scan xs k)) → Entries (x ∷ xs) (behind f (λ skip. scan xs skip))
-  unfolding behind
-  by-character (Read c w) st ih = by-code c w st (codeOf c) (code-says c) (scan xs (w - 1)) (ih (w - 1))
-  by-character Broken st ih = tt
+  by-character : (f : Said (ℕ × ℕ)) → Starts (x ∷ xs) f → ((k : ℕ) → Entries (drop k xs) (scan xs k)) → Entries (x ∷ xs) (startingWith f (λ skip. scan xs skip))
+  unfolding startingWith
+  by-character (gives (c, w)) st ih = by-code c w st (codeOf c) (code-says c) (scan xs (w - 1)) (ih (w - 1))
+  by-character (refuses why) st ih = tt
 
 entries : (xs : List ℕ) (k : ℕ) → Entries (drop k xs) (scan xs k)
 unfolding scan spelled coded
@@ -138,11 +122,11 @@ first-three-octets : (a b d : ℕ) (rest : List ℕ) → 0xe0 ≤ a → firstCha
 unfolding firstCharacter
 first-three-octets a b d rest h = let l : 0x80 ≤ a = omega arith in rw (le-ltb a 0x80 l, le-ltb a 0xe0 h)
 
-first-of : (c : ℕ) (rest : List ℕ) → c < 0x10000 → firstCharacter (utf8 c ++ rest) ≡ Read c (length (utf8 c))
+first-of : (c : ℕ) (rest : List ℕ) → c < 0x10000 → firstCharacter (utf8 c ++ rest) ≡ gives (c, length (utf8 c))
 unfolding firstCharacter
 first-of c rest h = by-test (ltb c 0x80) refl (ltb c 0x800) refl
   where
-    by-test : (t : Bool) → ltb c 0x80 ≡ t → (u : Bool) → ltb c 0x800 ≡ u → firstCharacter (utf8 c ++ rest) ≡ Read c (length (utf8 c))
+    by-test : (t : Bool) → ltb c 0x80 ≡ t → (u : Bool) → ltb c 0x800 ≡ u → firstCharacter (utf8 c ++ rest) ≡ gives (c, length (utf8 c))
     by-test true p u q = rw (utf8-one c (ltb-true c 0x80 p), p)
     by-test false p true q =
         let l = ltb-false c 0x80 p in
@@ -151,7 +135,7 @@ first-of c rest h = by-test (ltb c 0x80) refl (ltb c 0x800) refl
         let b = 128 + c % 64 in
         let back : two a b ≡ c = omega arith in
         rw (utf8-two c l s)
-        (first-two-octets a b rest (omega arith) (omega arith) ∙ two-read a b (omega arith) (rw back) (rw back) ∙ ap (λ (n : ℕ). Read n 2) back)
+        (first-two-octets a b rest (omega arith) (omega arith) ∙ two-read a b (omega arith) (rw back) (rw back) ∙ ap (λ (n : ℕ). gives (n, 2)) back)
     by-test false p false q =
         let l = ltb-false c 0x800 q in
         let a = 224 + c / 4096 in
@@ -159,7 +143,7 @@ first-of c rest h = by-test (ltb c 0x80) refl (ltb c 0x800) refl
         let d = 128 + c % 64 in
         let back : three a b d ≡ c = omega arith in
         rw (utf8-three c l)
-        (first-three-octets a b d rest (omega arith) ∙ three-read a b d (omega arith) (rw back) (rw back) (rw back) ∙ ap (λ (n : ℕ). Read n 3) back)
+        (first-three-octets a b d rest (omega arith) ∙ three-read a b d (omega arith) (rw back) (rw back) (rw back) ∙ ap (λ (n : ℕ). gives (n, 3)) back)
 
 -- so its code comes first, and then the septets of what follows
 scan-utf8 : (c : ℕ) (rest : List ℕ) → c < 0x10000 → scan (utf8 c ++ rest) 0 ≡ before (codeOf c) (scan rest 0)

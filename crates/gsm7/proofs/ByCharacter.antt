@@ -8,14 +8,15 @@ use native.Mathlib.Omega.{arith}
 use borrow.Author.Tests.{ltb-true, lt-ltb, le-ltb, ne-eqb}
 use lib.Dec.{ltb}
 use lib.ListN.{getD}
+use Rattle.octets.specs.Answers.{Said, gives, refuses}
 use Rattle.octets.specs.Choice.{if_then_else_}
+use Rattle.octets.specs.declared.Refusal.the-variants.{NotInAlphabet}
 use Rattle.octets.proofs.Table.{below}
-use Rattle.gsm7.specs.declared.encode.Code.the-variants.{Absent}
 use Rattle.gsm7.specs.Alphabet.{alphabet, rowWith, indexOf}
-use Rattle.gsm7.specs.Writing.{codeOf, extendedCode}
+use Rattle.gsm7.specs.Writing.{same, codeOf, extendedCode}
 use Rattle.gsm7.specs.Internal.{entry, Codes}
 use Rattle.gsm7.proofs.Rows.{index-found}
-use Rattle.gsm7.proofs.Tables.{sameCode, same-code}
+use Rattle.gsm7.proofs.Tables.{sameCode, Ten, ten, ten-or, code-says, extended-says, same-code}
 
 abbrev pub byCharacter : List ℕ
 byCharacter =
@@ -41,19 +42,23 @@ greek =
     0x13 ∷ 0x10 ∷ 0xff ∷ 0xff ∷ 0xff ∷ 0x19 ∷ 0xff ∷ 0xff ∷ 0x14 ∷ 0xff ∷ 0xff ∷ 0x1a ∷ 0xff ∷ 0x16 ∷ 0xff ∷ 0xff ∷
     0x18 ∷ 0xff ∷ 0xff ∷ 0x12 ∷ 0xff ∷ 0x17 ∷ 0x15 ∷ []
 
+-- a table's entry is right where the test says so
+entry-right : (c x : ℕ) (others : Said (List ℕ)) → Ten others → sameCode (codeOf c) (entry x others) ≡ true → codeOf c ≡ entry x others
+entry-right c x others h = same-code (codeOf c) (entry x others) (ten c (codeOf c) (code-says c)) (ten-or (ltb x 128) (gives (x ∷ [])) others tt h)
+
 code-test : ℕ → Bool
 code-test c = sameCode (codeOf c) (entry (getD byCharacter c 0) (extendedCode c))
 
 pub codes-right : Codes byCharacter
-unfolding code-test codeOf extendedCode indexOf rowWith
-codes-right c h = same-code (codeOf c) (entry (getD byCharacter c 0) (extendedCode c)) (below code-test 256 refl c h)
+unfolding code-test codeOf extendedCode indexOf rowWith same
+codes-right c h = entry-right c (getD byCharacter c 0) (extendedCode c) (ten c (extendedCode c) (extended-says c)) (below code-test 256 refl c h)
 
 greek-test : ℕ → Bool
-greek-test k = sameCode (codeOf (0x393 + k)) (entry (getD greek k 0) Absent)
+greek-test k = sameCode (codeOf (0x393 + k)) (entry (getD greek k 0) (refuses NotInAlphabet))
 
-pub greek-right : (k : ℕ) → k < 23 → codeOf (0x393 + k) ≡ entry (getD greek k 0) Absent
-unfolding greek-test codeOf extendedCode indexOf rowWith
-greek-right k h = same-code (codeOf (0x393 + k)) (entry (getD greek k 0) Absent) (below greek-test 23 refl k h)
+pub greek-right : (k : ℕ) → k < 23 → codeOf (0x393 + k) ≡ entry (getD greek k 0) (refuses NotInAlphabet)
+unfolding greek-test codeOf extendedCode indexOf rowWith same
+greek-right k h = entry-right (0x393 + k) (getD greek k 0) (refuses NotInAlphabet) refl (below greek-test 23 refl k h)
 
 -- a character of the default alphabet is below 100 or a Greek letter
 abbrev placed : ℕ → Bool

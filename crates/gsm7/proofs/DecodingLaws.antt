@@ -1,4 +1,4 @@
--- What holds of every text that is read, and of every text that is packed.
+-- What holds of every text that is read: it has at most two octets a septet, and is characters of the two tables, one after the other.
 -- Assumes nothing.
 use Prim.Native.Nat.{ℕ, suc, _+_, _*_, _<_, _≤_}
 use mathlib.Core.Path.{_≡_, refl, ap}

@@ -5,9 +5,9 @@ pub mod Reading
 pub mod DecodingLaws
 pub mod Tables
 pub mod ByCharacter
-pub mod Decoding
+pub mod FirstCharacter
 pub mod Scanning
 pub mod Adequate
 pub mod EncodingLaws
-pub mod CaseByCase
+pub mod PackingCases
 pub mod PackingLaws

@@ -11,18 +11,18 @@ use native.Mathlib.Nat.{zero-add}
 use borrow.Author.Tests.{ltb-true, ltb-false}
 use lib.Dec.{ltb}
 use lib.ListN.{length}
+use Rattle.octets.specs.Answers.{Said, fine}
 use Rattle.octets.specs.Lent.{refused, made}
 use Rattle.octets.specs.declared.Refusal.the-variants.{NotInAlphabet}
 use Rattle.septets.specs.Septets.{octetCount, packedSeptets, headerSeptets}
 use Rattle.septets.proofs.Inverse.{length-packed}
-use Rattle.gsm7.specs.declared.packing.Packed.{Packed}
-use Rattle.gsm7.specs.Reading.{shown, unpacked}
+use Rattle.gsm7.specs.Reading.{textGiven, unpacked}
 use Rattle.gsm7.specs.Writing.{septetsOf}
-use Rattle.gsm7.specs.Packing.{packing}
+use Rattle.gsm7.specs.Packing.{SaidCounts, packing}
 use Rattle.gsm7.specs.Characters.{Entry, spelled}
 use Rattle.gsm7.proofs.Reading.{unpacked-done}
 use Rattle.gsm7.proofs.Adequate.{entries-of, written, text-packed-text}
-use Rattle.gsm7.proofs.CaseByCase.{length-behind, packing-none, packing-many, packing-done, packing-made}
+use Rattle.gsm7.proofs.PackingCases.{length-after, packing-none, packing-many, packing-done, packing-made}
 
 -- refused with 10 exactly when the text is not characters of the tables, one after the other
 pub refused-with-10 : (header text : List ℕ) → (packing header text ≡ refused NotInAlphabet) ↔ ((es : List Entry) → spelled es ≡ text → ⊥)
@@ -38,19 +38,19 @@ refused-with-10 header text = by-septets (septetsOf text) refl
         ((λ p es q. clash ss e p (ltb 255 (headerSeptets (length header) + length ss)) refl), λ h. absurd (let w = entries-of text ss e in h (w .0) (w .1)))
 
 -- the counts that a packer answers: the octets are those of the septets (TP-UDL), and never pass 224
-pub packing-counts : (header text xs : List ℕ) (a : Packed) → packing header text ≡ made xs a
-    → (a .octets ≡ length xs) × (length xs ≡ octetCount 0 (a .septets)) × (length xs ≤ 224)
-packing-counts header text xs a p =
-    let m = packing-made header text xs a p in
-    let long = ap length (m .3) ∙ length-behind header (m .0) in
-    (ap (λ (b : Packed). b .octets) (m .4) ∙ sym (ap length (m .3)), long ∙ ap (λ (b : Packed). octetCount 0 (b .septets)) (sym (m .4)), omega (arith, m .2, long))
+pub packing-counts : (header text xs : List ℕ) (said : Said Unit) (octets septets : ℕ) → packing header text ≡ made xs (said, octets, septets)
+    → (said ≡ fine) × (octets ≡ length xs) × (length xs ≡ octetCount 0 septets) × (length xs ≤ 224)
+packing-counts header text xs said octets septets p =
+    let m = packing-made header text xs (said, octets, septets) p in
+    let long = ap length (m .3) ∙ length-after header (m .0) in
+    (ap (λ (b : SaidCounts). b .0) (m .4), ap (λ (b : SaidCounts). b .1) (m .4) ∙ sym (ap length (m .3)), long ∙ ap (λ (b : SaidCounts). octetCount 0 (b .2)) (sym (m .4)), omega (arith, m .2, long))
 
 -- what was packed reads back as the text
-pub packed-reads : (text xs : List ℕ) (a : Packed) → packing [] text ≡ made xs a → unpacked xs 0 (a .septets) ≡ shown text
-packed-reads text xs a p =
-    let m = packing-made [] text xs a p in
-    let n : a .septets ≡ length (m .0) = ap (λ (b : Packed). b .septets) (m .4) ∙ zero-add _ in
+pub packed-reads : (text xs : List ℕ) (said : Said Unit) (octets septets : ℕ) → packing [] text ≡ made xs (said, octets, septets) → unpacked xs 0 septets ≡ textGiven text
+packed-reads text xs said octets septets p =
+    let m = packing-made [] text xs (said, octets, septets) p in
+    let n : septets ≡ length (m .0) = ap (λ (b : SaidCounts). b .2) (m .4) ∙ zero-add _ in
     let few : length (m .0) ≤ 255 = omega (arith, m .2) in
     ap₂ (λ (os : List ℕ) (k : ℕ). unpacked os 0 k) (m .3) n
     ∙ unpacked-done (packedSeptets 0 (m .0)) 0 (length (m .0)) few (rw length-packed (omega arith))
-    ∙ ap shown (text-packed-text 0 text (m .0) (m .1))
+    ∙ ap textGiven (text-packed-text 0 text (m .0) (m .1))

@@ -11,19 +11,17 @@ use lib.ListN.{length, replicate}
 use lib.Dec.{ltb}
 use borrow.Author.Tests.{lt-ltb, le-ltb, eq-eqb, ne-eqb, ltb-true, ltb-false}
 use Rattle.octets.specs.Lent.{Wrote}
-use Rattle.octets.specs.declared.Refusal.{Refusal}
 use Rattle.octets.specs.declared.Refusal.the-variants.{LengthTooLarge, TooFewOctets}
-use Rattle.octets.specs.declared.Outcome.the-variants.{Done, Refused}
+use Rattle.octets.specs.Answers.{fine}
 use Rattle.octets.proofs.Laws.{sets-zeros}
-use Rattle.septets.specs.Septets.{numberOf, digitsOf, septetAt, septetsIn, octetCount}
+use Rattle.septets.specs.Septets.{numberOf, lowestDigits, septetAt, septetsIn, octetCount}
 use Rattle.septets.proofs.Number.{digits-step}
-use Rattle.gsm7.specs.declared.decode.Unpacked.{Unpacked}
 use Rattle.gsm7.specs.Alphabet.{character, escaped}
-use Rattle.gsm7.specs.Reading.{utf8, textOf, afterEscape, shown, unread, unpacked}
+use Rattle.gsm7.specs.Reading.{utf8, textOf, afterEscape, SaidText, textGiven, textRefused, unpacked}
 
 -- n septets, from septet k on
 septetsFrom : List ℕ → ℕ → ℕ → ℕ → List ℕ
-septetsFrom os f k n = digitsOf 7 n (numberOf 8 os / 2 ^ (f + k * 7))
+septetsFrom os f k n = lowestDigits 7 n (numberOf 8 os / 2 ^ (f + k * 7))
 
 septets-step : (os : List ℕ) (f k n : ℕ) → septetsFrom os f k (suc n) ≡ septetAt os f k ∷ septetsFrom os f (suc k) n
 unfolding septetsFrom septetAt
@@ -32,35 +30,38 @@ septets-step os f k n =
     rw (digits-step, e)
 
 septets-none : (os : List ℕ) (f k : ℕ) → septetsFrom os f k 0 ≡ []
-unfolding septetsFrom digitsOf
+unfolding septetsFrom lowestDigits
 septets-none os f k = refl
 
 -- the text of septets i to n - 1
 pub rest : List ℕ → ℕ → ℕ → ℕ → List ℕ
 rest os f n i = textOf (septetsFrom os f i (n - i))
 
+-- one character more, where k is the septet at i
 module _ (os : List ℕ) (f n i : ℕ) where
   pub rest-done : n ≤ i → rest os f n i ≡ []
   unfolding rest textOf
   rest-done h = let e : n - i ≡ 0 = omega arith in rw (e, septets-none)
 
-  pub rest-plain : i < n → (septetAt os f i ≡ 0x1b → ⊥) → rest os f n i ≡ utf8 (character (septetAt os f i)) ++ rest os f n (i + 1)
-  unfolding rest textOf
-  rest-plain h p =
-      let e : n - i ≡ suc (n - suc i) = omega arith in
-      rw (e, septets-step, ne-eqb (septetAt os f i) 0x1b p, add-one)
+  module _ {k : ℕ} (is : k ≡ septetAt os f i) where
+    pub rest-plain : i < n → (k ≡ 0x1b → ⊥) → rest os f n i ≡ utf8 (character k) ++ rest os f n (i + 1)
+    unfolding rest textOf
+    rest-plain h p =
+        let e : n - i ≡ suc (n - suc i) = omega arith in
+        rw (e, septets-step, ← is, ne-eqb k 0x1b p, add-one)
 
-  pub rest-escape : i + 1 < n → septetAt os f i ≡ 0x1b → rest os f n i ≡ utf8 (escaped (septetAt os f (i + 1))) ++ rest os f n (i + 2)
-  unfolding rest textOf afterEscape
-  rest-escape h p =
-      let e : n - i ≡ suc (suc (n - suc (suc i))) = omega arith in
-      rw (e, septets-step, septets-step, eq-eqb (septetAt os f i) 0x1b p, add-one, add-two)
+    -- an escape, where c is the character of the septet after it
+    pub rest-escape : i + 1 < n → k ≡ 0x1b → {c m : ℕ} → m ≡ septetAt os f (i + 1) → c ≡ escaped m → rest os f n i ≡ utf8 c ++ rest os f n (i + 2)
+    unfolding rest textOf afterEscape
+    rest-escape h p q r =
+        let e : n - i ≡ suc (suc (n - suc (suc i))) = omega arith in
+        rw (r, q, e, septets-step, septets-step, ← is, eq-eqb k 0x1b p, add-one, add-two)
 
-  pub rest-last : i + 1 ≡ n → septetAt os f i ≡ 0x1b → rest os f n i ≡ utf8 0x20
-  unfolding rest textOf afterEscape
-  rest-last h p =
-      let e : n - i ≡ 1 = omega arith in
-      rw (e, septets-step, septets-none, eq-eqb (septetAt os f i) 0x1b p)
+    pub rest-last : i + 1 ≡ n → k ≡ 0x1b → rest os f n i ≡ utf8 0x20
+    unfolding rest textOf afterEscape
+    rest-last h p =
+        let e : n - i ≡ 1 = omega arith in
+        rw (e, septets-step, septets-none, ← is, eq-eqb k 0x1b p)
 
 pub septet-small : (os : List ℕ) (f k : ℕ) → septetAt os f k < 128
 unfolding septetAt
@@ -73,38 +74,20 @@ rest-start os f n = rw (sub-zero, add-zero)
 
 -- what reading gives, case by case
 module _ (os : List ℕ) (f n : ℕ) where
-  pub unpacked-long : 255 < n → unpacked os f n ≡ unread LengthTooLarge
+  pub unpacked-long : 255 < n → unpacked os f n ≡ textRefused LengthTooLarge
   unfolding unpacked
   unpacked-long h = rw (lt-ltb 255 n h)
 
   module _ (few : n ≤ 255) where
-    pub unpacked-few : length os < octetCount f n → unpacked os f n ≡ unread TooFewOctets
+    pub unpacked-few : length os < octetCount f n → unpacked os f n ≡ textRefused TooFewOctets
     unfolding unpacked
     unpacked-few h = rw (le-ltb 255 n few, lt-ltb _ _ h)
 
-    pub unpacked-done : octetCount f n ≤ length os → unpacked os f n ≡ shown (textOf (septetsIn os f n))
+    pub unpacked-done : octetCount f n ≤ length os → unpacked os f n ≡ textGiven (textOf (septetsIn os f n))
     unfolding unpacked
     unpacked-done h = rw (le-ltb 255 n few, le-ltb _ _ h)
 
-    -- by the outcome
-    pub unpacked-reads : {u : Unpacked} → u ≡ unpacked os f n → u .outcome ≡ Done → (octetCount f n ≤ length os) × (u ≡ shown (textOf (septetsIn os f n)))
-    unfolding unread
-    unpacked-reads {u} e d = by-test (ltb (length os) (octetCount f n)) refl
-      where
-        by-test : (t : Bool) → ltb (length os) (octetCount f n) ≡ t → (octetCount f n ≤ length os) × (u ≡ shown (textOf (septetsIn os f n)))
-        by-test true p = let q = sym d ∙ ap (λ (v : Unpacked). v .outcome) (e ∙ unpacked-few (ltb-true _ _ p)) in let z : _≡_ {A = ℕ} 0 1 = cc in absurd (omega arith)
-        by-test false p = (ltb-false _ _ p, e ∙ unpacked-done (ltb-false _ _ p))
-
-    pub unpacked-ends : {u : Unpacked} → u ≡ unpacked os f n → (r : Refusal) → u .outcome ≡ Refused r → length os < octetCount f n
-    unfolding shown
-    unpacked-ends e r d = by-test (ltb (length os) (octetCount f n)) refl
-      where
-        by-test : (t : Bool) → ltb (length os) (octetCount f n) ≡ t → length os < octetCount f n
-        by-test true p = ltb-true _ _ p
-        by-test false p = let q = sym d ∙ ap (λ (v : Unpacked). v .outcome) (e ∙ unpacked-done (ltb-false _ _ p)) in let z : _≡_ {A = ℕ} 0 1 = cc in absurd (omega arith)
-
 -- a text stored from the start of the array
-pub shown-whole : (text : List ℕ) → length text ≤ 510 → {n : ℕ} {array : List ℕ} → Wrote 0 text (replicate 510 0) n array
-    → _≡_ {A = Unpacked} (record { outcome = Done; text = array; «text_length» = n }) (shown text)
-unfolding shown
-shown-whole text h w = rw (w .place, w .list, zero-add, sets-zeros 510 text h)
+pub text-stored : (text : List ℕ) → length text ≤ 510 → {n : ℕ} {array : List ℕ} → Wrote 0 text (replicate 510 0) n array → _≡_ {A = SaidText} (fine, array, n) (textGiven text)
+unfolding textGiven
+text-stored text h w = rw (w .place, w .list, zero-add, sets-zeros 510 text h)

@@ -1,4 +1,4 @@
--- What parts of the code say to each other: the table of codes by character, and a scan that counts past its array's end.
+-- What the codec's functions that write text say to each other. Only these use it, and nobody has to believe anything here.
 use Prim.Native.Nat.{ℕ, _<_}
 use mathlib.Core.Path.{_≡_}
 use mathlib.Core.List.{List, [], _∷_}
@@ -6,28 +6,47 @@ use mathlib.Core.Option.{Option, none, some}
 use lib.Seq.{sets}
 use lib.ListN.{length, getD}
 use lib.Dec.{ltb}
+use Rattle.octets.specs.Answers.{Said, gives, refuses}
 use Rattle.octets.specs.Choice.{if_then_else_}
+use Rattle.octets.specs.declared.Refusal.the-variants.{NotInAlphabet}
 use Rattle.gsm7.specs.declared.encode.Code.{Code}
 use Rattle.gsm7.specs.declared.encode.Code.the-variants.{Single, Escaped, Absent}
+use Rattle.gsm7.specs.declared.encode.Scalar.{Scalar}
+use Rattle.gsm7.specs.declared.encode.Scalar.the-variants.{Read, Broken}
 use Rattle.gsm7.specs.declared.encode.Scanned.{Scanned}
 use Rattle.gsm7.specs.declared.encode.Scanned.the-variants.{Counted, NotCoded}
 use Rattle.gsm7.specs.Writing.{codeOf, extendedCode}
 
--- the code that an entry of a table stands for: below 128 one of the default alphabet, else another
-abbrev pub entry : ℕ → Code → Code
-entry x other = if ltb x 128 then Single x else other
+-- the code of a character: its septets; in neither table: 10
+abbrev pub codeSays : Code → Said (List ℕ)
+codeSays (Single k) = gives (k ∷ [])
+codeSays (Escaped k) = gives (0x1b ∷ k ∷ [])
+codeSays Absent = refuses NotInAlphabet
+
+-- a character, and the number of its octets; no UTF-8: 10
+abbrev pub scalarSays : Scalar → Said (ℕ × ℕ)
+scalarSays (Read c width) = gives (c, width)
+scalarSays Broken = refuses NotInAlphabet
+
+-- how many septets a text has; a character that is in neither table, or no UTF-8: 10
+abbrev pub scannedSays : Scanned → Said ℕ
+scannedSays (Counted n) = gives n
+scannedSays NotCoded = refuses NotInAlphabet
+
+-- a text's septets, if it has any: their number is told, and they are stored from the array's start, as far as it goes
+abbrev pub ScannedAs : Option (List ℕ) → Scanned → List ℕ → List ℕ → Type 0
+ScannedAs none r before after = scannedSays r ≡ refuses NotInAlphabet
+ScannedAs (some ss) r before after = (scannedSays r ≡ gives (length ss)) × (after ≡ sets before 0 ss)
+
+-- the septets that an entry of a table stands for: below 128 a code of the default alphabet, else others
+abbrev pub entry : ℕ → Said (List ℕ) → Said (List ℕ)
+entry x others = if ltb x 128 then gives (x ∷ []) else others
 
 -- a table of codes by character
 abbrev pub Codes : List ℕ → Type 0
 Codes t = (c : ℕ) → c < 256 → codeOf c ≡ entry (getD t c 0) (extendedCode c)
 
--- the septets of a character, of which one that has no code has none
-abbrev pub septetsOfCode : Code → List ℕ
-septetsOfCode (Single k) = k ∷ []
-septetsOfCode (Escaped k) = 0x1b ∷ k ∷ []
-septetsOfCode Absent = []
-
--- a text's septets, if it has any: their number is told, and they are stored from the array's start, as far as it goes
-abbrev pub ScannedAs : Option (List ℕ) → Scanned → List ℕ → List ℕ → Type 0
-ScannedAs none r before after = r ≡ NotCoded
-ScannedAs (some ss) r before after = (r ≡ Counted (length ss)) × (after ≡ sets before 0 ss)
+-- the septets to store for a character: none, where it has no code
+abbrev pub stored : Said (List ℕ) → List ℕ
+stored (gives ks) = ks
+stored (refuses why) = []

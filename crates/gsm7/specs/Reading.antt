@@ -4,11 +4,11 @@ use mathlib.Core.Path.{_≡_, refl}
 use mathlib.Core.List.{List, [], _∷_, _++_}
 use lib.ListN.{length}
 use lib.Dec.{eqb, ltb}
+use Rattle.octets.specs.Answers.{Said, refuses, fine, outcomeSays}
 use Rattle.octets.specs.Choice.{if_then_else_}
 use Rattle.octets.specs.Arrays.{pad}
 use Rattle.octets.specs.declared.Refusal.{Refusal}
 use Rattle.octets.specs.declared.Refusal.the-variants.{LengthTooLarge, TooFewOctets}
-use Rattle.octets.specs.declared.Outcome.the-variants.{Done, Refused}
 use Rattle.septets.specs.Septets.{septetsIn, octetCount}
 use Rattle.gsm7.specs.declared.decode.Unpacked.{Unpacked}
 use Rattle.gsm7.specs.Alphabet.{character, escaped, rowWith}
@@ -33,20 +33,27 @@ unfoldable mutual
   afterEscape [] = utf8 0x20
   afterEscape (t ∷ ss) = utf8 (escaped t) ++ textOf ss
 
+-- what a text reader's answer says: its outcome, the text's array, and how many octets of it are text
+abbrev pub SaidText : Type 0
+SaidText = Said Unit × List ℕ × ℕ
+
+abbrev pub unpackedSays : Unpacked → SaidText
+unpackedSays u = (outcomeSays (u .outcome), u .text, u .«text_length»)
+
 -- a text in its array
-unfoldable pub shown : List ℕ → Unpacked
-shown text = record { outcome = Done; text = pad 510 text; «text_length» = length text }
+unfoldable pub textGiven : List ℕ → SaidText
+textGiven text = (fine, pad 510 text, length text)
 
 -- a refusal: no text
-unfoldable pub unread : Refusal → Unpacked
-unread r = record { outcome = Refused r; text = pad 510 []; «text_length» = 0 }
+unfoldable pub textRefused : Refusal → SaidText
+textRefused why = (refuses why, pad 510 [], 0)
 
 -- what reading n septets after f fill bits gives
-unfoldable pub unpacked : List ℕ → ℕ → ℕ → Unpacked
+unfoldable pub unpacked : List ℕ → ℕ → ℕ → SaidText
 unpacked os f n =
-    if ltb 255 n then unread LengthTooLarge
-    else if ltb (length os) (octetCount f n) then unread TooFewOctets
-    else shown (textOf (septetsIn os f n))
+    if ltb 255 n then textRefused LengthTooLarge
+    else if ltb (length os) (octetCount f n) then textRefused TooFewOctets
+    else textGiven (textOf (septetsIn os f n))
 
 -- escape before escape and escape last are a space; the euro sign is E2 82 AC
 rows : (textOf (0x1b ∷ 0x1b ∷ 0x41 ∷ []) ≡ 0x20 ∷ 0x41 ∷ []) × (textOf (0x41 ∷ 0x1b ∷ []) ≡ 0x41 ∷ 0x20 ∷ []) × (textOf (0x1b ∷ 0x65 ∷ []) ≡ 0xe2 ∷ 0x82 ∷ 0xac ∷ [])

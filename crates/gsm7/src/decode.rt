@@ -7,7 +7,7 @@ ghost use Rattle.octets.specs.Lent.{Wrote};
 ghost use Rattle.gsm7.specs.Alphabet.{alphabet as defaultAlphabet, extension, row, escaped};
 ghost use Rattle.octets.specs.declared.Refusal.the-variants.{LengthTooLarge, TooFewOctets};
 ghost use Rattle.septets.specs.Septets.{septetsIn};
-ghost use Rattle.gsm7.specs.Reading.{utf8, textOf, shown, unread, unpacked};
+ghost use Rattle.gsm7.specs.Reading.{utf8, textOf, unpackedSays, textGiven, textRefused, unpacked};
 use octets::Outcome;
 use octets::Refusal;
 
@@ -226,9 +226,9 @@ fn escaped_character(alphabet: &[u16; 128], code: u8) -> u16
     alphabet[code as usize]
 }
 
-// Writes an octet at `at` and the last octet of a character's UTF-8 behind it; the place behind them.
-fn put_two(text: &mut [u8; 510], at: usize, octet: u8, c: u16) -> usize
-    requires { ⌜ at + 2 ≤ 510 ⌝ }
+// Writes an octet at `at` and the last octet of a character's UTF-8 after it; the place after them.
+fn put_two(text: &mut [u8], at: usize, octet: u8, c: u16) -> usize
+    requires { ⌜ at + 2 ≤ length (now text) ⌝ }
     ensures { λ r. ⌜ Wrote at (octet ∷ (128 + c % 64) ∷ []) (now (text .entry)) r (now (text .exit)) ⌝ }
 {
     text[at] = octet;
@@ -236,9 +236,9 @@ fn put_two(text: &mut [u8; 510], at: usize, octet: u8, c: u16) -> usize
     at + 2
 }
 
-// Writes the UTF-8 octets of a character at `at`; the place behind them.
-fn put(text: &mut [u8; 510], at: usize, c: u16) -> usize
-    requires { ⌜ at + length (utf8 c) ≤ 510 ⌝ }
+// Writes the UTF-8 octets of a character at `at`; the place after them.
+fn put(text: &mut [u8], at: usize, c: u16) -> usize
+    requires { ⌜ at + length (utf8 c) ≤ length (now text) ⌝ }
     ensures { λ r. ⌜ Wrote at (utf8 c) (now (text .entry)) r (now (text .exit)) ⌝ }
 {
     if c < 0x80 {
@@ -252,55 +252,39 @@ fn put(text: &mut [u8; 510], at: usize, c: u16) -> usize
     put_two(text, at + 1, (128 + c / 64 % 64) as u8, c)
 }
 
-fn refused(r: Refusal) -> Unpacked
-    ensures { λ u. ⌜ u ≡ unread r ⌝ }
+// Writes the text of the counted septets, from `fill` bits into the octets, at `at`; the place after it. What follows an escape that is the last septet counted is not looked at.
+pub fn unpack_septets(data: &[u8], fill: usize, septets: usize, text: &mut [u8], at: usize) -> usize
+    requires { ⌜ (fill < 8) × (septets ≤ 255) × (at + length (textOf (septetsIn (now «data») fill septets)) ≤ length (now text)) ⌝ }
+    ensures { λ r. ⌜ Wrote at (textOf (septetsIn (now («data» .entry)) fill septets)) (now (text .entry)) r (now (text .exit)) ⌝ }
 {
-    Unpacked {
-        outcome: Outcome::Refused(r),
-        text: [0u8; 510],
-        text_length: 0,
-    }
-}
-
-// Writes the text of the counted septets, from `fill` bits into the octets, at the array's start; its length.
-fn put_text(
-    alphabet: &[u16; 128],
-    data: &[u8],
-    fill: usize,
-    septets: usize,
-    text: &mut [u8; 510],
-) -> usize
-    requires { ⌜ (now alphabet ≡ defaultAlphabet) × (fill < 8) × (septets ≤ 255) ⌝ }
-    ensures { λ r. ⌜ Wrote 0 (textOf (septetsIn (now («data» .entry)) fill septets)) (now (text .entry)) r (now (text .exit)) ⌝ }
-{
-    let mut length = 0;
+    let alphabet = ALPHABET;
+    let mut end = at;
     let mut consumed = 0;
     while consumed < septets {
         let code = septets::septet_at(data, fill, consumed);
         if code == GSM7_ESCAPE {
             if consumed + 1 == septets {
-                length = put(text, length, 0x20);
+                end = put(text, end, 0x20);
                 break;
             }
             let next = septets::septet_at(data, fill, consumed + 1);
-            length = put(text, length, escaped_character(alphabet, next));
+            end = put(text, end, escaped_character(&alphabet, next));
             consumed += 2;
         } else {
-            length = put(text, length, alphabet[code as usize]);
+            end = put(text, end, alphabet[code as usize]);
             consumed += 1;
         }
     }
-    length
+    end
 }
 
 // The text of counted septets that are all there.
-fn shown_text(data: &[u8], fill: usize, septets: usize) -> Unpacked
+fn whole_text(data: &[u8], fill: usize, septets: usize) -> Unpacked
     requires { ⌜ (fill < 8) × (septets ≤ 255) ⌝ }
-    ensures { λ r. ⌜ r ≡ shown (textOf (septetsIn (now («data» .entry)) fill septets)) ⌝ }
+    ensures { λ r. ⌜ unpackedSays r ≡ textGiven (textOf (septetsIn (now («data» .entry)) fill septets)) ⌝ }
 {
-    let alphabet = ALPHABET;
     let mut text = [0u8; 510];
-    let text_length = put_text(&alphabet, data, fill, septets, &mut text);
+    let text_length = unpack_septets(data, fill, septets, &mut text, 0);
     Unpacked {
         outcome: Outcome::Done,
         text,
@@ -308,22 +292,32 @@ fn shown_text(data: &[u8], fill: usize, septets: usize) -> Unpacked
     }
 }
 
+fn refused(why: Refusal) -> Unpacked
+    ensures { λ u. ⌜ unpackedSays u ≡ textRefused why ⌝ }
+{
+    Unpacked {
+        outcome: Outcome::Refused(why),
+        text: [0u8; 510],
+        text_length: 0,
+    }
+}
+
 fn too_long() -> Unpacked
-    ensures { λ u. ⌜ u ≡ unread LengthTooLarge ⌝ }
+    ensures { λ u. ⌜ unpackedSays u ≡ textRefused LengthTooLarge ⌝ }
 {
     refused(Refusal::LengthTooLarge)
 }
 
 fn too_few_octets() -> Unpacked
-    ensures { λ u. ⌜ u ≡ unread TooFewOctets ⌝ }
+    ensures { λ u. ⌜ unpackedSays u ≡ textRefused TooFewOctets ⌝ }
 {
     refused(Refusal::TooFewOctets)
 }
 
-// The text of the counted septets, from `fill` bits into the octets.
-pub fn unpack_septets(data: &[u8], fill: usize, septets: usize) -> Unpacked
+// The text of the counted septets, from `fill` bits into the octets, if the octets are enough for them.
+pub fn read_septets(data: &[u8], fill: usize, septets: usize) -> Unpacked
     requires { ⌜ fill < 8 ⌝ }
-    ensures { λ r. ⌜ r ≡ unpacked (now («data» .entry)) fill septets ⌝ }
+    ensures { λ r. ⌜ unpackedSays r ≡ unpacked (now («data» .entry)) fill septets ⌝ }
 {
     if 255 < septets {
         return too_long();
@@ -331,12 +325,12 @@ pub fn unpack_septets(data: &[u8], fill: usize, septets: usize) -> Unpacked
     if data.len() < (fill + septets * 7 + 7) / 8 {
         return too_few_octets();
     }
-    shown_text(data, fill, septets)
+    whole_text(data, fill, septets)
 }
 
 // The text of exactly `septets` septets.
 pub fn unpack_gsm7(data: &[u8], septets: usize) -> Unpacked
-    ensures { λ r. ⌜ r ≡ unpacked (now («data» .entry)) 0 septets ⌝ }
+    ensures { λ r. ⌜ unpackedSays r ≡ unpacked (now («data» .entry)) 0 septets ⌝ }
 {
-    unpack_septets(data, 0, septets)
+    read_septets(data, 0, septets)
 }

@@ -5,7 +5,7 @@ ghost use mathlib.Core.List.{[], _∷_};
 ghost use lib.ListN.{length, drop};
 ghost use Rattle.octets.specs.Lent.{Wrote};
 ghost use Rattle.gsm7.specs.Writing.{codeOf, extendedCode, twoOctets, threeOctets, firstCharacter, septetsOf};
-ghost use Rattle.gsm7.specs.Internal.{Codes, ScannedAs, septetsOfCode};
+ghost use Rattle.gsm7.specs.Internal.{codeSays, scalarSays, Codes, ScannedAs, stored};
 use crate::decode::GSM7_ESCAPE;
 
 // The code of each character below 100 that is in the default alphabet; FF for the others.
@@ -316,7 +316,7 @@ pub enum Scanned {
 
 // The code of a character of the extension table.
 fn escape_of(c: u16) -> Code
-    ensures { λ r. ⌜ r ≡ extendedCode c ⌝ }
+    ensures { λ r. ⌜ codeSays r ≡ extendedCode c ⌝ }
 {
     let mut i = 0;
     while i < 10 {
@@ -332,7 +332,7 @@ fn escape_of(c: u16) -> Code
 // The code of a character from 100 on.
 fn high_code_of(c: u16) -> Code
     requires { ⌜ 256 ≤ c ⌝ }
-    ensures { λ r. ⌜ r ≡ codeOf c ⌝ }
+    ensures { λ r. ⌜ codeSays r ≡ codeOf c ⌝ }
 {
     if c < 0x393 {
         return escape_of(c);
@@ -350,7 +350,7 @@ fn high_code_of(c: u16) -> Code
 // The code of a character.
 fn code_of(codes: &[u8; 256], c: u16) -> Code
     requires { ⌜ Codes (now codes) ⌝ }
-    ensures { λ r. ⌜ r ≡ codeOf c ⌝ }
+    ensures { λ r. ⌜ codeSays r ≡ codeOf c ⌝ }
 {
     if 255 < c {
         return high_code_of(c);
@@ -363,7 +363,7 @@ fn code_of(codes: &[u8; 256], c: u16) -> Code
 }
 
 fn two_octets(a: u16, b: u16) -> Scalar
-    ensures { λ r. ⌜ r ≡ twoOctets a b ⌝ }
+    ensures { λ r. ⌜ scalarSays r ≡ twoOctets a b ⌝ }
 {
     let c = a % 32 * 64 + b % 64;
     if c < 0x80 {
@@ -379,7 +379,7 @@ fn two_octets(a: u16, b: u16) -> Scalar
 }
 
 fn three_octets(a: u16, b: u16, d: u16) -> Scalar
-    ensures { λ r. ⌜ r ≡ threeOctets a b d ⌝ }
+    ensures { λ r. ⌜ scalarSays r ≡ threeOctets a b d ⌝ }
 {
     let c = a % 16 * 4096 + b % 64 * 64 + d % 64;
     if c < 0x800 {
@@ -400,7 +400,7 @@ fn three_octets(a: u16, b: u16, d: u16) -> Scalar
 // The character that starts at `at`.
 pub fn character_at(text: &[u8], at: usize) -> Scalar
     requires { ⌜ at < length (now text) ⌝ }
-    ensures { λ r. ⌜ r ≡ firstCharacter (drop at (now (text .entry))) ⌝ }
+    ensures { λ r. ⌜ scalarSays r ≡ firstCharacter (drop at (now (text .entry))) ⌝ }
 {
     let a = septets::octet_or_zero(text, at);
     if a < 0x80 {
@@ -414,7 +414,7 @@ pub fn character_at(text: &[u8], at: usize) -> Scalar
     three_octets(a, b, d)
 }
 
-// Stores a septet behind `count` others, as far as the array goes; their number with it.
+// Stores a septet after `count` others, as far as the array goes; their number with it.
 fn add(codes: &mut [u8; 255], count: usize, code: u8) -> usize
     requires { ⌜ (count + 1 < 2 ^ 64) × (length (now codes) ≡ 255) ⌝ }
     ensures { λ r. ⌜ Wrote count (code ∷ []) (now (codes .entry)) r (now (codes .exit)) ⌝ }
@@ -426,10 +426,10 @@ fn add(codes: &mut [u8; 255], count: usize, code: u8) -> usize
     count + 1
 }
 
-// Stores the septets of a character behind `count` others; their number with these, `count` itself where it has none.
+// Stores the septets of a character after `count` others; their number with these, `count` itself where it has none.
 pub fn add_character(table: &[u8; 256], codes: &mut [u8; 255], count: usize, c: u16) -> usize
     requires { ⌜ Codes (now table) × (count + 2 < 2 ^ 64) × (length (now codes) ≡ 255) ⌝ }
-    ensures { λ r. ⌜ Wrote count (septetsOfCode (codeOf c)) (now (codes .entry)) r (now (codes .exit)) ⌝ }
+    ensures { λ r. ⌜ Wrote count (stored (codeOf c)) (now (codes .entry)) r (now (codes .exit)) ⌝ }
 {
     match code_of(table, c) {
         Code::Single(code) => add(codes, count, code),

@@ -7,7 +7,7 @@ ghost use lib.ListN.{length};
 ghost use Rattle.octets.specs.Lent.{Wrote, lend};
 ghost use Rattle.octets.specs.declared.Refusal.the-variants.{NotInAlphabet, TooManySeptets, OutputTooShort};
 ghost use Rattle.septets.specs.Septets.{Digits};
-ghost use Rattle.gsm7.specs.Packing.{notPacked, counted, octetsBehind, packedBehind, packing};
+ghost use Rattle.gsm7.specs.Packing.{packedSays, notPacked, octetsAfter, packedAfter, packing};
 use crate::encode::Scanned;
 use octets::Outcome;
 use octets::Refusal;
@@ -19,59 +19,48 @@ pub struct Packed {
     pub septets: usize,
 }
 
-pub fn not_packed(r: Refusal) -> Packed
-    ensures { λ p. ⌜ p ≡ notPacked r ⌝ }
+pub fn not_packed(why: Refusal) -> Packed
+    ensures { λ p. ⌜ packedSays p ≡ notPacked why ⌝ }
 {
     Packed {
-        outcome: Outcome::Refused(r),
+        outcome: Outcome::Refused(why),
         octets: 0,
         septets: 0,
     }
 }
 
 fn not_in_alphabet() -> Packed
-    ensures { λ p. ⌜ p ≡ notPacked NotInAlphabet ⌝ }
+    ensures { λ p. ⌜ packedSays p ≡ notPacked NotInAlphabet ⌝ }
 {
     not_packed(Refusal::NotInAlphabet)
 }
 
 fn too_many_septets() -> Packed
-    ensures { λ p. ⌜ p ≡ notPacked TooManySeptets ⌝ }
+    ensures { λ p. ⌜ packedSays p ≡ notPacked TooManySeptets ⌝ }
 {
     not_packed(Refusal::TooManySeptets)
 }
 
 fn output_too_short() -> Packed
-    ensures { λ p. ⌜ p ≡ notPacked OutputTooShort ⌝ }
+    ensures { λ p. ⌜ packedSays p ≡ notPacked OutputTooShort ⌝ }
 {
     not_packed(Refusal::OutputTooShort)
 }
 
-// The answer of a packer that wrote: how many octets, for how many septets.
-fn done(octets: usize, septets: usize) -> Packed
-    ensures { λ p. ⌜ p ≡ counted octets septets ⌝ }
-{
-    Packed {
-        outcome: Outcome::Done,
-        octets,
-        septets,
-    }
-}
-
-// Writes a header's octets, and the septets behind it and its fill bits; the place behind them.
+// Writes a header's octets, and the septets after it and its fill bits; the place after them.
 fn put_packed(header: &[u8], codes: &[u8], out: &mut [u8]) -> usize
-    requires { ⌜ (length (now header) ≤ 256) × (length (now codes) ≤ 255) × Digits 7 (now codes) × (length (octetsBehind (now header) (now codes)) ≤ length (now out)) ⌝ }
-    ensures { λ r. ⌜ Wrote 0 (octetsBehind (now (header .entry)) (now (codes .entry))) (now (out .entry)) r (now (out .exit)) ⌝ }
+    requires { ⌜ (length (now header) ≤ 256) × (length (now codes) ≤ 255) × Digits 7 (now codes) × (length (octetsAfter (now header) (now codes)) ≤ length (now out)) ⌝ }
+    ensures { λ r. ⌜ Wrote 0 (octetsAfter (now (header .entry)) (now (codes .entry))) (now (out .entry)) r (now (out .exit)) ⌝ }
 {
     let fill = septets::header_septets(header.len()) * 7 - header.len() * 8;
     let at = octets::put_octets(out, 0, header);
     septets::pack_octets(codes, fill, out, at)
 }
 
-// The septets packed behind a header's octets and its fill bits.
+// The septets packed after a header's octets and its fill bits.
 fn pack_codes(header: &[u8], codes: &[u8], out: &mut [u8]) -> Packed
     requires { ⌜ (length (now header) ≤ 256) × (length (now codes) ≤ 255) × Digits 7 (now codes) ⌝ }
-    ensures { λ r. ⌜ (r, now (out .exit)) ≡ lend notPacked (packedBehind (now (header .entry)) (some (now (codes .entry)))) (now (out .entry)) ⌝ }
+    ensures { λ r. ⌜ (packedSays r, now (out .exit)) ≡ lend notPacked (packedAfter (now (header .entry)) (some (now (codes .entry)))) (now (out .entry)) ⌝ }
 {
     let septets = septets::header_septets(header.len()) + codes.len();
     if 255 < septets {
@@ -80,13 +69,18 @@ fn pack_codes(header: &[u8], codes: &[u8], out: &mut [u8]) -> Packed
     if out.len() < (septets * 7 + 7) / 8 {
         return output_too_short();
     }
-    done(put_packed(header, codes, out), septets)
+    let octets = put_packed(header, codes, out);
+    Packed {
+        outcome: Outcome::Done,
+        octets,
+        septets,
+    }
 }
 
-// The text packed behind a header's octets and its fill bits; with no header, from the start.
+// The text packed after a header's octets and its fill bits; with no header, from the start.
 pub fn pack_septets(header: &[u8], text: &[u8], out: &mut [u8]) -> Packed
     requires { ⌜ length (now header) ≤ 256 ⌝ }
-    ensures { λ r. ⌜ (r, now (out .exit)) ≡ lend notPacked (packing (now (header .entry)) (now (text .entry))) (now (out .entry)) ⌝ }
+    ensures { λ r. ⌜ (packedSays r, now (out .exit)) ≡ lend notPacked (packing (now (header .entry)) (now (text .entry))) (now (out .entry)) ⌝ }
 {
     let mut codes = [0u8; 255];
     let Scanned::Counted(count) = crate::encode::scan_text(text, &mut codes) else {
@@ -100,7 +94,7 @@ pub fn pack_septets(header: &[u8], text: &[u8], out: &mut [u8]) -> Packed
 
 // The text packed in octets.
 pub fn pack_gsm7(text: &[u8], out: &mut [u8]) -> Packed
-    ensures { λ r. ⌜ (r, now (out .exit)) ≡ lend notPacked (packing [] (now (text .entry))) (now (out .entry)) ⌝ }
+    ensures { λ r. ⌜ (packedSays r, now (out .exit)) ≡ lend notPacked (packing [] (now (text .entry))) (now (out .entry)) ⌝ }
 {
     pack_septets(&text[..0], text, out)
 }

@@ -1,4 +1,4 @@
--- A first octet in its canonical form: TP-MTI and the bits that the line names are as they were.
+-- A first octet in its canonical form: TP-MTI and the bits that the format names are as they were.
 -- Assumes nothing.
 use Prim.Native.Nat.{ℕ, suc, _+_, _-_, _*_, _/_, _%_, _^_, _≤_, _<_}
 use mathlib.Core.Path.{_≡_, refl, sym, ap, _∙_}
@@ -14,7 +14,7 @@ use lib.Pow.{pow-mono, high, low, field, mod-mod-pow}
 use Rattle.octets.proofs.Choice.{and-true, or-means}
 use Rattle.layout.specs.Layout.{bit, messageType, kept}
 
--- a line names its bits from the highest down, and none of TP-MTI's
+-- a format names its bits from the highest down, and none of TP-MTI's
 abbrev pub descends : List ℕ → Bool
 descends [] = true
 descends (b ∷ []) = leb 2 b

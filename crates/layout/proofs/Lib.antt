@@ -6,3 +6,4 @@ pub mod Makes
 pub mod Demand
 pub mod Steps
 pub mod Rewriting
+pub mod Answered

@@ -1,4 +1,4 @@
--- What a line makes: a statement of each record that it makes, and of the canonical fields that it makes it of.
+-- What a format makes: a statement of each record that it makes, and of the canonical fields that it makes it of.
 -- Assumes nothing.
 use Prim.Native.Nat.{ℕ, _<_}
 use mathlib.Core.Path.{_≡_, refl}
@@ -26,11 +26,11 @@ Every indicator Q = (x : ℕ) → x < 256 → Q (x ∷ [])
 abbrev pub From : {R : Type 0} → (R → List Field → Type 0) → Kind → List ℕ → R → List Field → Type 0
 From P k c r cs = P r (standsAs k c ∷ cs)
 
--- P holds of each record that the line makes of octets, and of its canonical fields
+-- P holds of each record that the format makes of octets, and of its canonical fields
 abbrev pub Makes : {R : Type 0} → (R → List Field → Type 0) → Format R → Type 0
 Makes P (field k next) = Every k (λ c. Makes (From P k c) (next c))
-Makes P (require why holds line) = holds ≡ true → Makes P line
-Makes P (endOr line next) = Makes P line × Every indicator (λ c. Makes (From P indicator c) (next c))
+Makes P (require why holds format) = holds ≡ true → Makes P format
+Makes P (endOr format next) = Makes P format × Every indicator (λ c. Makes (From P indicator c) (next c))
 Makes P (done r) = P r []
 
 module _ (Q : List ℕ → Type 0) where
@@ -51,21 +51,21 @@ module _ (Q : List ℕ → Type 0) where
   every-also P also indicator m = λ x h. also (x ∷ []) (m x h)
 
 -- what holds of all that it makes holds of each string that its reader takes
-pub makes : {R : Type 0} {r : R} {n : ℕ} (P : R → List Field → Type 0) (line : Format R) → Makes P line → (s : List ℕ) (at : ℕ) → Octets s → reading line s at ≡ reached r n → P r (fieldsOf line s)
+pub makes : {R : Type 0} {r : R} {n : ℕ} (P : R → List Field → Type 0) (format : Format R) → Makes P format → (s : List ℕ) (at : ℕ) → Octets s → reading format s at ≡ reached r n → P r (fieldsOf format s)
 unfolding fieldsOf
-makes {R} {r} P line m s at o e = taken {Q = λ line s at. (P : R → List Field → Type 0) → Makes P line → Octets s → P r (fieldsOf line s)} (record {
+makes {R} {r} P format m s at o e = taken {Q = λ format s at. (P : R → List Field → Type 0) → Makes P format → Octets s → P r (fieldsOf format s)} (record {
   by-field = λ k next s at h more P m o. more (From P k (canon k (cut k s))) (every _ k m (cut k s) (octets-take (size k s) s o) (cut-whole k s h)) (octets-drop (size k s) s o);
-  by-require = λ why line s at more P m. more P (m refl);
-  by-end = λ line next at e more P m. more P (m .0);
-  by-more = λ line next x s at more P m. more P (m .1);
+  by-require = λ why format s at more P m. more P (m refl);
+  by-end = λ format next at e more P m. more P (m .0);
+  by-more = λ format next x s at more P m. more P (m .1);
   by-done = λ s P m o. m;
-}) line s at e P m o
+}) format s at e P m o
 
 -- a format, and what follows it
-pub makes-then : {A R : Type 0} (Q : A → List Field → Type 0) (P : R → List Field → Type 0) (line : Format A) (next : A → Format R)
-    → Makes Q line → ((a : A) (cs : List Field) → Q a cs → Makes (λ r ds. P r (cs ++ ds)) (next a)) → Makes P (line then next)
+pub makes-then : {A R : Type 0} (Q : A → List Field → Type 0) (P : R → List Field → Type 0) (format : Format A) (next : A → Format R)
+    → Makes Q format → ((a : A) (cs : List Field) → Q a cs → Makes (λ r ds. P r (cs ++ ds)) (next a)) → Makes P (format then next)
 makes-then Q P (field k more) next m also = every-also _ _ (λ c n. makes-then (From Q k c) (From P k c) (more c) next n (λ a cs. also a (standsAs k c ∷ cs))) k m
-makes-then Q P (require why holds line) next m also = λ h. makes-then Q P line next (m h) also
-makes-then Q P (endOr line more) next m also =
-    (makes-then Q P line next (m .0) also, every-also _ _ (λ c n. makes-then (From Q indicator c) (From P indicator c) (more c) next n (λ a cs. also a (standsAs indicator c ∷ cs))) indicator (m .1))
+makes-then Q P (require why holds format) next m also = λ h. makes-then Q P format next (m h) also
+makes-then Q P (endOr format more) next m also =
+    (makes-then Q P format next (m .0) also, every-also _ _ (λ c n. makes-then (From Q indicator c) (From P indicator c) (more c) next n (λ a cs. also a (standsAs indicator c ∷ cs))) indicator (m .1))
 makes-then Q P (done a) next m also = also a [] m

@@ -5,49 +5,43 @@ use mathlib.Core.Path.{_≡_, refl, sym, ap, _∙_}
 use mathlib.Core.Bool.{Bool}
 use mathlib.Core.List.{List}
 use native.Mathlib.Omega.{arith}
+use Rattle.octets.specs.Answers.{Said, gives, refuses, fine}
 use Rattle.octets.specs.Lent.{Making, lend}
-use Rattle.octets.specs.declared.Outcome.{Outcome}
 use Rattle.octets.specs.declared.Refusal.{Refusal}
-use Rattle.octets.specs.declared.Written.{Written}
-use Rattle.layout.specs.Demand.{Rewrites}
-use Rattle.layout.specs.Layout.{Layout, Reached, reached, halted, read, canonicalOf, unwritable}
+use Rattle.layout.specs.Demand.{rewriting, Rewrites}
+use Rattle.layout.specs.Layout.{Layout, Reached, reached, halted, read, answer, canonicalOf, unwritable}
 use Rattle.layout.proofs.Demand.{Answers}
 
--- what a reader answers has an outcome, and a message if it took the string
-pub record Told {R A : Type 0} (answer : Reached R → A) (outcome : A → Outcome) (message : A → R) : Type 0 where
-  pub when-done : (r : R) (n : ℕ) → (outcome (answer (reached r n)) ≡ Outcome.Done) × (message (answer (reached r n)) ≡ r)
-  pub when-halted : (why : Refusal) → outcome (answer (halted why)) ≡ Outcome.Refused why
-
-module _ {R A : Type 0} {answer : Reached R → A} {outcome : A → Outcome} {message : A → R} (told : Told answer outcome message) (l : Layout R) (stopped : Bool) (s buffer : List ℕ) where
-  either : {w : Refusal} {r : R} {n : ℕ} → read l s ≡ halted w → read l s ≡ reached r n → ⊥
-  either d e = let z : _≡_ {A = ℕ} 0 1 = cc in omega arith
-
-  pub refused-back : {m : A} {why : Refusal} → m ≡ answer (read l s) → outcome m ≡ Outcome.Refused why → Rewrites l stopped s buffer (Written.Refused why) buffer
-  refused-back {m} {why} d o = go (read l s) refl (ap outcome (sym d) ∙ o)
-    where
-      go : (x : Reached R) → read l s ≡ x → outcome (answer x) ≡ Outcome.Refused why → Rewrites l stopped s buffer (Written.Refused why) buffer
-      go (reached r n) e h = let z : _≡_ {A = ℕ} 0 1 = cc (told .when-done r n .0) in absurd (omega arith)
-      go (halted w) e h = let same : w ≡ why = cc (told .when-halted w) in record {
-        halts = λ v f. ((cc), refl);
-        refuses = λ r n f u. absurd (either e f);
-        writes = λ r n f u. absurd (either e f);
-      }
-
-  pub written-back : {m : A} {w : Written} {after : List ℕ} (write : R → Making Written) → ((r : R) (n : ℕ) → read l s ≡ reached r n → Answers (write r) (canonicalOf l s) (unwritable l stopped s))
-      → m ≡ answer (read l s) → outcome m ≡ Outcome.Done → _≡_ {A = Written × List ℕ} (w, after) (lend Written.Refused (write (message m)) buffer) → Rewrites l stopped s buffer w after
+-- the answer of a reader's call, and what follows
+module _ {R : Type 0} (blank : R) (write : R → Making (Said ℕ)) (x : Reached R) (buffer : List ℕ) {o : Said Unit} {r : R} (d : _≡_ {A = Said Unit × R} (o, r) (answer blank x)) where
+  pub refused-whole : {why : Refusal} → o ≡ refuses why → _≡_ {A = Said ℕ × List ℕ} (refuses why, buffer) (lend refuses (rewriting write x) buffer)
   unfolding lend
-  written-back {m} {w} {after} write a d o e =
-      go (read l s) refl (ap outcome (sym d) ∙ o) (e ∙ ap (λ (q : A). lend Written.Refused (write (message q)) buffer) d)
+  refused-whole {why} h = by x (sym (ap (λ z. z .0) d) ∙ h)
     where
-      go : (x : Reached R) → read l s ≡ x → outcome (answer x) ≡ Outcome.Done → _≡_ {A = Written × List ℕ} (w, after) (lend Written.Refused (write (message (answer x))) buffer) → Rewrites l stopped s buffer w after
-      go (halted v) f h g = let z : _≡_ {A = ℕ} 0 1 = cc (told .when-halted v) in absurd (omega arith)
-      go (reached r n) f h g0 =
-          let g : _≡_ {A = Written × List ℕ} (w, after) (lend Written.Refused (write r) buffer) = g0 ∙ ap (λ (q : R). lend Written.Refused (write q) buffer) (told .when-done r n .1) in
-          record {
-            halts = λ v k. absurd (either k f);
-            refuses = λ q t k u.
-                let (why, is) = rw u at (a r n f) in
-                let both : _≡_ {A = Written × List ℕ} (w, after) (Written.Refused why, buffer) = g ∙ ap (λ (z : Making Written). lend Written.Refused z buffer) is in
-                (why, ap (λ (z : Written × List ℕ). z .0) both, ap (λ (z : Written × List ℕ). z .1) both);
-            writes = λ q t k u. g ∙ ap (λ (z : Making Written). lend Written.Refused z buffer) (rw u at (a r n f));
-          }
+      by : (y : Reached R) → answer blank y .0 ≡ refuses why → _≡_ {A = Said ℕ × List ℕ} (refuses why, buffer) (lend refuses (rewriting write y) buffer)
+      by (reached q n) e = let z : _≡_ {A = ℕ} 0 1 = cc in absurd (omega arith)
+      by (halted w) e = let same : w ≡ why = cc in rw same
+
+  pub written-whole : {w : Said ℕ} {after : List ℕ} → o ≡ fine → _≡_ {A = Said ℕ × List ℕ} (w, after) (lend refuses (write r) buffer) → _≡_ {A = Said ℕ × List ℕ} (w, after) (lend refuses (rewriting write x) buffer)
+  written-whole {w} {after} h e = by x (sym (ap (λ z. z .0) d) ∙ h) (e ∙ ap (λ z. lend refuses (write (z .1)) buffer) d)
+    where
+      by : (y : Reached R) → answer blank y .0 ≡ fine → _≡_ {A = Said ℕ × List ℕ} (w, after) (lend refuses (write (answer blank y .1)) buffer) → _≡_ {A = Said ℕ × List ℕ} (w, after) (lend refuses (rewriting write y) buffer)
+      by (reached q n) e g = g
+      by (halted v) e g = let z : _≡_ {A = ℕ} 0 1 = cc in absurd (omega arith)
+
+-- in terms of canonical octets
+module _ {R : Type 0} (l : Layout R) (stopped : Bool) (s buffer : List ℕ) (write : R → Making (Said ℕ)) (a : (r : R) (n : ℕ) → read l s ≡ reached r n → Answers (write r) (canonicalOf l s) (unwritable l stopped s)) where
+  -- what becomes of a record that was read
+  abbrev Both : Said ℕ → List ℕ → Making (Said ℕ) → Type 0
+  Both w after m = _≡_ {A = Said ℕ × List ℕ} (w, after) (lend refuses m buffer)
+
+  pub rewrites : {w : Said ℕ} {after : List ℕ} → Both w after (rewriting write (read l s)) → Rewrites l stopped s buffer w after
+  unfolding lend
+  rewrites {w} {after} e = record {
+    halts = λ why h. let both : _≡_ {A = Said ℕ × List ℕ} (w, after) (refuses why, buffer) = rw h at e in (ap (λ z. z .0) both, ap (λ z. z .1) both);
+    unwritten = λ r n h u.
+        let (why, is) = rw u at (a r n h) in
+        let both : _≡_ {A = Said ℕ × List ℕ} (w, after) (refuses why, buffer) = (rw h at e) ∙ ap (λ z. lend refuses z buffer) is in
+        (why, ap (λ z. z .0) both, ap (λ z. z .1) both);
+    writes = λ r n h u. (rw h at e) ∙ ap (λ z. lend refuses z buffer) (rw u at (a r n h));
+  }

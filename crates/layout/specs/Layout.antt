@@ -1,4 +1,4 @@
--- Layouts (document 01, "Messages"): a message's line as data, the strings that it generates, their canonical octets, and the reader that it describes.
+-- Layouts (document 01, "Messages") as data: the strings that a layout generates, their canonical octets, and the reader that it describes.
 use Prim.Native.Nat.{ℕ, suc, _+_, _*_, _/_, _%_, _^_}
 use mathlib.Core.Path.{_≡_}
 use mathlib.Core.Bool.{Bool, true, false, not, _&&_, _||_}
@@ -7,13 +7,10 @@ use mathlib.Core.Logic.{_⊎_}
 use lib.Bits.{bitAnd}
 use lib.Dec.{leb, ltb, eqb}
 use lib.ListN.{length, getD, take, drop}
+use Rattle.octets.specs.Answers.{Said, refuses, fine}
 use Rattle.octets.specs.Choice.{if_then_else_}
-use Rattle.octets.specs.Places.{spanAt}
-use Rattle.octets.specs.declared.Octet.{Octet}
-use Rattle.octets.specs.declared.Place.{Place}
 use Rattle.octets.specs.declared.Refusal.{Refusal}
 use Rattle.octets.specs.declared.Refusal.the-variants.{OctetsEnd, WrongMessageType}
-use Rattle.octets.specs.declared.Span.{Span}
 use Rattle.address.specs.Address.{addressSize, canonicalAddress}
 
 -- ---- kinds of field
@@ -24,7 +21,7 @@ pub data Limit : Type 0 where
   upTo : ℕ → Limit
 
 pub data Kind : Type 0 where
-  -- the first octet: TP-MTI in bits 1 and 0 (TS 23.040 §9.2.3.1), and the bits that the line names
+  -- the first octet: TP-MTI in bits 1 and 0 (TS 23.040 §9.2.3.1), and the bits that the layout names
   first : List ℕ → Kind
   -- an octet that stands as it is
   octet : Kind
@@ -76,7 +73,7 @@ Whole k f = size k f ≡ length f
 abbrev pub leading : List ℕ → ℕ
 leading f = getD f 0 0
 
--- a field's part of document 01's canonical octets: bits that the line doesn't name are 0, an address is written afresh, extension octets are gone
+-- what a field gives to document 01's canonical octets: bits that the layout doesn't name are 0, an address is written afresh, extension octets are gone
 abbrev pub canon : Kind → List ℕ → List ℕ
 canon (first bits) f = kept bits (leading f) ∷ []
 canon octet f = f
@@ -97,7 +94,7 @@ abbrev pub joined : List Field → List ℕ
 joined [] = []
 joined (c ∷ cs) = c .stands ++ joined cs
 
--- ---- formats: a line, with the record that its fields make
+-- ---- formats: fields in their order, with the record that they make
 
 pub data Format (R : Type 0) : Type 0 where
   -- a field, and what follows it by its canonical octets
@@ -106,18 +103,18 @@ pub data Format (R : Type 0) : Type 0 where
   require : Refusal → Bool → Format R → Format R
   -- where the string ends here the first; else an indicator, and what follows it
   endOr : Format R → (List ℕ → Format R) → Format R
-  -- the line's end: further octets may follow, and are dropped
+  -- the end: further octets may follow, and are dropped
   done : R → Format R
 
 infixr 4 _then_
 -- a format, and what follows it by what it made
 abbrev pub _then_ : {A R : Type 0} → Format A → (A → Format R) → Format R
 field k more then next = field k λ c. more c then next
-require why holds line then next = require why holds (line then next)
-endOr line more then next = endOr (line then next) λ c. more c then next
+require why holds format then next = require why holds (format then next)
+endOr format more then next = endOr (format then next) λ c. more c then next
 done a then next = next a
 
--- the parts of a line: a message's first octet, with its MTI; one octet; a time (§9.2.3.11)
+-- pieces of a format: a message's first octet, with its MTI; one octet; a time (§9.2.3.11)
 abbrev pub message : {R : Type 0} → ℕ → List ℕ → (ℕ → Format R) → Format R
 message mti bits next = field (first bits) λ f. require WrongMessageType (eqb (messageType (leading f)) mti) (next (leading f))
 
@@ -127,7 +124,7 @@ one next = field octet λ f. next (leading f)
 abbrev pub time : {R : Type 0} → (List ℕ → Format R) → Format R
 time next = field (octets any 7) next
 
--- ---- what a line generates (document 01's term)
+-- ---- what a format generates (document 01's term)
 
 -- s is a whole field and the rest, and P holds of the field's canonical octets and the rest
 pub record Begins (k : Kind) (P : List ℕ → List ℕ → Type 0) (s : List ℕ) : Type 0 where
@@ -137,14 +134,14 @@ pub record Begins (k : Kind) (P : List ℕ → List ℕ → Type 0) (s : List �
   pub whole : Whole k front
   pub follows : P (canon k front) rest
 
--- s is the whole fields that the line calls for, one after the other, and anything behind them
+-- s is the whole fields that the format calls for, one after the other, and anything after them
 abbrev pub Generates : {R : Type 0} → Format R → List ℕ → Type 0
 Generates (field k next) s = Begins k (λ c rest. Generates (next c) rest) s
-Generates (require why holds line) s = (holds ≡ true) × Generates line s
-Generates (endOr line next) s = ((s ≡ []) × Generates line []) ⊎ Begins indicator (λ c rest. Generates (next c) rest) s
+Generates (require why holds format) s = (holds ≡ true) × Generates format s
+Generates (endOr format next) s = ((s ≡ []) × Generates format []) ⊎ Begins indicator (λ c rest. Generates (next c) rest) s
 Generates (done r) s = Unit
 
--- ---- the reader that a line describes
+-- ---- the reader that a format describes
 
 -- the record and the place reached, or the refusal
 pub data Reached (R : Type 0) : Type 0 where
@@ -158,41 +155,38 @@ cut k s = take (size k s) s
 abbrev pub behind : Kind → List ℕ → List ℕ
 behind k s = drop (size k s) s
 
--- reading goes on behind a field that is whole; else the octets end inside it
+-- reading goes on after a field that is whole; else the octets end inside it
 unfoldable pub after : {R : Type 0} → Kind → (List ℕ → List ℕ → ℕ → Reached R) → List ℕ → ℕ → Reached R
 after k go s at = if leb (size k s) (length s) then go (canon k (cut k s)) (behind k s) (at + size k s) else halted OctetsEnd
 
 -- what is read of the octets s that are left at a place
 unfoldable pub reading : {R : Type 0} → Format R → List ℕ → ℕ → Reached R
 reading (field k next) s at = after k (λ c rest to. reading (next c) rest to) s at
-reading (require why holds line) s at = if holds then reading line s at else halted why
-reading (endOr line next) [] at = reading line [] at
-reading (endOr line next) (x ∷ s) at = after indicator (λ c rest to. reading (next c) rest to) (x ∷ s) at
+reading (require why holds format) s at = if holds then reading format s at else halted why
+reading (endOr format next) [] at = reading format [] at
+reading (endOr format next) (x ∷ s) at = after indicator (λ c rest to. reading (next c) rest to) (x ∷ s) at
 reading (done r) s at = reached r at
 
 -- what is read of a string from a place on
 unfoldable pub readFrom : {R : Type 0} → Format R → List ℕ → ℕ → Reached R
-readFrom line s at = reading line (drop at s) at
+readFrom format s at = reading format (drop at s) at
 
--- what reading at a place finds of an indicator: its first octet, and the place behind its last extension octet
-abbrev pub leadingAt : List ℕ → Span → Octet
-leadingAt s (Span.There at next) = Octet.Read (getD s at 0) next
-leadingAt s Span.Ended = Octet.Ended
-
-unfoldable pub indicatorAt : List ℕ → Place → Octet
-indicatorAt s p = leadingAt s (spanAt s p (indicatorSize (drop (p .at) s)))
+-- what a reader answers: done, and the record; or its refusal, and the blank record
+abbrev pub answer : {R : Type 0} → R → Reached R → Said Unit × R
+answer blank (reached r at) = (fine, r)
+answer blank (halted why) = (refuses why, blank)
 
 -- ---- canonical octets, and what can't be written
 
--- the fields of a string that the line generates
+-- the fields of a string that the format generates
 unfoldable pub fieldsOf : {R : Type 0} → Format R → List ℕ → List Field
 fieldsOf (field k next) s = let c = canon k (cut k s) in standsAs k c ∷ fieldsOf (next c) (behind k s)
-fieldsOf (require why holds line) s = fieldsOf line s
-fieldsOf (endOr line next) [] = fieldsOf line []
-fieldsOf (endOr line next) (x ∷ s) = let c = canon indicator (cut indicator (x ∷ s)) in standsAs indicator c ∷ fieldsOf (next c) (behind indicator (x ∷ s))
+fieldsOf (require why holds format) s = fieldsOf format s
+fieldsOf (endOr format next) [] = fieldsOf format []
+fieldsOf (endOr format next) (x ∷ s) = let c = canon indicator (cut indicator (x ∷ s)) in standsAs indicator c ∷ fieldsOf (next c) (behind indicator (x ∷ s))
 fieldsOf (done r) s = []
 
--- a canonical field that a writer refuses: user data past their limit, an address value past 10 octets (behind length and type), an indicator with bit 7
+-- a canonical field that a writer refuses: user data past their limit, an address value past 10 octets (after length and type), an indicator with bit 7
 abbrev pub pastLimit : Kind → List ℕ → Bool
 pastLimit (first bits) c = false
 pastLimit octet c = false
@@ -205,11 +199,11 @@ abbrev pub anyPastLimit : List Field → Bool
 anyPastLimit [] = false
 anyPastLimit (c ∷ cs) = pastLimit (c .kind) (c .stands) || anyPastLimit cs
 
--- ---- layouts: a reader's line, and RP-ERROR's rule
+-- ---- layouts: a reader's format, and RP-ERROR's rule
 
 pub data Layout (R : Type 0) : Type 0 where
   plain : Format R → Layout R
-  -- RP-ERROR with this MTI: stopped, it stands as these octets and gives this record; else the line
+  -- RP-ERROR with this MTI: stopped, it stands as these octets and gives this record; else the format
   stopping : ℕ → List ℕ → R → Format R → Layout R
 
 -- document 01's stopped RP-ERROR, read no further: the first octet AND BC is nonzero, with the right MTI
@@ -218,18 +212,18 @@ stops mti [] = false
 stops mti (x ∷ s) = eqb (messageType x) mti && not (eqb (bitAnd x 0xbc) 0)
 
 unfoldable pub read : {R : Type 0} → Layout R → List ℕ → Reached R
-read (plain line) s = readFrom line s 0
-read (stopping mti stands r line) s = if stops mti s then reached r 1 else readFrom line s 0
+read (plain format) s = readFrom format s 0
+read (stopping mti stands r format) s = if stops mti s then reached r 1 else readFrom format s 0
 
 abbrev pub Generated : {R : Type 0} → Layout R → List ℕ → Type 0
-Generated (plain line) s = Generates line s
-Generated (stopping mti stands r line) s = (stops mti s ≡ true) ⊎ ((stops mti s ≡ false) × Generates line s)
+Generated (plain format) s = Generates format s
+Generated (stopping mti stands r format) s = (stops mti s ≡ true) ⊎ ((stops mti s ≡ false) × Generates format s)
 
 unfoldable pub canonicalOf : {R : Type 0} → Layout R → List ℕ → List ℕ
-canonicalOf (plain line) s = joined (fieldsOf line s)
-canonicalOf (stopping mti stands r line) s = if stops mti s then stands else joined (fieldsOf line s)
+canonicalOf (plain format) s = joined (fieldsOf format s)
+canonicalOf (stopping mti stands r format) s = if stops mti s then stands else joined (fieldsOf format s)
 
 -- the record that is read of s can't be written: a field is past its limit, or it is the stopped one of a kind that refuses it
 unfoldable pub unwritable : {R : Type 0} → Layout R → Bool → List ℕ → Bool
-unwritable (plain line) stopped s = anyPastLimit (fieldsOf line s)
-unwritable (stopping mti stands r line) stopped s = if stops mti s then stopped else anyPastLimit (fieldsOf line s)
+unwritable (plain format) stopped s = anyPastLimit (fieldsOf format s)
+unwritable (stopping mti stands r format) stopped s = if stops mti s then stopped else anyPastLimit (fieldsOf format s)

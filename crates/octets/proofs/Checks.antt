@@ -6,25 +6,25 @@ use mathlib.Core.Bool.{Bool, true, false}
 use mathlib.Core.List.{List, [], _∷_, _++_, append-nil}
 use native.Mathlib.Omega.{arith}
 use lib.ListN.{length}
+use Rattle.octets.specs.Answers.{Said, gives, refuses, fine}
 use Rattle.octets.specs.Choice.{if_then_else_}
 use Rattle.octets.specs.Checks.{Check, _unless_, found, checked, afterChecked}
 use Rattle.octets.specs.Lent.{Making, refused, made}
-use Rattle.octets.specs.declared.Checked.{Checked}
 use Rattle.octets.specs.declared.Refusal.{Refusal}
-use Rattle.octets.specs.declared.Written.{Written}
 
-never : {why : Refusal} → Checked.Fine ≡ Checked.Against why → ⊥
+-- what is fine is no refusal
+pub never : {why : Refusal} → fine ≡ refuses why → ⊥
 never e = let z : _≡_ {A = ℕ} 0 1 = cc in omega arith
 
 -- ---- one list behind the other: what the first finds decides
 
 module _ (more : List Check) where
-  pub passed : (checks : List Check) → found checks ≡ Checked.Fine → found (checks ++ more) ≡ found more
+  pub passed : (checks : List Check) → found checks ≡ fine → found (checks ++ more) ≡ found more
   passed [] e = refl
   passed ((why unless true) ∷ checks) e = passed checks e
   passed ((why unless false) ∷ checks) e = absurd (never (sym e))
 
-  pub against : {why : Refusal} (checks : List Check) → found checks ≡ Checked.Against why → found (checks ++ more) ≡ Checked.Against why
+  pub against : {why : Refusal} (checks : List Check) → found checks ≡ refuses why → found (checks ++ more) ≡ refuses why
   against [] e = absurd (never e)
   against ((w unless true) ∷ checks) e = against checks e
   against ((w unless false) ∷ checks) e = e
@@ -36,14 +36,14 @@ module _ (octets : List ℕ) where
   checked-then ((why unless true) ∷ checks) more = checked-then checks more
   checked-then ((why unless false) ∷ checks) more = refl
 
-  by-found : (checks : List Check) → checked checks octets ≡ afterChecked (found checks) (made octets (Written.Done (length octets)))
+  by-found : (checks : List Check) → checked checks octets ≡ afterChecked (found checks) (made octets (gives (length octets)))
   unfolding checked
   by-found checks = ap (λ (l : List Check). checked l octets) (sym (append-nil checks)) ∙ checked-then checks []
 
-  pub all-passed : (checks : List Check) → found checks ≡ Checked.Fine → checked checks octets ≡ made octets (Written.Done (length octets))
+  pub all-passed : (checks : List Check) → found checks ≡ fine → checked checks octets ≡ made octets (gives (length octets))
   all-passed checks e = by-found checks ∙ rw e
 
-  pub one-against : {why : Refusal} (checks : List Check) → found checks ≡ Checked.Against why → checked checks octets ≡ refused why
+  pub one-against : {why : Refusal} (checks : List Check) → found checks ≡ refuses why → checked checks octets ≡ refused why
   one-against checks e = by-found checks ∙ rw e
 
 -- a check that holds leaves the others
@@ -51,18 +51,18 @@ pub check-holds : {holds : Bool} → holds ≡ true → (why : Refusal) (checks 
 unfolding checked
 check-holds e why checks xs = rw e
 
-pub no-checks : (xs : List ℕ) → checked [] xs ≡ made xs (Written.Done (length xs))
+pub no-checks : (xs : List ℕ) → checked [] xs ≡ made xs (gives (length xs))
 unfolding checked
 no-checks xs = refl
 
 -- ---- where no check fails
 
 -- the first and the others hold
-pub holds : (why : Refusal) (test : Bool) (checks : List Check) → found ((why unless test) ∷ checks) ≡ Checked.Fine → (test ≡ true) × (found checks ≡ Checked.Fine)
+pub holds : (why : Refusal) (test : Bool) (checks : List Check) → found ((why unless test) ∷ checks) ≡ fine → (test ≡ true) × (found checks ≡ fine)
 holds why true checks e = (refl, e)
 holds why false checks e = absurd (never (sym e))
 
-pub both-hold : (checks more : List Check) → found (checks ++ more) ≡ Checked.Fine → (found checks ≡ Checked.Fine) × (found more ≡ Checked.Fine)
+pub both-hold : (checks more : List Check) → found (checks ++ more) ≡ fine → (found checks ≡ fine) × (found more ≡ fine)
 both-hold [] more e = (refl, e)
 both-hold ((why unless true) ∷ checks) more e = both-hold checks more e
 both-hold ((why unless false) ∷ checks) more e = absurd (never (sym e))
@@ -81,7 +81,13 @@ module _ {octets : List ℕ} {A : Type 0} {answer : A} {m : Making A} (why : Ref
   made-unless false e = (refl, e)
 
 -- it made of octets that pass its checks
-pub made-told : {octets : List ℕ} {answer : Written} (checks : List Check) (xs : List ℕ) → checked checks xs ≡ made octets answer → (found checks ≡ Checked.Fine) × (xs ≡ octets)
+pub made-told : {octets : List ℕ} {answer : Said ℕ} (checks : List Check) (xs : List ℕ) → checked checks xs ≡ made octets answer → (found checks ≡ fine) × (xs ≡ octets)
 unfolding checked
 made-told [] xs e = (refl, (cc))
 made-told ((why unless test) ∷ checks) xs e = let (t, f) = made-if why test e in let (g, x) = made-told checks xs f in (rw t g, x)
+
+-- and counts them
+pub made-counts : {octets : List ℕ} {answer : Said ℕ} (checks : List Check) (xs : List ℕ) → checked checks xs ≡ made octets answer → answer ≡ gives (length octets)
+unfolding checked
+made-counts {octets} [] xs e = let same : xs ≡ octets = cc in cc
+made-counts ((why unless test) ∷ checks) xs e = made-counts checks xs (made-if why test e .1)

@@ -5,13 +5,15 @@ use mathlib.Core.Path.{_≡_, refl, sym, ap, _∙_}
 use mathlib.Core.List.{List, [], _∷_, _++_, append-nil}
 use native.Mathlib.Omega.{arith}
 use native.Mathlib.Nat.{add-zero, zero-add, sub-zero, zero-sub, suc-sub-suc, add-suc, suc-add}
-use borrow.Author.Tests.{le-leb, lt-leb}
+use borrow.Author.Tests.{le-leb, lt-leb, leb-true, leb-false}
+use mathlib.Core.Bool.{Bool, true, false}
+use lib.Dec.{leb}
 use lib.ListN.{length, take, drop, set, replicate, length-append, length-replicate, length-drop, drop-of-length-le}
-use lib.Seq.{sets, sets-eq, length-sets, length-take-le, take-at}
+use lib.Seq.{sets, sets-eq, length-sets, length-take-le, take-at, take-all}
+use Rattle.octets.specs.Answers.{Said, gives, refuses}
 use Rattle.octets.specs.declared.Refusal.{Refusal}
 use Rattle.octets.specs.declared.Refusal.the-variants.{OutputTooShort}
-use Rattle.octets.specs.declared.Written.{Written}
-use Rattle.octets.specs.Arrays.{pad}
+use Rattle.octets.specs.Arrays.{pad, clearedArray}
 use Rattle.octets.specs.Lent.{Making, refused, made, lend, Wrote}
 
 -- ---- storing one list after the other
@@ -38,7 +40,7 @@ pub sets-zeros : (n : ℕ) (xs : List ℕ) → length xs ≤ n → sets (replica
 unfolding pad
 sets-zeros n xs h = sets-start xs (replicate n 0) (rw length-replicate h) ∙ rw drop-zeros
 
--- a full array has no zeros behind
+-- a full array has no zeros at its end
 pub pad-full : (n : ℕ) (xs : List ℕ) → length xs ≡ n → pad n xs ≡ xs
 unfolding pad
 pad-full n xs e = let z : n - length xs ≡ 0 = omega arith in rw z (append-nil xs)
@@ -48,7 +50,23 @@ pub take-pad : (n : ℕ) (xs : List ℕ) → take (length xs) (pad n xs) ≡ xs
 unfolding pad
 take-pad n xs = take-at xs _ (length xs) refl
 
--- ---- a part of a string, as the code cuts it out
+-- a reader leaves an array cleared
+pub cleared-pad : (n : ℕ) (xs : List ℕ) → clearedArray n (length xs) (pad n xs) ≡ pad n xs
+cleared-pad n xs = ap (pad n) (take-pad n xs)
+
+-- a cleared array holds what the array held
+pub take-cleared : (n k : ℕ) (xs : List ℕ) → length xs ≡ n → take k (clearedArray n k xs) ≡ take k xs
+take-cleared n k xs e = by (leb k n) refl
+  where
+    by : (b : Bool) → leb k n ≡ b → take k (clearedArray n k xs) ≡ take k xs
+    by true h =
+        let size : length (take k xs) ≡ k = length-take-le k xs (omega (arith, leb-true k n h)) in
+        ap (λ m. take m (clearedArray n k xs)) (sym size) ∙ take-pad n (take k xs)
+    by false h =
+        let all : take k xs ≡ xs = take-all k xs (omega (arith, leb-false k n h)) in
+        rw (all, pad-full n xs e) all
+
+-- ---- a stretch of a string, as the code cuts it out
 
 module _ (at n : ℕ) (s : List ℕ) where
   pub part-is : take (at + n - at) (drop at s) ≡ take n (drop at s)
@@ -72,6 +90,10 @@ left-step {l = l} {at} {rest} {xs} rest′ left wrote e = record {
   place = rw (wrote .place) (omega (arith, left .place, simp length-append at (ap length e)));
   list = rw (wrote .place, wrote .list, sets-append xs rest′ l at, ← e) (left .list);
 }
+
+-- what is stored next fits where the whole does
+pub left-fits : {whole : List ℕ} {end : ℕ} {l : List ℕ} {at : ℕ} {rest : List ℕ} (xs more : List ℕ) → Left whole end l at rest → rest ≡ xs ++ more → {n : ℕ} → end ≤ n → at + length xs ≤ n
+left-fits xs more left e h = omega (arith, left .place, simp length-append at (ap length e))
 
 pub left-end : {whole : List ℕ} {end : ℕ} {l : List ℕ} {at : ℕ} {rest : List ℕ} → Left whole end l at rest → rest ≡ [] → (at ≡ end) × (l ≡ whole)
 left-end {l = l} {at} left e = (sym (add-zero at) ∙ rw e at (left .place), rw e at (left .list))
@@ -121,5 +143,5 @@ module _ {A : Type 0} (blank : Refusal → A) {m : Making A} (l : List ℕ) wher
     lent-done h p = rw (e, le-leb (length xs) (length l) h, p, sets-start xs l h)
 
 -- the octets that a part of a writer stored
-pub lent-written : {m : Making Written} {n : ℕ} {xs l′ : List ℕ} (l : List ℕ) → m ≡ made xs (Written.Done (length xs)) → length xs ≤ length l → Wrote 0 xs l n l′ → _≡_ {A = Written × List ℕ} (Written.Done n, l′) (lend Written.Refused m l)
-lent-written l e h w = rw (w .place, zero-add) (lent-done Written.Refused l e h (w .list))
+pub lent-written : {m : Making (Said ℕ)} {n : ℕ} {xs l′ : List ℕ} (l : List ℕ) → m ≡ made xs (gives (length xs)) → length xs ≤ length l → Wrote 0 xs l n l′ → _≡_ {A = Said ℕ × List ℕ} (gives n, l′) (lend refuses m l)
+lent-written l e h w = rw (w .place, zero-add) (lent-done refuses l e h (w .list))

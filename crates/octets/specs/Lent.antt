@@ -14,14 +14,14 @@ pub data Making (A : Type 0) : Type 0 where
   refused : Refusal → Making A
   made : List ℕ → A → Making A
 
--- the answer, and the lent buffer afterwards: the octets stand at its start and none behind them changes; where they don't fit, 23; a refusal changes no octet. `blank r` is the answer that says refusal r
+-- the answer, and the lent buffer afterwards: the octets stand at its start and none after them changes; where they don't fit, 23; a refusal changes no octet. `blank r` is the answer that says refusal r
 unfoldable pub lend : {A : Type 0} → (Refusal → A) → Making A → List ℕ → A × List ℕ
 lend blank (refused r) buffer = (blank r, buffer)
 lend blank (made octets answer) buffer =
     if leb (length octets) (length buffer) then (answer, octets ++ drop (length octets) buffer)
     else (blank OutputTooShort, buffer)
 
--- what a part of a writer does: it stores octets from place `at` on, and answers the place behind them
+-- what a step of a writer does: it stores octets from place `at` on, and answers the place after them
 pub record Wrote (at : ℕ) (octets before : List ℕ) (next : ℕ) (after : List ℕ) : Type 0 where
   pub place : next ≡ at + length octets
   pub list : after ≡ sets before at octets

@@ -1,5 +1,6 @@
 pub mod Choice
 pub mod Refusals
+pub mod Answers
 pub mod Arrays
 pub mod Lent
 pub mod Checks

@@ -4,24 +4,24 @@ use mathlib.Core.Path.{_≡_, refl}
 use mathlib.Core.List.{List, [], _∷_}
 use lib.ListN.{length, getD, drop}
 use lib.Dec.{ltb, leb}
+use Rattle.octets.specs.Answers.{Said, gives, refuses}
 use Rattle.octets.specs.declared.Place.{Place}
-use Rattle.octets.specs.declared.Octet.{Octet}
-use Rattle.octets.specs.declared.Span.{Span}
+use Rattle.octets.specs.declared.Refusal.the-variants.{OctetsEnd}
 use Rattle.octets.specs.Choice.{if_then_else_}
 
--- one octet, and the place behind it
-unfoldable pub octetAt : List ℕ → Place → Octet
-octetAt s p = if ltb (p .at) (length s) then Octet.Read (getD s (p .at) 0) (record { at = p .at + 1 }) else Octet.Ended
+-- one octet, and the place after it
+unfoldable pub octetAt : List ℕ → Place → Said (ℕ × Place)
+octetAt s p = if ltb (p .at) (length s) then gives (getD s (p .at) 0, record { at = p .at + 1 }) else refuses OctetsEnd
 
--- the next n octets are all among those that are left
-unfoldable pub spanAt : List ℕ → Place → ℕ → Span
-spanAt s p n = if leb n (length (drop (p .at) s)) then Span.There (p .at) (record { at = p .at + n }) else Span.Ended
+-- the next n octets: where they start, and the place after them
+unfoldable pub spanAt : List ℕ → Place → ℕ → Said (ℕ × Place)
+spanAt s p n = if leb n (length (drop (p .at) s)) then gives (p .at, record { at = p .at + n }) else refuses OctetsEnd
 
--- two octets, at the second and behind it; none are there past the end too
-known-places : (octetAt (0x11 ∷ 0x22 ∷ []) (record { at = 1 }) ≡ Octet.Read 0x22 (record { at = 2 }))
-    × (octetAt (0x11 ∷ 0x22 ∷ []) (record { at = 2 }) ≡ Octet.Ended)
-    × (spanAt (0x11 ∷ 0x22 ∷ []) (record { at = 1 }) 1 ≡ Span.There 1 (record { at = 2 }))
-    × (spanAt (0x11 ∷ 0x22 ∷ []) (record { at = 1 }) 2 ≡ Span.Ended)
-    × (spanAt (0x11 ∷ 0x22 ∷ []) (record { at = 3 }) 0 ≡ Span.There 3 (record { at = 3 }))
+-- two octets, at the second and after it; zero octets are present at every place, even past the end
+known-places : (octetAt (0x11 ∷ 0x22 ∷ []) (record { at = 1 }) ≡ gives (0x22, record { at = 2 }))
+    × (octetAt (0x11 ∷ 0x22 ∷ []) (record { at = 2 }) ≡ refuses OctetsEnd)
+    × (spanAt (0x11 ∷ 0x22 ∷ []) (record { at = 1 }) 1 ≡ gives (1, record { at = 2 }))
+    × (spanAt (0x11 ∷ 0x22 ∷ []) (record { at = 1 }) 2 ≡ refuses OctetsEnd)
+    × (spanAt (0x11 ∷ 0x22 ∷ []) (record { at = 3 }) 0 ≡ gives (3, record { at = 3 }))
 unfolding octetAt spanAt
 known-places = (refl, refl, refl, refl, refl)

@@ -1,10 +1,11 @@
-// What all parts of the codec share: the refusals, arrays with a length, writing to a lent buffer, and reading at a place.
+// What the whole codec shares: the refusals, arrays with a length, writing to a lent buffer, and reading at a place.
 ghost use mathlib.Core.Path.{_≡_};
 ghost use Prim.Native.Nat.{_+_, _≤_};
 ghost use lib.ListN.{length};
 ghost use mathlib.Core.List.{[], _∷_};
 ghost use Rattle.octets.specs.Choice.{flag as flagWeight};
 ghost use Rattle.octets.specs.Refusals.{refusalNumber};
+ghost use Rattle.octets.specs.Answers.{octetSays, spanSays};
 ghost use Rattle.octets.specs.Arrays.{pad};
 ghost use Rattle.octets.specs.Lent.{Wrote};
 ghost use Rattle.octets.specs.Places.{octetAt, spanAt};
@@ -89,7 +90,7 @@ pub enum Checked {
     Against(Refusal),
 }
 
-// Writes octets from `at` on; the place behind them.
+// Writes octets from `at` on; the place after them.
 pub fn put_octets(out: &mut [u8], at: usize, octets: &[u8]) -> usize
     requires { ⌜ at + length (now octets) ≤ length (now out) ⌝ }
     ensures { λ r. ⌜ Wrote at (now (octets .entry)) (now (out .entry)) r (now (out .exit)) ⌝ }
@@ -102,7 +103,7 @@ pub fn put_octets(out: &mut [u8], at: usize, octets: &[u8]) -> usize
     at + octets.len()
 }
 
-// Writes one octet at `at`; the place behind it.
+// Writes one octet at `at`; the place after it.
 pub fn put_octet(out: &mut [u8], at: usize, octet: u8) -> usize
     requires { ⌜ at + 1 ≤ length (now out) ⌝ }
     ensures { λ r. ⌜ Wrote at (octet ∷ []) (now (out .entry)) r (now (out .exit)) ⌝ }
@@ -111,7 +112,7 @@ pub fn put_octet(out: &mut [u8], at: usize, octet: u8) -> usize
     at + 1
 }
 
-// The octets in an array of user data or of a header, with zeros behind them.
+// The octets in an array of user data or of a header, with zeros after them.
 pub fn stored_octets(octets: &[u8]) -> [u8; 255]
     requires { ⌜ length (now octets) ≤ 255 ⌝ }
     ensures { λ r. ⌜ r ≡ pad 255 (now (octets .entry)) ⌝ }
@@ -133,13 +134,13 @@ pub struct Place {
     pub at: usize,
 }
 
-// The octet at a place, and the place behind it.
+// The octet at a place, and the place after it.
 pub enum Octet {
     Read(u8, Place),
     Ended,
 }
 
-// Octets that are all there: where they start, and the place behind them.
+// Octets that are all there: where they start, and the place after them.
 pub enum Span {
     There(usize, Place),
     Ended,
@@ -148,7 +149,7 @@ pub enum Span {
 impl Place {
     // One octet.
     pub fn octet(self, data: &[u8]) -> Octet
-        ensures { λ r. ⌜ r ≡ octetAt (now («data» .entry)) self ⌝ }
+        ensures { λ r. ⌜ octetSays r ≡ octetAt (now («data» .entry)) self ⌝ }
     {
         let at = self.at;
         if at < data.len() {
@@ -158,9 +159,9 @@ impl Place {
         }
     }
 
-    // `n` octets; none are there at any place, also past the end.
+    // `n` octets; zero octets are present at every place, even past the end.
     pub fn span(self, data: &[u8], n: usize) -> Span
-        ensures { λ r. ⌜ r ≡ spanAt (now («data» .entry)) self n ⌝ }
+        ensures { λ r. ⌜ spanSays r ≡ spanAt (now («data» .entry)) self n ⌝ }
     {
         let at = self.at;
         let left = if at < data.len() { data.len() - at } else { 0 };

@@ -12,9 +12,9 @@ use Rattle.octets.proofs.Choice.{and-true}
 use Rattle.octets.proofs.Table.{below}
 use Rattle.time.specs.Time.{isHex, hexValue}
 use Rattle.time.proofs.Hex.{hex-value}
-use Rattle.output.specs.Page.{lowerDigit, digitValue}
+use Rattle.output.specs.Hexadecimal.{lowerDigit, digitValue}
 
--- the lower-case digit of a value below 16 stands at its place behind 0, 39 further for a letter, is a digit, and has that value
+-- the lower-case digit of a value below 16 stands at its place after 0, 39 further for a letter, is a digit, and has that value
 digit : ℕ → Bool
 digit v = eqb (code "0" + v + 39 * (v / 10)) (lowerDigit v) && isHex (lowerDigit v) && eqb (hexValue (lowerDigit v)) v
 

@@ -1,4 +1,4 @@
--- Appending to a page; and octets and their hexadecimal: there and back, how many, and one more in a loop.
+-- Appending to an output; octets and their hexadecimal: there and back, how many, and one more in a loop; decimal digits.
 -- Assumes nothing.
 use Prim.Native.Char.{code}
 use Prim.Native.Nat.{ℕ, zero, suc, _-_, _+_, _*_, _/_, _%_, _<_, _≤_}
@@ -18,21 +18,22 @@ use Rattle.octets.proofs.Choice.{and-means}
 use Rattle.octets.proofs.Each.{each-means}
 use Rattle.octets.proofs.Laws.{sets-start}
 use Rattle.time.specs.Time.{isHex, hexValue}
-use Rattle.output.specs.declared.HexRead.{HexRead}
-use Rattle.output.specs.Page.{appended, lowerDigit, hexText, isHexText, octetsOf, readInto, significant}
+use Rattle.output.specs.declared.hexadecimal.HexRead.{HexRead}
+use Rattle.output.specs.Output.{appended, significant}
+use Rattle.output.specs.Hexadecimal.{lowerDigit, hexText, isHexText, octetsOf, readInto}
 use Rattle.output.proofs.Digits.{lower-digit}
 
 -- ---- appending
 
-module _ (at : ℕ) (word page : List ℕ) where
-  pub word-fits : {next : ℕ} {after : List ℕ} → at + length word ≤ length page → Wrote at word page next after
-      → _≡_ {A = ℕ × List ℕ} (next, after) (appended at word page)
+module _ (at : ℕ) (octets output : List ℕ) where
+  pub fits : {next : ℕ} {after : List ℕ} → at + length octets ≤ length output → Wrote at octets output next after
+      → _≡_ {A = ℕ × List ℕ} (next, after) (appended at octets output)
   unfolding appended
-  word-fits h wrote = rw (le-leb (at + length word) (length page) h, wrote .place, wrote .list, sets-eq word page at h)
+  fits h wrote = rw (le-leb (at + length octets) (length output) h, wrote .place, wrote .list, sets-eq octets output at h)
 
-  pub word-left-out : length page < at + length word → _≡_ {A = ℕ × List ℕ} (at, page) (appended at word page)
+  pub left-out : length output < at + length octets → _≡_ {A = ℕ × List ℕ} (at, output) (appended at octets output)
   unfolding appended
-  word-left-out h = rw (lt-leb (at + length word) (length page) h)
+  left-out h = rw (lt-leb (at + length octets) (length output) h)
 
 -- ---- hexadecimal
 
@@ -72,23 +73,23 @@ unfolding isHexText
 hex-is-hex os h = let e : length (hexText os) % 2 ≡ 0 = omega (arith, length-hex os) in rw (e, digits-hex os h)
 
 -- reading gives back what was written as hexadecimal
-pub read-back : (os page : List ℕ) → Octets os → length os ≤ length page → readInto (hexText os) page ≡ (HexRead.Octets (length os), os ++ drop (length os) page)
+pub read-back : (os buffer : List ℕ) → Octets os → length os ≤ length buffer → readInto (hexText os) buffer ≡ (HexRead.Octets (length os), os ++ drop (length os) buffer)
 unfolding readInto
-read-back os page h n = rw (hex-is-hex os h, octets-back os h, le-leb (length os) (length page) n)
+read-back os buffer h n = rw (hex-is-hex os h, octets-back os h, le-leb (length os) (length buffer) n)
 
 -- ---- two ends of reading
 
-module _ (text page : List ℕ) (e : isHexText text ≡ true) where
-  pub octets-fit : {next : ℕ} {after : List ℕ} → length (octetsOf text) ≤ length page → Wrote 0 (octetsOf text) page next after
-      → _≡_ {A = HexRead × List ℕ} (HexRead.Octets next, after) (readInto text page)
+module _ (text buffer : List ℕ) (e : isHexText text ≡ true) where
+  pub octets-fit : {next : ℕ} {after : List ℕ} → length (octetsOf text) ≤ length buffer → Wrote 0 (octetsOf text) buffer next after
+      → _≡_ {A = HexRead × List ℕ} (HexRead.Octets next, after) (readInto text buffer)
   unfolding readInto
   octets-fit h wrote =
       let n : 0 + length (octetsOf text) ≡ length (octetsOf text) = omega arith in
-      rw (e, le-leb (length (octetsOf text)) (length page) h, wrote .place, wrote .list, n, sets-start (octetsOf text) page h)
+      rw (e, le-leb (length (octetsOf text)) (length buffer) h, wrote .place, wrote .list, n, sets-start (octetsOf text) buffer h)
 
-  pub octets-too-long : length page < length (octetsOf text) → _≡_ {A = HexRead × List ℕ} (HexRead.TooLong, page) (readInto text page)
+  pub octets-too-long : length buffer < length (octetsOf text) → _≡_ {A = HexRead × List ℕ} (HexRead.TooLong, buffer) (readInto text buffer)
   unfolding readInto
-  octets-too-long h = rw (e, lt-leb (length (octetsOf text)) (length page) h)
+  octets-too-long h = rw (e, lt-leb (length (octetsOf text)) (length buffer) h)
 
 -- ---- what a loop has left: one more octet, and none at the end
 

@@ -1,4 +1,4 @@
--- Parameters that go with their indicator, as a line makes them and as a writer's checks ask.
+-- Parameters that go with their indicator, as a format makes them and as a writer's checks ask.
 -- Assumes nothing.
 use Prim.Native.Nat.{ℕ, _+_, _*_, _%_}
 use mathlib.Core.Path.{_≡_}

@@ -7,9 +7,9 @@ use mathlib.Core.List.{List, _++_}
 use borrow.Author.Tests.{eq-eqb, leb-true, leb-false, le-ltb, lt-ltb}
 use lib.Dec.{leb, ltb}
 use lib.ListN.{length}
+use Rattle.octets.specs.Answers.{Said, refuses, fine}
 use Rattle.octets.specs.Choice.{if_then_else_}
 use Rattle.octets.specs.Checks.{Check, checked, found}
-use Rattle.octets.specs.declared.Checked.{Checked}
 use Rattle.octets.specs.declared.Refusal.the-variants.{IndicatorExtended, UserDataTooLong}
 use Rattle.octets.proofs.Checks.{passed, against, all-passed, one-against}
 use Rattle.layout.specs.Layout.{isSet}
@@ -21,8 +21,8 @@ use Rattle.parameters.proofs.Agreeing.{dataCount, Agreeing}
 use Rattle.parameters.specs.Checking.{indicatorChecks, dataChecks}
 
 -- past 140 octets they are refused
-abbrev limited : ℕ → Checked
-limited n = if leb n 140 then Checked.Fine else Checked.Against UserDataTooLong
+abbrev limited : ℕ → Said Unit
+limited n = if leb n 140 then fine else refuses UserDataTooLong
 
 data-found : (dcs udl : OptionalOctet) {n : ℕ} → n ≡ dataCount dcs udl → found (dataChecks dcs udl n) ≡ limited n
 unfolding dataChecks
@@ -32,11 +32,11 @@ data-found dcs (Present udl) {n} e = rw (eq-eqb n _ e)
 -- ---- parameters that go with their indicator pass the checks, but for bit 7 and more than 140 octets
 
 module _ {pi : ℕ} {p : Parameters} (h : Agreeing pi p) where
-  indicator-found : found (indicatorChecks pi (p .pid) (p .dcs) (p .udl)) ≡ (if isSet 7 pi then Checked.Against IndicatorExtended else Checked.Fine)
+  indicator-found : found (indicatorChecks pi (p .pid) (p .dcs) (p .udl)) ≡ (if isSet 7 pi then refuses IndicatorExtended else fine)
   unfolding indicatorChecks
   indicator-found = rw (eq-eqb _ _ (h .bits)) (by (isSet 7 pi))
     where
-      by : (b : Bool) → (if not b then Checked.Fine else Checked.Against IndicatorExtended) ≡ (if b then Checked.Against IndicatorExtended else Checked.Fine)
+      by : (b : Bool) → (if not b then fine else refuses IndicatorExtended) ≡ (if b then refuses IndicatorExtended else fine)
       by true = refl
       by false = refl
 
@@ -50,7 +50,7 @@ module _ {pi : ℕ} {p : Parameters} (h : Agreeing pi p) where
       more : List Check
       more = dataChecks (p .dcs) (p .udl) (length (p .ud))
 
-      by : (b : Bool) → found first ≡ (if b then Checked.Against IndicatorExtended else Checked.Fine) → (t : Bool) → leb (length (p .ud)) 140 ≡ t
+      by : (b : Bool) → found first ≡ (if b then refuses IndicatorExtended else fine) → (t : Bool) → leb (length (p .ud)) 140 ≡ t
           → Answers (checked (first ++ more) octets) octets (b || ltb 140 (length (p .ud)))
       by true e t d = (IndicatorExtended, one-against octets (first ++ more) (against more first e))
       by false e true d = rw (le-ltb 140 (length (p .ud)) (leb-true _ _ d)) (all-passed octets (first ++ more) (passed more first e ∙ data-found _ _ (h .counted) ∙ rw d))

@@ -8,15 +8,17 @@ use native.Mathlib.Omega.{arith}
 use borrow.Author.Tests.{le-leb, lt-leb, eq-eqb, ne-eqb}
 use lib.ListN.{length, getD, drop, length-drop}
 use lib.Seq.{drop-cons}
-use Rattle.octets.specs.Places.{spanAt}
-use Rattle.octets.specs.declared.Octet.{Octet}
+use Rattle.octets.specs.Answers.{Said, gives, refuses}
+use Rattle.octets.specs.Places.{octetAt, spanAt}
 use Rattle.octets.specs.declared.Place.{Place}
 use Rattle.octets.specs.declared.Refusal.the-variants.{OctetsEnd}
-use Rattle.layout.specs.Layout.{bit, indicatorSize, indicatorAt}
+use Rattle.layout.specs.Layout.{bit, indicatorSize}
+use Rattle.layout.specs.Internal.{indicatorAt}
+use Rattle.octets.proofs.Places.{octet-read}
 use Rattle.layout.proofs.Fields.{indicator-positive}
 
 module _ (s : List ℕ) (at : ℕ) where
-  pub size-start : at < length s → indicatorSize (drop at s) ≡ indicatorSize (getD s at 0 ∷ drop (at + 1) s)
+  size-start : at < length s → indicatorSize (drop at s) ≡ indicatorSize (getD s at 0 ∷ drop (at + 1) s)
   size-start h = rw (add-one, drop-cons s at 0 h)
 
   module _ (x : ℕ) where
@@ -35,12 +37,16 @@ module _ (s : List ℕ) (at : ℕ) where
     size-last h = rw (ne-eqb (bit 7 x) 1 h)
 
 module _ (s : List ℕ) (p : Place) where
-  pub indicator-not : length s < p .at + indicatorSize (drop (p .at) s) → Octet.Ended ≡ indicatorAt s p
+  -- from its first octet on
+  pub size-whole : {b : ℕ} {q : Place} → octetAt s p ≡ gives (b, q) → (indicatorSize (drop (p .at) s) ≡ indicatorSize (b ∷ drop (q .at) s)) × (q .at ≡ p .at + 1)
+  size-whole e = let (there, is, next) = octet-read s p e in (size-start s (p .at) there ∙ rw (is, next), next)
+
+  pub indicator-not : length s < p .at + indicatorSize (drop (p .at) s) → refuses OctetsEnd ≡ indicatorAt s p
   unfolding indicatorAt spanAt
   indicator-not h = rw (lt-leb (indicatorSize (drop (p .at) s)) (length (drop (p .at) s)) (omega (arith, length-drop (p .at) s, indicator-positive (drop (p .at) s))))
 
-  pub indicator-is : (at : ℕ) → p .at + indicatorSize (drop (p .at) s) ≡ at → at ≤ length s → Octet.Read (getD s (p .at) 0) (record { at = at }) ≡ indicatorAt s p
+  pub indicator-is : (at : ℕ) → p .at + indicatorSize (drop (p .at) s) ≡ at → at ≤ length s → gives (getD s (p .at) 0, record { at = at }) ≡ indicatorAt s p
   unfolding indicatorAt spanAt
   indicator-is at e h =
       rw (le-leb (indicatorSize (drop (p .at) s)) (length (drop (p .at) s)) (omega (arith, length-drop (p .at) s)))
-      (ap (λ (q : ℕ). Octet.Read (getD s (p .at) 0) (record { at = q })) (sym e))
+      (ap (λ (q : ℕ). gives (getD s (p .at) 0, record { at = q })) (sym e))

@@ -1,4 +1,4 @@
--- What holds of each parameters that a line makes, and of their canonical fields.
+-- What holds of each parameters that a format makes, and of their canonical fields.
 -- Assumes nothing.
 use Prim.Native.Nat.{ℕ, _+_, _*_, _/_, _%_, _≤_, _<_}
 use mathlib.Core.Path.{_≡_, refl, sym}
@@ -18,7 +18,7 @@ use Rattle.parameters.specs.Parameters.{Parameters, parametersOctets}
 use Rattle.parameters.specs.declared.OptionalOctet.{OptionalOctet}
 use Rattle.parameters.specs.declared.OptionalOctet.the-variants.{Absent, Present}
 use Rattle.parameters.proofs.Agreeing.{dataCount, Agreeing}
-use Rattle.parameters.specs.Line.{announced, dataFor, parameters}
+use Rattle.parameters.specs.Layout.{announced, dataFor, parameters}
 
 -- fields one after the other
 pub joined-append : (a b : List Field) → joined (a ++ b) ≡ joined a ++ joined b

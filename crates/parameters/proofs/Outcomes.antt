@@ -4,8 +4,8 @@ use Prim.Native.Nat.{ℕ}
 use mathlib.Core.Path.{_≡_, refl, ap, _∙_}
 use mathlib.Core.List.{List, [], _∷_}
 use lib.Bits.{bitAnd}
+use Rattle.octets.specs.Answers.{gives, refuses}
 use Rattle.octets.specs.Places.{octetAt}
-use Rattle.octets.specs.declared.Octet.{Octet}
 use Rattle.octets.specs.declared.Place.{Place}
 use Rattle.octets.specs.declared.Refusal.{Refusal}
 use Rattle.octets.specs.declared.Refusal.the-variants.{OctetsEnd, WrongMessageType}
@@ -18,14 +18,14 @@ use Rattle.parameters.specs.declared.OptionalOctet.the-variants.{Absent,
 
 -- what both readers come to, by the octets that are there; `udhi` is the report's field for bit 6, `rest` what follows first octet and cause
 pub record Outcomes {R H : Type 0} (ack error : Layout R) (mti : ℕ) (udhi : ℕ → H) (rest : H → OptionalOctet → Format R) (stopped : R) (s : List ℕ) : Type 0 where
-  pub ack-ends : octetAt s start ≡ Octet.Ended → read ack s ≡ halted OctetsEnd
-  pub error-ends : octetAt s start ≡ Octet.Ended → read error s ≡ halted OctetsEnd
-  pub ack-differs : {x : ℕ} {q : Place} → octetAt s start ≡ Octet.Read x q → (messageType x ≡ mti → ⊥) → read ack s ≡ halted WrongMessageType
-  pub error-differs : {x : ℕ} {q : Place} → octetAt s start ≡ Octet.Read x q → (messageType x ≡ mti → ⊥) → read error s ≡ halted WrongMessageType
-  pub ack-goes-on : {x : ℕ} {q : Place} → octetAt s start ≡ Octet.Read x q → messageType x ≡ mti → read ack s ≡ readFrom (rest (udhi (bit 6 x)) Absent) s (q .at)
-  pub error-stops : {x : ℕ} {q : Place} → octetAt s start ≡ Octet.Read x q → messageType x ≡ mti → (bitAnd x 0xbc ≡ 0 → ⊥) → read error s ≡ reached stopped 1
-  pub no-cause : {x : ℕ} {q : Place} → octetAt s start ≡ Octet.Read x q → messageType x ≡ mti → bitAnd x 0xbc ≡ 0 → octetAt s q ≡ Octet.Ended → read error s ≡ halted OctetsEnd
-  pub error-goes-on : {x cause : ℕ} {q t : Place} → octetAt s start ≡ Octet.Read x q → messageType x ≡ mti → bitAnd x 0xbc ≡ 0 → octetAt s q ≡ Octet.Read cause t
+  pub ack-ends : octetAt s start ≡ refuses OctetsEnd → read ack s ≡ halted OctetsEnd
+  pub error-ends : octetAt s start ≡ refuses OctetsEnd → read error s ≡ halted OctetsEnd
+  pub ack-differs : {x : ℕ} {q : Place} → octetAt s start ≡ gives (x, q) → (messageType x ≡ mti → ⊥) → read ack s ≡ halted WrongMessageType
+  pub error-differs : {x : ℕ} {q : Place} → octetAt s start ≡ gives (x, q) → (messageType x ≡ mti → ⊥) → read error s ≡ halted WrongMessageType
+  pub ack-goes-on : {x : ℕ} {q : Place} → octetAt s start ≡ gives (x, q) → messageType x ≡ mti → read ack s ≡ readFrom (rest (udhi (bit 6 x)) Absent) s (q .at)
+  pub error-stops : {x : ℕ} {q : Place} → octetAt s start ≡ gives (x, q) → messageType x ≡ mti → (bitAnd x 0xbc ≡ 0 → ⊥) → read error s ≡ reached stopped 1
+  pub no-cause : {x : ℕ} {q : Place} → octetAt s start ≡ gives (x, q) → messageType x ≡ mti → bitAnd x 0xbc ≡ 0 → octetAt s q ≡ refuses OctetsEnd → read error s ≡ halted OctetsEnd
+  pub error-goes-on : {x cause : ℕ} {q t : Place} → octetAt s start ≡ gives (x, q) → messageType x ≡ mti → bitAnd x 0xbc ≡ 0 → octetAt s q ≡ gives (cause, t)
       → read error s ≡ readFrom (rest (udhi (bit 6 x)) (Present cause)) s (t .at)
 
 module _ {R H : Type 0} (mti : ℕ) (stands : List ℕ) (udhi : ℕ → H) (rest : H → OptionalOctet → Format R) (stopped : R) (s : List ℕ) where

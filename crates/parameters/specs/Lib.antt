@@ -1,4 +1,5 @@
 pub mod Optional
 pub mod Parameters
-pub mod Line
+pub mod Layout
 pub mod Checking
+pub mod Internal

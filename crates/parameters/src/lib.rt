@@ -33,7 +33,7 @@ pub fn or_zero(octet: OptionalOctet) -> u8
     }
 }
 
-// Writes an optional octet at `at`; the place behind it.
+// Writes an optional octet at `at`; the place after it.
 pub fn put_optional(out: &mut [u8], at: usize, octet: OptionalOctet) -> usize
     requires { ⌜ at + held octet ≤ length (now out) ⌝ }
     ensures { λ r. ⌜ Wrote at (octetsHeld octet) (now (out .entry)) r (now (out .exit)) ⌝ }

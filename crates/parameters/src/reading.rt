@@ -1,49 +1,50 @@
 // Reading what the reports share: TP-Parameter-Indicator and the parameters that it announces (TS 23.040 §9.2.3.27).
 ghost use mathlib.Core.Path.{_≡_};
-ghost use Rattle.layout.specs.Layout.{indicatorAt, readFrom};
-ghost use Rattle.parameters.specs.Line.{announced, parameters, optionalAnswer, parametersAnswer};
+ghost use Rattle.octets.specs.Answers.{octetSays};
+ghost use Rattle.layout.specs.Layout.{readFrom};
+ghost use Rattle.layout.specs.Internal.{indicatorAt, placed};
+ghost use Rattle.parameters.specs.Layout.{announced, parameters};
+ghost use Rattle.parameters.specs.Internal.{optionalSays, parametersSays, counted};
 use crate::OptionalOctet;
 use octets::Octet;
 use octets::Place;
-use octets::Refusal;
 use octets::Span;
 
-// A parameter that was announced or not, and the place behind it.
+// A parameter that was announced or not, and the place after it.
 pub enum OptionalRead {
     Read(OptionalOctet, Place),
     Ended,
 }
 
-// PID, DCS, UDL, how many octets the user data have, and the place behind these.
+// PID, DCS, UDL, how many octets the user data have, and the place after these.
 pub enum ParametersRead {
     Read(OptionalOctet, OptionalOctet, OptionalOctet, usize, Place),
-    Refused(Refusal),
+    Ended,
 }
 
-// An indicator's first octet, and the place behind its extension octets.
+// An indicator's first octet, and the place after its extension octets.
 pub fn read_indicator(data: &[u8], place: Place) -> Octet
-    ensures { λ r. ⌜ r ≡ indicatorAt (now («data» .entry)) place ⌝ }
+    ensures { λ r. ⌜ octetSays r ≡ indicatorAt (now («data» .entry)) place ⌝ }
 {
-    let from = place.at;
-    if from >= data.len() {
+    let Octet::Read(indicator, next) = place.octet(data) else {
         return Octet::Ended;
-    }
-    let indicator = data[from];
+    };
     let mut last = indicator;
-    let mut at = from + 1;
+    let mut at = next.at;
     while last / 128 % 2 == 1 {
-        if at >= data.len() {
+        let place = Place { at };
+        let Octet::Read(extension, next) = place.octet(data) else {
             return Octet::Ended;
-        }
-        last = data[at];
-        at += 1;
+        };
+        last = extension;
+        at = next.at;
     }
     Octet::Read(indicator, Place { at })
 }
 
 // An octet that is there if it is announced.
 pub fn read_optional(data: &[u8], place: Place, is_announced: bool) -> OptionalRead
-    ensures { λ r. ⌜ r ≡ optionalAnswer (readFrom (announced «is_announced») (now («data» .entry)) (place .at)) ⌝ }
+    ensures { λ r. ⌜ optionalSays r ≡ placed (readFrom (announced «is_announced») (now («data» .entry)) (place .at)) ⌝ }
 {
     if is_announced {
         let Octet::Read(x, next) = place.octet(data) else {
@@ -54,32 +55,25 @@ pub fn read_optional(data: &[u8], place: Place, is_announced: bool) -> OptionalR
     OptionalRead::Read(OptionalOctet::Absent, place)
 }
 
-// The octets end inside a parameter.
-fn ended() -> ParametersRead
-    ensures { λ r. ⌜ r ≡ ParametersRead.Refused Refusal.OctetsEnd ⌝ }
-{
-    ParametersRead::Refused(Refusal::OctetsEnd)
-}
-
 // The parameters that an indicator announces.
 pub fn read_parameters(data: &[u8], place: Place, indicator: u8) -> ParametersRead
-    ensures { λ r. ⌜ r ≡ parametersAnswer (readFrom (parameters indicator) (now («data» .entry)) (place .at)) ⌝ }
+    ensures { λ r. ⌜ parametersSays r ≡ counted (placed (readFrom (parameters indicator) (now («data» .entry)) (place .at))) ⌝ }
 {
     let OptionalRead::Read(pid, p1) = read_optional(data, place, indicator % 2 == 1) else {
-        return ended();
+        return ParametersRead::Ended;
     };
     let OptionalRead::Read(dcs, p2) = read_optional(data, p1, indicator / 2 % 2 == 1) else {
-        return ended();
+        return ParametersRead::Ended;
     };
     let OptionalRead::Read(udl, p3) = read_optional(data, p2, indicator / 4 % 2 == 1) else {
-        return ended();
+        return ParametersRead::Ended;
     };
     let OptionalOctet::Present(length) = udl else {
         return ParametersRead::Read(pid, dcs, udl, 0, p3);
     };
     let size = coding::user_data_octets(coding::user_data_coding(crate::or_zero(dcs)), length);
     let Span::There(_, p4) = p3.span(data, size) else {
-        return ended();
+        return ParametersRead::Ended;
     };
     ParametersRead::Read(pid, dcs, udl, size, p4)
 }

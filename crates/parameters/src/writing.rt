@@ -2,6 +2,7 @@
 ghost use mathlib.Core.Path.{_≡_};
 ghost use Prim.Native.Nat.{_+_, _≤_};
 ghost use lib.ListN.{length};
+ghost use Rattle.octets.specs.Answers.{checkedSays};
 ghost use Rattle.octets.specs.Lent.{Wrote};
 ghost use Rattle.octets.specs.Checks.{found};
 ghost use Rattle.parameters.specs.Optional.{held};
@@ -18,7 +19,7 @@ pub fn check_parameter_indicator(
     dcs: OptionalOctet,
     udl: OptionalOctet,
 ) -> Checked
-    ensures { λ r. ⌜ r ≡ found (indicatorChecks indicator pid dcs udl) ⌝ }
+    ensures { λ r. ⌜ checkedSays r ≡ found (indicatorChecks indicator pid dcs udl) ⌝ }
 {
     let supplied = crate::octets_held(pid)
         + 2 * crate::octets_held(dcs)
@@ -34,7 +35,7 @@ pub fn check_parameter_indicator(
 
 // Whether user data of so many octets go with the DCS and UDL held.
 pub fn check_data(dcs: OptionalOctet, udl: OptionalOctet, octets: usize) -> Checked
-    ensures { λ r. ⌜ r ≡ found (dataChecks dcs udl octets) ⌝ }
+    ensures { λ r. ⌜ checkedSays r ≡ found (dataChecks dcs udl octets) ⌝ }
 {
     let OptionalOctet::Present(length) = udl else {
         if octets != 0 {
@@ -58,7 +59,7 @@ pub fn parameters_size(
     crate::octets_held(pid) + crate::octets_held(dcs) + crate::octets_held(udl) + octets
 }
 
-// Writes the parameters from `at` on; the place behind them.
+// Writes the parameters from `at` on; the place after them.
 pub fn put_parameters(
     out: &mut [u8],
     at: usize,

@@ -2,18 +2,18 @@
 use crate::reasons;
 use crate::values::has_form;
 use crate::values::is_absent;
-use output::Page;
-use text_fields::begins;
-use text_fields::behind;
-use text_fields::field_from;
-use text_fields::field_start;
-use text_fields::fields;
-use text_fields::find;
-use text_fields::part;
-use text_fields::word;
-use text_fields::word_number;
+use output::Output;
+use text_fields::fields::field_count;
+use text_fields::fields::field_from;
+use text_fields::fields::field_start;
+use text_fields::lists::entry;
+use text_fields::lists::entry_number;
+use text_fields::slices::after;
+use text_fields::slices::begins;
+use text_fields::slices::between;
+use text_fields::slices::find;
 
-// ---- the keys by number, in the order of the table of forms
+// ---- the keys by number, in the order of their names
 
 pub const RP: usize = 0;
 
@@ -63,8 +63,8 @@ pub const VP: usize = 22;
 
 pub const UD: usize = 23;
 
-// How many there are; as a key's number it says that there is no such key.
-pub const ALL: usize = 24;
+// How many keys there are; as a key's number it says that there is no such key.
+pub const KEYS: usize = 24;
 
 const NAMES: [u8; 117] = *b"\
     rp=\nudhi=\nsri=\nlp=\nmms=\nsrr=\nrd=\nsrq=\n\
@@ -72,7 +72,7 @@ const NAMES: [u8; 117] = *b"\
     mr=\npid=\ndcs=\nfcs=\npi=\nst=\n\
     address=\nscts=\ndt=\nvp=\nud=\n";
 
-// ---- the kinds of message that can be written, by number
+// ---- the kinds of message that can be written, by number, in the order of their names
 
 pub const DELIVER: usize = 0;
 
@@ -84,15 +84,18 @@ pub const DELIVER_REPORT: usize = 3;
 
 pub const STATUS_REPORT: usize = 4;
 
-// As a kind's number it says that there is no such kind; the forms of a SUBMIT without destination stand there.
-const NOWHERE: usize = 5;
+// How many kinds there are; as a kind's number it says that there is no such kind.
+const KINDS: usize = 5;
 
 pub fn kind_named(name: &[u8]) -> usize {
     let names = b"deliver\nsubmit\nsubmit-report\ndeliver-report\nstatus-report\n";
-    word_number(names, name)
+    entry_number(names, name)
 }
 
-// For each kind the form of each key's value, in the order of the keys; a dot for a key that the kind has not.
+// ---- the forms of values
+
+// A row for each kind, and one for a SUBMIT without destination. A row has a letter for each key, in their order: the
+// form of its value (`values::has_form`), or a dot if the kind has no such key.
 const FORMS: [u8; 150] = *b"\
     fffff...n.nnn.xx...ot..o\n\
     ff...ff.nnnnnxxx...o..po\n\
@@ -101,23 +104,26 @@ const FORMS: [u8; 150] = *b"\
     .f.ff..f..nnNxXX.Xxott.o\n\
     ff...ff.nn--nxxx...-..po\n";
 
+const WITHOUT_DESTINATION: usize = 5;
+
 const NO_KEY: u8 = b'.';
 
-fn form(kind: usize, key: usize) -> u8 {
+// The form of a key's value, by row and key.
+fn form(row: usize, key: usize) -> u8 {
     let forms = FORMS;
-    let of_kind = word(&forms, kind);
-    if key < of_kind.len() {
-        of_kind[key]
+    let letters = entry(&forms, row);
+    if key < letters.len() {
+        letters[key]
     } else {
         NO_KEY
     }
 }
 
-// How many fields a request has: its name, and one for each key of the kind.
+// How many fields a request has for a record of a kind: its name, and one for each key of the kind.
 fn fields_of(kind: usize) -> usize {
     let mut n = 1;
     let mut key = 0;
-    while key < ALL {
+    while key < KEYS {
         if form(kind, key) != NO_KEY {
             n += 1;
         }
@@ -129,12 +135,12 @@ fn fields_of(kind: usize) -> usize {
 // ---- the keys of a line
 
 // The key that a field gives a value.
-fn key_of(text: &[u8]) -> usize {
-    let end = find(text, 0, b'=');
-    if text.len() <= end {
-        return ALL;
+fn key_of(field: &[u8]) -> usize {
+    let end = find(field, 0, b'=');
+    if field.len() <= end {
+        return KEYS;
     }
-    word_number(&NAMES, part(text, 0, end + 1))
+    entry_number(&NAMES, between(field, 0, end + 1))
 }
 
 // Where the first field begins that begins with the name of a key; the end of the line if there is none.
@@ -142,7 +148,7 @@ fn place_of(line: &[u8], name: &[u8]) -> usize {
     let mut start = 0;
     while start < line.len() {
         let end = find(line, start, b' ');
-        if begins(part(line, start, end), name) {
+        if begins(between(line, start, end), name) {
             return start;
         }
         if line.len() <= end {
@@ -156,27 +162,39 @@ fn place_of(line: &[u8], name: &[u8]) -> usize {
 // The value of a key.
 pub fn value(line: &[u8], key: usize) -> &[u8] {
     let names = NAMES;
-    let name = word(&names, key);
-    behind(field_from(line, place_of(line, name)), name.len())
+    let name = entry(&names, key);
+    after(field_from(line, place_of(line, name)), name.len())
 }
 
-// ---- what is wrong with a line
+// Whether a line gives a SUBMIT without destination: three values are -.
+pub fn no_destination(line: &[u8]) -> bool {
+    is_absent(value(line, TON)) && is_absent(value(line, NPI)) && is_absent(value(line, ADDRESS))
+}
 
-// What is wrong with the key that the field at a place gives: the kind has not got it, or it was there before.
+// The name of a key, without its =.
+pub fn put_key_name(out: &mut Output, at: usize, key: usize) -> usize {
+    let names = NAMES;
+    let name = entry(&names, key);
+    output::put(out, at, between(name, 0, find(name, 0, b'=')))
+}
+
+// ---- the reason against a line
+
+// The reason against the key of the field at a place: the kind has no such key, or it was there before.
 fn against_key(kind: usize, line: &[u8], start: usize) -> usize {
     let key = key_of(field_from(line, start));
     if form(kind, key) == NO_KEY {
         return reasons::UNKNOWN_KEY;
     }
-    if place_of(line, word(&NAMES, key)) != start {
+    if place_of(line, entry(&NAMES, key)) != start {
         return reasons::KEY_GIVEN_TWICE;
     }
     reasons::NONE
 }
 
-// What is wrong with the keys: their number, or the first from the left with which something is.
+// The reason against the keys: their number, or the first from the left that has one.
 fn against_keys(kind: usize, line: &[u8]) -> usize {
-    let count = fields(line);
+    let count = field_count(line);
     if count != fields_of(kind) {
         return reasons::NUMBER_OF_FIELDS;
     }
@@ -191,16 +209,11 @@ fn against_keys(kind: usize, line: &[u8]) -> usize {
     reasons::NONE
 }
 
-// A SUBMIT without destination has three values that are -.
-pub fn no_destination(line: &[u8]) -> bool {
-    is_absent(value(line, TON)) && is_absent(value(line, NPI)) && is_absent(value(line, ADDRESS))
-}
-
-// The first value in the order of the keys that has not its form: a reason of its own for each key.
-fn against_values(kind: usize, line: &[u8]) -> usize {
+// The reason against the values: the first in the order of the keys that has not its form.
+fn against_values(row: usize, line: &[u8]) -> usize {
     let mut key = 0;
-    while key < ALL {
-        let f = form(kind, key);
+    while key < KEYS {
+        let f = form(row, key);
         if f != NO_KEY && !has_form(f, value(line, key)) {
             return reasons::VALUE_OF + key;
         }
@@ -209,9 +222,9 @@ fn against_values(kind: usize, line: &[u8]) -> usize {
     reasons::NONE
 }
 
-// What is wrong with a line that gives the record of a kind.
+// The reason against a line that gives a record of a kind.
 pub fn against_record(kind: usize, line: &[u8]) -> usize {
-    if NOWHERE <= kind {
+    if KINDS <= kind {
         return reasons::UNKNOWN_REQUEST;
     }
     let reason = against_keys(kind, line);
@@ -219,18 +232,7 @@ pub fn against_record(kind: usize, line: &[u8]) -> usize {
         return reason;
     }
     if kind == SUBMIT && no_destination(line) {
-        return against_values(NOWHERE, line);
+        return against_values(WITHOUT_DESTINATION, line);
     }
     against_values(kind, line)
-}
-
-// The answer to a request that is not well formed.
-pub fn bad(out: &mut Page, at: usize, reason: usize) -> usize {
-    if reason < reasons::VALUE_OF {
-        return reasons::bad(out, at, reason);
-    }
-    let names = NAMES;
-    let name = word(&names, reason - reasons::VALUE_OF);
-    let next = reasons::bad(out, at, reasons::VALUE_OF);
-    output::put(out, next, part(name, 0, find(name, 0, b'=')))
 }

@@ -1,5 +1,4 @@
-// What the fields of a request may hold, why one is not well formed, and how an answer is put together.
+// The line of a request: what its fields may hold, the keys of a record, and why a line isn't well formed.
 pub mod keys;
 pub mod reasons;
 pub mod values;
-pub mod writing;

@@ -1,9 +1,10 @@
-// The reasons for which a request is not well formed, by number.
+// The reasons for which a line isn't well formed, by number: the answer for a reason stands in a list at its number.
+use crate::keys::put_key_name;
 use crate::values::has_form;
-use output::Page;
-use text_fields::field;
-use text_fields::fields;
-use text_fields::word;
+use output::Output;
+use text_fields::fields::field;
+use text_fields::fields::field_count;
+use text_fields::lists::entry;
 
 pub const NONE: usize = 0;
 
@@ -28,8 +29,8 @@ pub const KEY_GIVEN_TWICE: usize = 9;
 // The value of a key: the key's number is added.
 pub const VALUE_OF: usize = 10;
 
-// The answer to a request that is not well formed, but for the name of a key.
-pub fn bad(out: &mut Page, at: usize, reason: usize) -> usize {
+// The answer for a reason, without the name of a key.
+fn put_answer(out: &mut Output, at: usize, reason: usize) -> usize {
     let answers = b"\n\
         bad line too long\n\
         bad empty line\n\
@@ -41,10 +42,19 @@ pub fn bad(out: &mut Page, at: usize, reason: usize) -> usize {
         bad unknown key\n\
         bad key given twice\n\
         bad value of \n";
-    output::put(out, at, word(answers, reason))
+    output::put(out, at, entry(answers, reason))
 }
 
-// What is wrong with a field that has not its form.
+// The answer to a line that isn't well formed.
+pub fn put_bad(out: &mut Output, at: usize, reason: usize) -> usize {
+    if reason < VALUE_OF {
+        return put_answer(out, at, reason);
+    }
+    let next = put_answer(out, at, VALUE_OF);
+    put_key_name(out, next, reason - VALUE_OF)
+}
+
+// The reason against a field that has not its form.
 fn against_form(form: u8) -> usize {
     match form {
         b'o' => OCTETS,
@@ -53,9 +63,10 @@ fn against_form(form: u8) -> usize {
     }
 }
 
-// What is wrong with the fields of a line, each of which has a form, its name too.
+// The reason against a line whose fields are to have these forms, a letter each: their number, or the first field from
+// the left that has not its form.
 pub fn against_fields(forms: &[u8], line: &[u8]) -> usize {
-    if fields(line) != forms.len() {
+    if field_count(line) != forms.len() {
         return NUMBER_OF_FIELDS;
     }
     let mut i = 0;

@@ -1,19 +1,21 @@
 // What a field or the value of a key may hold: numbers, octets, times and validity periods.
-use coding::UserData;
-use text_fields::begins;
-use text_fields::behind;
-use text_fields::least;
-use text_fields::part;
-use text_fields::word_number;
-use time::Time;
+use output::hexadecimal::is_hex_text;
+use output::hexadecimal::read_hex;
+use text_fields::lists::entry_number;
+use text_fields::slices::after;
+use text_fields::slices::begins;
+use text_fields::slices::between;
+use text_fields::slices::least;
+use tpdu::Time;
+use tpdu::UserData;
 
-// The digits that a number may have.
+// How many digits a number may have.
 const MOST_DIGITS: usize = 9;
 
-// What a text that is no such number counts as: more than any of them.
+// What a text counts as that is no such number: more than any of them.
 const NO_NUMBER: u64 = 1000000000;
 
-// The value of a decimal number of at most nine digits.
+// A decimal number of at most nine digits.
 pub fn decimal(text: &[u8]) -> u64 {
     if text.len() == 0 {
         return NO_NUMBER;
@@ -37,6 +39,7 @@ pub fn decimal(text: &[u8]) -> u64 {
     n
 }
 
+// Whether a value is -.
 pub fn is_absent(value: &[u8]) -> bool {
     value.len() == 1 && value[0] == b'-'
 }
@@ -44,19 +47,27 @@ pub fn is_absent(value: &[u8]) -> bool {
 // The hexadecimal digits of a field: none where it is -.
 fn digits_of(field: &[u8]) -> &[u8] {
     if is_absent(field) {
-        return part(field, 0, 0);
+        return between(field, 0, 0);
     }
     field
 }
 
-// The form of a validity period: 0 for relative, 1 for absolute, 2 for enhanced, 3 for none of these.
-pub fn period_form(value: &[u8]) -> usize {
-    word_number(b"relative:\nabsolute:\nenhanced:\n", part(value, 0, 9))
+// ---- validity periods: `relative:`, `absolute:` or `enhanced:`, and a value
+
+pub const RELATIVE: usize = 0;
+
+pub const ABSOLUTE: usize = 1;
+
+pub const ENHANCED: usize = 2;
+
+// The format of a validity period; another number where it is none of the three.
+pub fn period_format(value: &[u8]) -> usize {
+    entry_number(b"relative:\nabsolute:\nenhanced:\n", between(value, 0, 9))
 }
 
-// What stands behind the form of a validity period.
+// What stands after the format.
 pub fn period_value(value: &[u8]) -> &[u8] {
-    behind(value, 9)
+    after(value, 9)
 }
 
 // ---- the forms of a value
@@ -68,42 +79,42 @@ fn is_flag(value: &[u8]) -> bool {
 // A number from -128 to 127.
 fn is_zone(value: &[u8]) -> bool {
     if begins(value, b"-") {
-        return decimal(behind(value, 1)) <= 128;
+        return decimal(after(value, 1)) <= 128;
     }
     decimal(value) <= 127
 }
 
 fn is_octet(value: &[u8]) -> bool {
-    value.len() == 2 && output::is_hex_text(value)
+    value.len() == 2 && is_hex_text(value)
 }
 
 fn is_octets(value: &[u8]) -> bool {
-    output::is_hex_text(digits_of(value))
+    is_hex_text(digits_of(value))
 }
 
-// The digits of a time are any octets; behind x: they are hexadecimal.
+// The digits of a time are any octets, as they stand; after x: they are given in hexadecimal.
 fn is_time(value: &[u8]) -> bool {
     if begins(value, b"x:") {
-        return is_octets(behind(value, 2));
+        return is_octets(after(value, 2));
     }
     true
 }
 
 fn is_seven_octets(value: &[u8]) -> bool {
-    value.len() == 14 && output::is_hex_text(value)
+    value.len() == 14 && is_hex_text(value)
 }
 
 fn is_period(value: &[u8]) -> bool {
-    match period_form(value) {
-        0 => is_octet(period_value(value)),
-        1 => is_time(period_value(value)),
-        2 => is_seven_octets(period_value(value)),
+    match period_format(value) {
+        RELATIVE => is_octet(period_value(value)),
+        ABSOLUTE => is_time(period_value(value)),
+        ENHANCED => is_seven_octets(period_value(value)),
         _ => is_absent(value),
     }
 }
 
-// A value has a form, which a letter stands for: a word, a flag, a number to 255 or a count of nine digits, a zone, an octet, octets,
-// a time, a validity period, an absent value; N and X may be absent.
+// Whether a value has the form that a letter stands for: w a word, any; f a flag; n a number to 255; c a number of up
+// to nine digits; z a zone; x an octet; o octets; t a time; p a validity period; - absent; N and X: n and x, or absent.
 pub fn has_form(form: u8, value: &[u8]) -> bool {
     match form {
         b'w' => true,
@@ -140,7 +151,7 @@ fn below_zero(n: u64) -> i8 {
 
 pub fn zone_of(value: &[u8]) -> i8 {
     if begins(value, b"-") {
-        return below_zero(decimal(behind(value, 1)));
+        return below_zero(decimal(after(value, 1)));
     }
     let n = decimal(value);
     if n < 128 { n as i8 } else { 127 }
@@ -148,7 +159,7 @@ pub fn zone_of(value: &[u8]) -> i8 {
 
 pub fn octet_of(value: &[u8]) -> u8 {
     let mut octet = [0u8; 1];
-    output::read_hex(value, &mut octet);
+    read_hex(value, &mut octet);
     octet[0]
 }
 
@@ -157,7 +168,7 @@ pub fn octets_of(value: &[u8], array: &mut [u8]) -> usize {
     let digits = digits_of(value);
     let n = digits.len() / 2;
     let kept = least(n, array.len());
-    output::read_hex(part(digits, 0, 2 * kept), array);
+    read_hex(between(digits, 0, 2 * kept), array);
     n
 }
 
@@ -171,10 +182,10 @@ pub fn data_of(value: &[u8]) -> UserData {
 pub fn time_of(value: &[u8]) -> Time {
     let mut digits = [0u8; 14];
     if begins(value, b"x:") {
-        let length = octets_of(behind(value, 2), &mut digits);
+        let length = octets_of(after(value, 2), &mut digits);
         return Time { digits, length };
     }
-    output::append(&mut digits, 0, part(value, 0, least(value.len(), 14)));
+    output::append(&mut digits, 0, between(value, 0, least(value.len(), 14)));
     Time {
         digits,
         length: value.len(),

@@ -8,19 +8,19 @@ use native.Mathlib.Omega.{arith}
 use lib.Arith.{digits-lt}
 use lib.ListN.{length, getD}
 use lib.Pow.{pow-add, mod-pow-add, high, low, shl-lt, shl-shr, pow-mono, pow-pos}
-use Rattle.septets.specs.Septets.{numberOf, digitsOf, Digits, septetsIn, packedSeptets, octetCount, headerSeptets, fillBits}
+use Rattle.septets.specs.Septets.{numberOf, lowestDigits, Digits, septetsIn, packedSeptets, octetCount, headerSeptets, fillBits}
 use Rattle.septets.proofs.Number.{length-digits}
 
 module _ (w : ℕ) where
   -- the digits of the number with these digits
-  digits-number : (ds : List ℕ) → Digits w ds → digitsOf w (length ds) (numberOf w ds) ≡ ds
-  unfolding digitsOf numberOf
+  digits-number : (ds : List ℕ) → Digits w ds → lowestDigits w (length ds) (numberOf w ds) ≡ ds
+  unfolding lowestDigits numberOf
   digits-number [] h = refl
   digits-number (d ∷ ds) h = ap₂ _∷_ (low (numberOf w ds) w (h 0)) (rw (high (numberOf w ds) w (h 0)) (digits-number ds (λ i. h (suc i))))
 
   -- the number with a number's n lowest digits
-  number-digits : (n x : ℕ) → numberOf w (digitsOf w n x) ≡ x % 2 ^ (w * n)
-  unfolding digitsOf numberOf
+  number-digits : (n x : ℕ) → numberOf w (lowestDigits w n x) ≡ x % 2 ^ (w * n)
+  unfolding lowestDigits numberOf
   number-digits zero x = rw mul-zero (sym (mod-one x))
   number-digits (suc n) x = rw (mul-suc, mod-pow-add, number-digits n (x / 2 ^ w))
 
@@ -30,8 +30,8 @@ module _ (w : ℕ) where
   number-lt (d ∷ ds) h = rw (mul-suc, pow-add) (digits-lt (number-lt ds (λ i. h (suc i))) (h 0))
 
   -- digits are digits
-  pub digits-of : (n x : ℕ) → Digits w (digitsOf w n x)
-  unfolding digitsOf
+  pub digits-of : (n x : ℕ) → Digits w (lowestDigits w n x)
+  unfolding lowestDigits
   digits-of zero x i = pow-pos w
   digits-of (suc n) x zero = mod-lt x (pow-pos w)
   digits-of (suc n) x (suc i) = digits-of n (x / 2 ^ w) i
@@ -57,7 +57,7 @@ pub septets-septets : (os : List ℕ) (f n : ℕ) → Digits 7 (septetsIn os f n
 unfolding septetsIn
 septets-septets os f n = digits-of 7 n _
 
--- a header and n septets of text behind it take as many octets as their septets together
+-- a header and n septets of text after it take as many octets as their septets together
 pub octets-with-header : (h n : ℕ) → h + octetCount (fillBits h) n ≡ octetCount 0 (headerSeptets h + n)
 octets-with-header h n = omega arith
 

@@ -8,7 +8,7 @@ use native.Mathlib.Omega.{arith}
 use lib.ListN.{length, getD, drop}
 use lib.Pow.{shl-shr, pow-add, field, mod-mod-pow, mod-pow-add, shr-shr, high, low, pow-pos}
 use lib.Seq.{getD-drop}
-use Rattle.septets.specs.Septets.{numberOf, digitsOf, Digits}
+use Rattle.septets.specs.Septets.{numberOf, lowestDigits, Digits}
 
 module _ (w : ℕ) where
   digits-drop : (n : ℕ) (ds : List ℕ) → Digits w ds → Digits w (drop n ds)
@@ -54,12 +54,12 @@ in-two w v pos wide ds h b =
         (← shr-shr, number-drop w i ds h, low-bits (numberOf w (drop i ds)) s v (w + w) hs, number-two w (drop i ds) (digits-drop w i ds h), getD-drop i ds 1 0, getD-drop i ds 0 0, add-zero)
 
 -- one digit more
-pub digits-step : (w n x k : ℕ) → digitsOf w (suc n) (x / 2 ^ k) ≡ x / 2 ^ k % 2 ^ w ∷ digitsOf w n (x / 2 ^ (k + w))
-unfolding digitsOf
+pub digits-step : (w n x k : ℕ) → lowestDigits w (suc n) (x / 2 ^ k) ≡ x / 2 ^ k % 2 ^ w ∷ lowestDigits w n (x / 2 ^ (k + w))
+unfolding lowestDigits
 digits-step w n x k = rw shr-shr
 
-pub length-digits : (w n x : ℕ) → length (digitsOf w n x) ≡ n
-unfolding digitsOf
+pub length-digits : (w n x : ℕ) → length (lowestDigits w n x) ≡ n
+unfolding lowestDigits
 length-digits w zero x = refl
 length-digits w (suc n) x = ap suc (length-digits w n (x / 2 ^ w))
 
@@ -70,17 +70,17 @@ digits-zero w ds h (suc i) = h i
 
 -- the digits that are left, when j of n are passed: all at first, one less each turn, none at the end
 module _ (w n x : ℕ) where
-  pub rest-start : digitsOf w (n - 0) (x / 2 ^ (0 * w)) ≡ digitsOf w n x
+  pub rest-start : lowestDigits w (n - 0) (x / 2 ^ (0 * w)) ≡ lowestDigits w n x
   rest-start = let e : 0 * w ≡ 0 = omega arith in rw (sub-zero, e, div-one)
 
-  pub rest-step : (j : ℕ) → j < n → digitsOf w (n - j) (x / 2 ^ (j * w)) ≡ x / 2 ^ (j * w) % 2 ^ w ∷ digitsOf w (n - suc j) (x / 2 ^ (suc j * w))
+  pub rest-step : (j : ℕ) → j < n → lowestDigits w (n - j) (x / 2 ^ (j * w)) ≡ x / 2 ^ (j * w) % 2 ^ w ∷ lowestDigits w (n - suc j) (x / 2 ^ (suc j * w))
   rest-step j h =
       let e₁ : n - j ≡ suc (n - suc j) = omega arith in
       let e₂ : j * w + w ≡ suc j * w = omega arith in
       rw (e₁, digits-step, e₂)
 
-  pub rest-end : (j : ℕ) → n ≤ j → digitsOf w (n - j) (x / 2 ^ (j * w)) ≡ []
-  unfolding digitsOf
+  pub rest-end : (j : ℕ) → n ≤ j → lowestDigits w (n - j) (x / 2 ^ (j * w)) ≡ []
+  unfolding lowestDigits
   rest-end j h = let e : n - j ≡ 0 = omega arith in rw e
 
 -- octet k of the packed septets lies in the septet that its first bit is in and the next, with a zero septet before the first

@@ -10,9 +10,9 @@ numberOf w [] = 0
 numberOf w (d ∷ ds) = numberOf w ds * 2 ^ w + d
 
 -- the n lowest digits of w bits of a number, lowest first
-unfoldable pub digitsOf : ℕ → ℕ → ℕ → List ℕ
-digitsOf w zero x = []
-digitsOf w (suc n) x = x % 2 ^ w ∷ digitsOf w n (x / 2 ^ w)
+unfoldable pub lowestDigits : ℕ → ℕ → ℕ → List ℕ
+lowestDigits w zero x = []
+lowestDigits w (suc n) x = x % 2 ^ w ∷ lowestDigits w n (x / 2 ^ w)
 
 -- every element is a digit of w bits: octets for w = 8, septets for w = 7
 abbrev pub Digits : ℕ → List ℕ → Type 0
@@ -24,15 +24,15 @@ octetCount f n = (f + n * 7 + 7) / 8
 
 -- the n septets after f fill bits
 unfoldable pub septetsIn : List ℕ → ℕ → ℕ → List ℕ
-septetsIn os f n = digitsOf 7 n (numberOf 8 os / 2 ^ f)
+septetsIn os f n = lowestDigits 7 n (numberOf 8 os / 2 ^ f)
 
 -- the septet at an index, after f fill bits
 unfoldable pub septetAt : List ℕ → ℕ → ℕ → ℕ
 septetAt os f index = numberOf 8 os / 2 ^ (f + index * 7) % 2 ^ 7
 
--- the septets packed behind f zero bits, with zero bits to the octet
+-- the septets packed after f zero bits, with zero bits to the octet
 unfoldable pub packedSeptets : ℕ → List ℕ → List ℕ
-packedSeptets f ss = digitsOf 8 (octetCount f (length ss)) (numberOf 7 ss * 2 ^ f)
+packedSeptets f ss = lowestDigits 8 (octetCount f (length ss)) (numberOf 7 ss * 2 ^ f)
 
 -- the septets that a header of h octets takes, ceil(8h/7), and the fill bits from its end to the septet boundary (TS 23.040 §9.2.3.24)
 abbrev pub headerSeptets : ℕ → ℕ
@@ -44,5 +44,5 @@ fillBits h = headerSeptets h * 7 - h * 8
 -- "hello" (68 65 6C 6C 6F) is E8 32 9B FD 06, both ways
 hello : (packedSeptets 0 (0x68 ∷ 0x65 ∷ 0x6c ∷ 0x6c ∷ 0x6f ∷ []) ≡ 0xe8 ∷ 0x32 ∷ 0x9b ∷ 0xfd ∷ 0x06 ∷ [])
     × (septetsIn (0xe8 ∷ 0x32 ∷ 0x9b ∷ 0xfd ∷ 0x06 ∷ []) 0 5 ≡ 0x68 ∷ 0x65 ∷ 0x6c ∷ 0x6c ∷ 0x6f ∷ [])
-unfolding numberOf digitsOf packedSeptets septetsIn
+unfolding numberOf lowestDigits packedSeptets septetsIn
 hello = (refl, refl)

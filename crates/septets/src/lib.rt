@@ -6,7 +6,7 @@ ghost use lib.ListN.{length, getD};
 ghost use Rattle.octets.specs.Lent.{Wrote};
 ghost use Rattle.septets.specs.Septets.{Digits, septetAt, octetCount, packedSeptets, headerSeptets};
 
-// The octet at `at`, 0 behind the end.
+// The octet at `at`, 0 past the end.
 pub fn octet_or_zero(octets: &[u8], at: usize) -> u16
     ensures { λ r. ⌜ r ≡ getD (now (octets .entry)) at 0 ⌝ }
 {
@@ -39,7 +39,7 @@ pub fn header_septets(octets: usize) -> usize
     (octets * 8 + 6) / 7
 }
 
-// The septet before place `at`: 0 at the start and behind the end.
+// The septet before place `at`: 0 at the start and past the end.
 fn septet_before(septets: &[u8], at: usize) -> u16
     ensures { λ r. ⌜ r ≡ getD (0 ∷ now (septets .entry)) at 0 ⌝ }
 {
@@ -59,7 +59,7 @@ fn eight_bits(low: u16, high: u16, shift: usize) -> u8
     ((pair >> shift) % 256) as u8
 }
 
-// Packs the septets behind `fill` zero bits, with zero bits to the octet, from `at` on; the place behind them.
+// Packs the septets after `fill` zero bits, with zero bits to the octet, from `at` on; the place after them.
 pub fn pack_octets(septets: &[u8], fill: usize, out: &mut [u8], at: usize) -> usize
     requires { ⌜ (fill < 8) × (length (now septets) ≤ 255) × Digits 7 (now septets) × (at + octetCount fill (length (now septets)) ≤ length (now out)) ⌝ }
     ensures { λ r. ⌜ Wrote at (packedSeptets fill (now (septets .entry))) (now (out .entry)) r (now (out .exit)) ⌝ }

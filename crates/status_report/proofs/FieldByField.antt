@@ -14,7 +14,7 @@ use Rattle.octets.specs.declared.Refusal.the-variants.{OctetsEnd, WrongMessageT
 use Rattle.octets.specs.declared.Span.{Span}
 use Rattle.octets.proofs.Places.{octet-read, span-there, start}
 use Rattle.address.specs.Address.{addressSize, canonicalAddress}
-use Rattle.address.specs.Internal.{fieldAt}
+use Rattle.address.specs.Internal.{addressSpan}
 use Rattle.layout.specs.Layout.{Format, any, address, field, one, cut, kept, messageType, Reached, reached, halted, readFrom, indicatorAt}
 use Rattle.layout.proofs.Steps.{message-goes-on, message-differs, message-ends, octet-goes-on, octet-ends, span-goes-on, span-ends, address-goes-on, address-ends, indicator-goes-on, indicator-ends, end-reached, end-not-reached, then-goes-on, then-ends, done-reached, address-inside}
 use Rattle.parameters.specs.Parameters.{Parameters, noParameters}
@@ -97,11 +97,11 @@ module _ (s : List ℕ) where
       no-reference d = sym (message-goes-on s start e 2 bits refl behindFirst m ∙ octet-ends s p d _)
 
       module _ {mr : ℕ} {p₂ : Place} (e₂ : octetAt s p ≡ Octet.Read mr p₂) where
-        pub no-address : fieldAt s p₂ ≡ Span.Ended → halted OctetsEnd ≡ readFrom line s 0
+        pub no-address : addressSpan s p₂ ≡ Span.Ended → halted OctetsEnd ≡ readFrom line s 0
         unfolding line
         no-address d = sym (message-goes-on s start e 2 bits refl behindFirst m ∙ octet-goes-on s p e₂ _ ∙ address-ends s p₂ d (behindAddress (kept bits b) mr))
 
-        pub to-address : {ra : ℕ} {q : Place} → fieldAt s p₂ ≡ Span.There ra q
+        pub to-address : {ra : ℕ} {q : Place} → addressSpan s p₂ ≡ Span.There ra q
             → (ra + addressSize (drop ra s) ≤ length s) × (q .at ≤ length s) × (readFrom (behindAddress (kept bits b) mr (canonicalAddress (cut address (drop ra s)))) s (q .at) ≡ readFrom line s 0)
         unfolding line
         to-address d =

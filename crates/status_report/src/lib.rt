@@ -86,7 +86,7 @@ fn message(data: &[u8], f: StatusReportFields) -> SmsStatusReport
     let pid = f.pid;
     let dcs = f.dcs;
     let udl = f.udl;
-    let recipient = SMSAddress::decode(data, f.address);
+    let recipient = address::address_at(data, f.address);
     let timestamp = time::time_at(data, f.timestamp);
     let discharge_time = time::time_at(data, f.discharge);
     let user_data = coding::data_with(&data[start..end]);

@@ -132,7 +132,7 @@ pub fn fields_of(data: &[u8]) -> StatusReportFound
     let Octet::Read(mr, place2) = place.octet(data) else {
         return StatusReportFound::Refused(Refusal::OctetsEnd);
     };
-    let Span::There(address, place3) = address::address_at(data, place2) else {
+    let Span::There(address, place3) = address::address_span(data, place2) else {
         return StatusReportFound::Refused(Refusal::OctetsEnd);
     };
     behind_address(data, first, mr, address, place3)

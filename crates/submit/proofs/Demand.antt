@@ -1,153 +1,208 @@
--- Demand 3 of SMS-SUBMIT.
+-- Demand 3 of SMS-SUBMIT, and that its writer looks at nothing that is no part of a record.
 -- Assumes nothing.
-use Prim.Native.Nat.{ℕ, _+_, _*_, _≤_, _<_}
-use mathlib.Core.Path.{_≡_, refl, sym, _∙_}
+use Prim.Native.Nat.{ℕ, zero, suc, _+_, _*_, _≤_, _<_}
+use mathlib.Core.Path.{_≡_, refl, sym, ap, _∙_}
 use mathlib.Core.Bool.{Bool, true, false, _||_}
-use mathlib.Core.List.{List, [], _∷_, _++_, append-nil}
-use mathlib.Core.Option.{Option, none, some}
+use mathlib.Core.List.{List, [], _∷_, _++_, append-nil, append-assoc}
 use native.Mathlib.Omega.{arith}
 use borrow.Author.Tests.{eqb-true, eq-eqb, le-leb, leb-true}
 use lib.Dec.{eqb, ltb}
-use lib.ListN.{length, getD, take, length-take}
+use lib.ListN.{length, take, length-take}
+use Rattle.octets.specs.Answers.{Said, gives}
 use Rattle.octets.specs.Arrays.{pad}
-use Rattle.octets.specs.Choice.{if_then_else_, flag}
-use Rattle.octets.specs.Checks.{Check, _unless_, checked}
+use Rattle.octets.specs.Checks.{checked}
+use Rattle.octets.specs.Choice.{if_then_else_, flag, lengthIf}
 use Rattle.octets.specs.Each.{Octets}
 use Rattle.octets.specs.Lent.{Making, refused, made}
-use Rattle.octets.specs.declared.Refusal.the-variants.{UserDataTooLong, AddressTooLong, WrongMessageType, ValidityFormatDisagrees, NotATime, NoDestination}
-use Rattle.octets.specs.declared.Written.{Written}
-use Rattle.octets.proofs.Laws.{take-pad}
-use Rattle.octets.proofs.Table.{below}
+use Rattle.octets.specs.declared.Refusal.the-variants.{LengthTooLarge, WrongMessageType, ValidityFormatDisagrees, NoDestination, UserDataTooLong, AddressTooLong, NotATime}
 use Rattle.octets.proofs.Checks.{check-holds, no-checks}
-use Rattle.coding.specs.Coding.{codingOf, dataOctets, dataWith, dataChecks}
-use Rattle.coding.proofs.Laws.{data-held, data-at-most, data-limit}
-use Rattle.time.specs.Time.{timeIn}
-use Rattle.address.specs.Writing.{addressOctets, octetsOr, addressChecks}
-use Rattle.address.specs.Address.{typeOfNumber, planOf, textIn, addressIn, addressWith, canonicalAddress}
-use Rattle.address.proofs.Laws.{Field as AddressField, canonical-reads, canonical-field, text-short, address-equal, read-checked}
+use Rattle.octets.proofs.Laws.{cleared-pad, take-cleared}
+use Rattle.octets.proofs.Table.{below}
+use Rattle.coding.specs.Coding.{codingOf, dataOctets, dataWith, clearedData}
+use Rattle.coding.proofs.Laws.{data-held, data-at-most, data-limit, data-cleared}
+use Rattle.coding.specs.declared.UserData.{UserData}
+use Rattle.time.specs.Time.{isTime, timeOctets, timeIn, digitsOf, clearedTime, TypedTime}
+use Rattle.time.specs.declared.Time.{Time}
+use Rattle.time.proofs.Laws.{time-cleared}
+use Rattle.address.specs.Address.{addressIn, addressWith, canonicalAddress, clearedAddress}
+use Rattle.address.specs.declared.SMSAddress.{SMSAddress}
+use Rattle.address.proofs.Laws.{address-cleared, canonical-reads, octets-again, length-short, read-checked, Field as AddressField}
 use Rattle.layout.specs.Demand.{Demand3}
-use Rattle.layout.specs.Layout.{octets, done, isSet, messageType, kept, reached, read, canonicalOf, unwritable}
+use Rattle.layout.specs.Layout.{isSet, messageType, kept, reached, read, canonicalOf, unwritable}
 use Rattle.layout.proofs.Demand.{Answers, Writes, demand3, answers-plain, answers-two}
-use Rattle.layout.proofs.Rewriting.{Told}
-use Rattle.layout.proofs.Makes.{Makes, makes-then}
+use Rattle.layout.proofs.Makes.{Makes}
+use Rattle.validity_period.specs.Validity.{periodIn, ofFormat, formatOf, isAbsolute, periodOctets, timeHolds}
+use Rattle.validity_period.specs.declared.ValidityPeriod.{ValidityPeriod}
+use Rattle.validity_period.proofs.Period.{digitsCount, Held, period-held}
 use Rattle.submit.specs.declared.SmsSubmit.{SmsSubmit}
-use Rattle.submit.specs.Line.{fieldsWith, formatIn, headerSize, inCount, bits, behindCoding, behindFirst, line as fields}
+use Rattle.submit.specs.Layout.{Fields, formatIn, headerSize, inCount, bits, fields}
+use Rattle.submit.specs.Submit.{readable, textWith, headerIn, submitted, format, submit, lengthsFit, firstOf, octetsOf, submitting, cleared, Typed}
 use Rattle.submit.proofs.FieldByField.{kept-whole}
-use Rattle.submit.specs.Submit.{textWith, submitted, line, submit, answer, unread, flagsOf, lengthsFit, submitting}
-use Rattle.submit.specs.Writing.{making}
-use Rattle.octets.specs.Choice.{lengthIf}
-use Rattle.validity_period.specs.Validity.{periodIn, ofFormat, periodOctets, timeHolds}
-use Rattle.submit.specs.Parts.{Destination, Parts, parts}
-use Rattle.validity_period.proofs.Period.{digitsCount, digitsBeside, Held, period-held}
+use Rattle.submit.proofs.CheckByCheck.{digits-counted, toData, toAddress, last, to-data}
 use Rattle.submit.proofs.Text.{readable-short}
-use Rattle.submit.proofs.RecordWritten.{by-parts}
 
--- the octets of the parts
-abbrev addressOf : Option Destination → List ℕ
-addressOf none = []
-addressOf (some d) = octetsOr [] (addressOctets (d .ton) (d .npi) (d .text))
+-- ---- what is no part of a record is not written
 
-abbrev octetsOf : Parts → List ℕ
-octetsOf p =
-    (flag (p .rp) 128 + flag (p .udhi) 64 + flag (p .srr) 32 + flag (p .rd) 4 + 8 * p .vpf + 1) ∷ p .mr
-    ∷ (addressOf (p .destination) ++ (p .pid ∷ p .dcs ∷ (periodOctets (p .period) (p .digits) (p .enhanced) ++ (p .udl ∷ p .ud))))
+-- the lengths that count
+destination-length : (there : Bool) (to : SMSAddress) → lengthIf there ((if there then clearedAddress to else addressWith 0 0 []) .«address_length») ≡ lengthIf there (to .«address_length»)
+destination-length true to = refl
+destination-length false to = refl
+
+digits-length : (absolute : Bool) (t : Time) → lengthIf absolute ((if absolute then clearedTime t else timeIn []) .length) ≡ lengthIf absolute (t .length)
+digits-length true t = refl
+digits-length false t = refl
+
+header-length : (headed : Bool) (d : UserData) → lengthIf headed ((if headed then clearedData d else dataWith []) .length) ≡ lengthIf headed (d .length)
+header-length true d = refl
+header-length false d = refl
+
+-- the period: its digits are looked at in the absolute format, its octets in the enhanced one
+period-same : (p : ValidityPeriod) (t : Time) (enhanced : List ℕ) → TypedTime t → (let digits = digitsOf (if isAbsolute p then clearedTime t else timeIn []) in
+    (timeHolds p digits ≡ timeHolds p (digitsOf t)) × (periodOctets p digits (if eqb (formatOf p) 1 then enhanced else pad 7 []) ≡ periodOctets p (digitsOf t) enhanced))
+period-same ValidityPeriod.None t enhanced n = (refl, refl)
+period-same (ValidityPeriod.Relative x) t enhanced n = (refl, refl)
+period-same ValidityPeriod.Absolute t enhanced n = let same = take-cleared 14 (t .length) (t .digits) n in (ap isTime same, ap timeOctets same)
+period-same ValidityPeriod.Enhanced t enhanced n = (refl, refl)
+
+-- a record without destination: its lengths, type and format decide
+unsent : (r : SmsSubmit) → r .«has_destination_address» ≡ false → submitting r
+    ≡ (if lengthsFit r then if eqb (r .«tp_mti») 1 then if eqb (r .«tp_vpf») (formatOf (r .«tp_validity_period»)) then refused NoDestination else refused ValidityFormatDisagrees else refused WrongMessageType else refused LengthTooLarge)
+unfolding submitting checked
+unsent r e = rw e
+
+module _ (r : SmsSubmit) (typed : Typed r) where
+  lengths-same : lengthsFit (cleared r) ≡ lengthsFit r
+  lengths-same =
+      rw (
+        destination-length (r .«has_destination_address») (r .«tp_destination_address»),
+        digits-length (isAbsolute (r .«tp_validity_period»)) (r .«validity_period_digits»),
+        header-length (r .«has_user_data_header») (r .«tp_user_data_header»),
+      )
+
+  of-cleared : submitting (cleared r) ≡ submitting r
+  unfolding submitting
+  of-cleared = by (r .«has_destination_address») refl
+    where
+      by : (b : Bool) → r .«has_destination_address» ≡ b → submitting (cleared r) ≡ submitting r
+      by true e =
+          let (time, octets) = period-same (r .«tp_validity_period») (r .«validity_period_digits») (r .«validity_period_octets») (typed .1) in
+          rw (
+            lengths-same,
+            time,
+            octets,
+            e,
+            take-cleared 290 (r .«tp_destination_address» .«address_length») (r .«tp_destination_address» .address) (typed .0),
+            take-cleared 255 (r .«tp_user_data_raw» .length) (r .«tp_user_data_raw» .octets) (typed .3),
+          )
+      by false e = unsent (cleared r) e ∙ rw lengths-same (sym (unsent r e))
+
+-- equal records are written alike
+pub written-alike : (r q : SmsSubmit) → Typed r → Typed q → cleared r ≡ cleared q → submitting r ≡ submitting q
+written-alike r q f g e = sym (of-cleared r f) ∙ ap submitting e ∙ of-cleared q g
+
+-- ---- a record that was made of fields is cleared
+
+period-cleared : (v : ℕ) (vp : List ℕ) → v < 4 → ((if isAbsolute (periodIn v vp) then clearedTime (timeIn (ofFormat 3 v vp)) else timeIn []) ≡ timeIn (ofFormat 3 v vp))
+    × ((if eqb (formatOf (periodIn v vp)) 1 then pad 7 (ofFormat 1 v vp) else pad 7 []) ≡ pad 7 (ofFormat 1 v vp))
+unfolding periodIn
+period-cleared zero vp l = (refl, refl)
+period-cleared (suc zero) vp l = (refl, refl)
+period-cleared (suc (suc zero)) vp l = (refl, refl)
+period-cleared (suc (suc (suc zero))) vp l = (time-cleared vp, refl)
+period-cleared (suc (suc (suc (suc v)))) vp l = absurd (omega arith)
+
+header-cleared : (udhi : Bool) (ud : List ℕ) → (let header = dataWith (take (headerSize udhi ud) ud) in (if udhi then clearedData header else dataWith []) ≡ header)
+unfolding headerSize
+header-cleared true ud = data-cleared (take (headerSize true ud) ud)
+header-cleared false ud = refl
+
+pub made-cleared : (x : Fields) → cleared (submitted x) ≡ submitted x
+unfolding submitted textWith
+made-cleared x =
+    let (digits, enhanced) = period-cleared (formatIn (x .first)) (x .vp) (omega arith) in
+    rw (address-cleared (x .da), digits, enhanced, data-cleared (x .ud), header-cleared (isSet 6 (x .first)) (x .ud), cleared-pad 510 (readable (codingOf (x .dcs)) (x .udl) (headerIn x) (x .ud)))
+
+-- ---- a record that was read: its octets, and how its checks fare
 
 -- a first octet with MTI 1 is written as it was
-abbrev firstOf : ℕ → ℕ
-firstOf f = flag (isSet 7 f) 128 + flag (isSet 6 f) 64 + flag (isSet 5 f) 32 + flag (isSet 2 f) 4 + 8 * formatIn f + 1
+first-back : (x : Fields) → x .first < 256 → messageType (x .first) ≡ 1 → firstOf (submitted x) ≡ x .first
+unfolding submitted
+first-back x h m =
+    eqb-true _ _ (rw (eq-eqb _ _ m) at (below (λ f. if eqb (messageType f) 1 then eqb (flag (isSet 7 f) 128 + flag (isSet 6 f) 64 + flag (isSet 5 f) 32 + flag (isSet 2 f) 4 + 8 * formatIn f + 1) f else true) 256 refl (x .first) h))
 
-first-back : (f : ℕ) → f < 256 → messageType f ≡ 1 → firstOf f ≡ f
-first-back f h m = eqb-true _ _ (rw (eq-eqb _ _ m) at (below (λ y. if eqb (messageType y) 1 then eqb (firstOf y) y else true) 256 refl f h))
-
--- the canonical octets of an address are their own
-canonical-twice : (f : List ℕ) → AddressField f → canonicalAddress (canonicalAddress f) ≡ canonicalAddress f
-canonical-twice f w = address-equal (canonicalAddress f) f (canonical-field f w) w .0 (canonical-reads f w)
-
-module _ (f : ℕ) (small : f < 256) (mti : messageType f ≡ 1) (mr : ℕ) (da : List ℕ) (whole : AddressField da) (own : canonicalAddress da ≡ da) (pid dcs : ℕ) (vp : List ℕ) (held : Held (formatIn f) vp)
-    (udl : ℕ) (few : udl < 256) (ud : List ℕ) (size : dataOctets (codingOf dcs) udl ≡ length ud) (h : ℕ) (fits : h ≤ length ud) (counted : inCount (codingOf dcs) udl h ≡ true) where
+module _ (x : Fields) (small : x .first < 256) (mti : messageType (x .first) ≡ 1) (a : List ℕ) (wa : AddressField a) (da : x .da ≡ canonicalAddress a) (held : Held (formatIn (x .first)) (x .vp))
+    (few : x .udl < 256) (size : dataOctets (codingOf (x .dcs)) (x .udl) ≡ length (x .ud)) (fits : headerIn x ≤ length (x .ud)) (counted : inCount (codingOf (x .dcs)) (x .udl) (headerIn x) ≡ true) where
   abbrev sent : SmsSubmit
-  sent = submitted (fieldsWith f mr da pid dcs vp udl ud h)
+  sent = submitted x
 
   abbrev string : List ℕ
-  string = f ∷ mr ∷ (da ++ (pid ∷ dcs ∷ (vp ++ (udl ∷ ud))))
+  string = x .first ∷ x .mr ∷ x .da ++ x .pid ∷ x .dcs ∷ x .vp ++ x .udl ∷ x .ud
 
-  at-most : length ud ≤ 255
-  at-most = omega (arith, data-at-most (codingOf dcs) udl)
+  its-address : addressIn (x .da) ≡ addressIn a
+  its-address = ap addressIn da ∙ canonical-reads a wa
 
-  part-octets : octetsOf (parts sent) ≡ string
-  unfolding submitted addressIn addressWith canonicalAddress
-  part-octets = rw (first-back f small mti, take-pad 290 (textIn da), held .counted, data-held ud, own)
+  -- the digits count only in the absolute format
+  its-digits : let t = timeIn (ofFormat 3 (formatIn (x .first)) (x .vp)) in
+      (timeHolds (periodIn (formatIn (x .first)) (x .vp)) (digitsOf t) ≡ true) × (periodOctets (periodIn (formatIn (x .first)) (x .vp)) (digitsOf t) (pad 7 (ofFormat 1 (formatIn (x .first)) (x .vp))) ≡ x .vp)
+  its-digits =
+      let t = timeIn (ofFormat 3 (formatIn (x .first)) (x .vp)) in
+      let (holds, octets) = digits-counted (periodIn (formatIn (x .first)) (x .vp)) (t .length) (t .digits) (pad 7 (ofFormat 1 (formatIn (x .first)) (x .vp))) in
+      (sym holds ∙ held .time, sym octets ∙ held .octets)
 
-  header-few : (b : Bool) → lengthIf b (length (take h ud)) ≤ 255
+  its-octets : octetsOf sent ≡ string
+  unfolding submitted
+  its-octets = rw (its-address, octets-again a wa, first-back x small mti, its-digits .1, data-held (x .ud), da)
+
+  at-most : length (x .ud) ≤ 255
+  at-most = omega (arith, data-at-most (codingOf (x .dcs)) (x .udl))
+
+  header-few : (b : Bool) → lengthIf b (length (take (headerIn x) (x .ud))) ≤ 255
   header-few true = rw length-take (omega (arith, at-most))
   header-few false = omega arith
 
   all-fit : lengthsFit sent ≡ true
-  unfolding submitted addressIn addressWith dataWith textWith timeIn
+  unfolding submitted dataWith textWith timeIn
   all-fit =
       rw (
-        le-leb _ 290 (text-short da whole),
-        le-leb (digitsCount (formatIn f) vp) 14 (held .few),
-        le-leb (length ud) 255 at-most,
-        le-leb _ 255 (header-few (isSet 6 f)),
-        le-leb _ 510 (readable-short (codingOf dcs) udl h ud (omega arith) fits counted (sym size)),
+        its-address,
+        le-leb _ 290 (length-short a wa),
+        le-leb (digitsCount (formatIn (x .first)) (x .vp)) 14 (held .few),
+        le-leb (length (x .ud)) 255 at-most,
+        le-leb _ 255 (header-few (isSet 6 (x .first))),
+        le-leb _ 510 (readable-short (codingOf (x .dcs)) (x .udl) (headerIn x) (x .ud) (omega arith) fits counted (sym size)),
       )
 
-  -- what the writer makes of it
-  abbrev checks : Making Written
-  checks =
-      making (flagsOf sent) (messageType f) (formatIn f) mr true (typeOfNumber (getD da 1 0)) (planOf (getD da 1 0)) (textIn da) pid dcs (periodIn (formatIn f) vp) (digitsBeside (formatIn f) vp)
-      (pad 7 (ofFormat 1 (formatIn f) vp)) udl ud
-
-  by-checks : submitting sent ≡ checks
-  unfolding submitted addressIn addressWith
-  by-checks = by-parts sent all-fit ∙ rw (take-pad 290 (textIn da), data-held ud)
-
   -- what its checks come to
-  abbrev answered : List ℕ → Making Written
-  answered xs = if ltb 140 (length ud) then refused UserDataTooLong else if ltb 12 (length da) then refused AddressTooLong else made xs (Written.Done (length xs))
+  abbrev answered : List ℕ → Making (Said ℕ)
+  answered xs = if ltb 140 (length (x .ud)) then refused UserDataTooLong else if ltb 12 (length (x .da)) then refused AddressTooLong else made xs (gives (length xs))
 
-  last : List Check
-  last = (NotATime unless timeHolds (periodIn (formatIn f) vp) (digitsBeside (formatIn f) vp)) ∷ []
-
-  its-checks : (xs : List ℕ) → checked (dataChecks dcs udl (length ud) ++ (addressChecks (typeOfNumber (getD da 1 0)) (planOf (getD da 1 0)) (textIn da) ++ last)) xs ≡ answered xs
-  unfolding addressIn addressWith last
+  its-checks : (xs : List ℕ) → checked (toData sent) xs ≡ answered xs
+  unfolding submitted
   its-checks xs =
-      let a = rw (take-pad 290 (textIn da), own) at (read-checked da whole last xs) in
-      data-limit dcs udl (length ud) size _ xs ∙ rw (a, check-holds (held .time) NotATime [] xs, no-checks)
+      rw (data-held (x .ud))
+      (data-limit (x .dcs) (x .udl) (length (x .ud)) size (toAddress sent) xs ∙ rw (its-address, read-checked a wa (last sent) xs, da, check-holds (its-digits .0) NotATime [] xs, no-checks))
 
   its-making : submitting sent ≡ answered string
-  unfolding making canonicalAddress submitted last
-  its-making =
-      by-checks ∙ check-holds (eq-eqb _ _ mti) WrongMessageType _ _ ∙ check-holds (eq-eqb _ _ (sym (held .format))) ValidityFormatDisagrees _ _ ∙ check-holds refl NoDestination _ _ ∙ its-checks _
-      ∙ rw (first-back f small mti, held .octets, own)
+  unfolding submitted
+  its-making = to-data sent all-fit mti (sym (held .format)) refl ∙ its-checks (octetsOf sent) ∙ ap answered its-octets
 
-  answers : Answers (submitting sent) string (ltb 12 (length da) || (ltb 140 (length ud) || false))
-  answers = rw its-making (answers-two (ltb 12 (length da)) (ltb 140 (length ud)) AddressTooLong UserDataTooLong string string refl)
-
-fields-make : Makes (λ x cs. Writes parts submitting octetsOf (submitted x) cs) fields
-unfolding fields behindFirst behindCoding
-fields-make x lx m mr lmr a wa pid lpid dcs ldcs vp ovp nvp udl ludl ud oud nud fits counted =
+submit-makes : Makes (Writes cleared submitting octetsOf) format
+unfolding format fields
+submit-makes x lx m mr lmr a wa pid lpid dcs ldcs vp ovp nvp udl ludl ud oud nud fits counted =
     let f = kept bits x in
     let small : f < 256 = omega (arith, kept-whole x lx) in
     let mti : messageType f ≡ 1 = eqb-true _ _ m in
     let held = period-held (formatIn f) vp (omega arith) nvp ovp in
+    let found : Fields = record { first = f; mr = mr; da = canonicalAddress a; pid = pid; dcs = dcs; vp = vp; udl = udl; ud = ud } in
     record {
-      octets = rw append-nil (part-octets f small mti mr (canonicalAddress a) (canonical-field a wa) (canonical-twice a wa) pid dcs vp held udl ludl ud nud (headerSize (isSet 6 f) ud) (leb-true _ _ fits) counted);
-      answer = rw append-nil (answers f small mti mr (canonicalAddress a) (canonical-field a wa) (canonical-twice a wa) pid dcs vp held udl ludl ud nud (headerSize (isSet 6 f) ud) (leb-true _ _ fits) counted);
+      octets = ap octetsOf (made-cleared found) ∙ its-octets found small mti a wa refl held ludl nud (leb-true _ _ fits) counted ∙ rw (append-nil, append-assoc);
+      answer = rw (its-making found small mti a wa refl held ludl nud (leb-true _ _ fits) counted) (answers-two (ltb 12 (length (canonicalAddress a))) (ltb 140 (length ud)) AddressTooLong UserDataTooLong _ _ (rw (append-nil, append-assoc)));
     }
 
-submit-writes : Makes (Writes parts submitting octetsOf) line
-unfolding line
-submit-writes = makes-then (λ x cs. Writes parts submitting octetsOf (submitted x) cs) (Writes parts submitting octetsOf) fields (λ x. done (submitted x)) fields-make λ x cs w. rw append-nil w
-
-pub submit-demand3 : Demand3 parts submit submitting false
-submit-demand3 = demand3 parts submitting octetsOf line submit-writes
+-- demand 3 of SUBMIT
+pub submit-demand3 : Demand3 cleared submit submitting false
+submit-demand3 = demand3 cleared submitting octetsOf format submit-makes
 
 -- what the writer makes of a record that was read, whatever the buffer
 pub submit-answers : (s : List ℕ) → Octets s → (r : SmsSubmit) (n : ℕ) → read submit s ≡ reached r n → Answers (submitting r) (canonicalOf submit s) (unwritable submit false s)
-submit-answers = answers-plain parts submitting octetsOf line submit-writes
-
-pub told : Told answer (λ m. m .outcome) (λ m. m .message)
-unfolding answer unread
-told = record { when-done = λ r n. (refl, refl); when-halted = λ why. refl }
+submit-answers = answers-plain cleared submitting octetsOf format submit-makes

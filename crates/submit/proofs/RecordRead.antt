@@ -1,15 +1,15 @@
 -- The answer by the fields that were found, and the record of fields that are there.
 -- Assumes nothing.
 use Prim.Native.Nat.{ℕ, _+_, _-_, _/_, _%_, _≤_}
-use mathlib.Core.Path.{_≡_, sym}
+use mathlib.Core.Path.{_≡_, refl, sym}
 use mathlib.Core.Bool.{true}
 use mathlib.Core.List.{List}
 use native.Mathlib.Omega.{arith}
 use lib.Dec.{eqb}
 use lib.ListN.{length, take, drop}
+use Rattle.octets.specs.Answers.{Said, refuses, fine}
 use Rattle.octets.specs.Arrays.{pad}
 use Rattle.octets.specs.Each.{Octets}
-use Rattle.octets.specs.declared.Outcome.{Outcome}
 use Rattle.octets.specs.declared.Refusal.{Refusal}
 use Rattle.octets.proofs.Laws.{part-is, part-size}
 use Rattle.coding.specs.Coding.{codingOf, dataWith}
@@ -18,44 +18,45 @@ use Rattle.time.specs.Time.{timeIn}
 use Rattle.time.specs.declared.Time.{Time}
 use Rattle.address.specs.Address.{addressIn, addressSize}
 use Rattle.address.specs.declared.SMSAddress.{SMSAddress}
-use Rattle.layout.specs.Layout.{done, read, readFrom}
+use Rattle.layout.specs.Layout.{done, read, readFrom, answer}
 use Rattle.layout.proofs.Fields.{address-there}
 use Rattle.layout.proofs.Steps.{done-reached, then-goes-on, then-ends}
 use Rattle.validity_period.specs.Validity.{periodIn, ofFormat}
 use Rattle.validity_period.specs.declared.ValidityPeriod.{ValidityPeriod}
-use Rattle.submit.specs.Line.{formatIn, line as fields, fieldsAt, told, Inside}
+use Rattle.submit.specs.Layout.{formatIn, fields}
+use Rattle.submit.specs.Internal.{fieldsAt, foundSays, Inside}
 use Rattle.submit.specs.declared.reading.SubmitFields.{SubmitFields}
 use Rattle.submit.specs.declared.reading.SubmitFound.{SubmitFound}
 use Rattle.submit.specs.declared.SmsSubmit.{SmsSubmit}
-use Rattle.submit.specs.declared.SubmitRead.{SubmitRead}
 use Rattle.submit.specs.declared.SubmitText.{SubmitText}
-use Rattle.submit.specs.Submit.{readable, textWith, submitted, line, submit, answer, unread}
+use Rattle.submit.specs.Submit.{readable, textWith, submitted, format, submit, blank, octetsTaken}
 
 -- ---- the answer
 
 -- what fields that were found, or a refusal, come to
-pub answer-refused : (s : List ℕ) (why : Refusal) → told s (SubmitFound.Refused why) ≡ readFrom fields s 0 → unread why ≡ answer (read submit s)
-unfolding answer read line
-answer-refused s why e = rw (then-ends s fields 0 (sym e) (λ x. done (submitted x)))
+pub answer-refused : (s : List ℕ) (why : Refusal) (r : SmsSubmit) → foundSays s (SubmitFound.Refused why) ≡ readFrom fields s 0 → r ≡ blank
+    → _≡_ {A = Said Unit × SmsSubmit} (refuses why, r) (answer blank (read submit s)) × (0 ≡ octetsTaken (read submit s))
+unfolding read format
+answer-refused s why r e is = rw (then-ends s fields 0 (sym e) (λ x. done (submitted x)), is) (refl, refl)
 
-pub answer-done : (s : List ℕ) (f : SubmitFields) (r : SmsSubmit) → told s (SubmitFound.Whole f) ≡ readFrom fields s 0 → r ≡ submitted (fieldsAt s f)
-    → _≡_ {A = SubmitRead} (record { outcome = Outcome.Done; message = r; «octets_read» = f .«data» + f .octets }) (answer (read submit s))
-unfolding answer read line
-answer-done s f r e is = rw (then-goes-on s fields 0 (sym e) (λ x. done (submitted x)), done-reached, is)
+pub answer-done : (s : List ℕ) (f : SubmitFields) (r : SmsSubmit) → foundSays s (SubmitFound.Whole f) ≡ readFrom fields s 0 → r ≡ submitted (fieldsAt s f)
+    → _≡_ {A = Said Unit × SmsSubmit} (fine, r) (answer blank (read submit s)) × (f .«data» + f .octets ≡ octetsTaken (read submit s))
+unfolding read format
+answer-done s f r e is = rw (then-goes-on s fields 0 (sym e) (λ x. done (submitted x)), done-reached, is) (refl, refl)
 
 -- ---- the record
 
--- a part of a string, as the code cuts it out
-abbrev part : ℕ → ℕ → List ℕ → List ℕ
-part a n s = take (a + n - a) (drop a s)
+-- a stretch of a string, as the code cuts it out
+abbrev stretch : ℕ → ℕ → List ℕ → List ℕ
+stretch a n s = take (a + n - a) (drop a s)
 
 -- the user data are as long as they were found to be, so they and their header have room in the record
-pub data-room : (s : List ℕ) (f : SubmitFields) → Inside s (SubmitFound.Whole f) → (let ud = part (f .«data») (f .octets) s in (length ud ≡ f .octets) × (length ud ≤ 255) × (f .header ≤ length ud))
+pub data-room : (s : List ℕ) (f : SubmitFields) → Inside s (SubmitFound.Whole f) → (let ud = stretch (f .«data») (f .octets) s in (length ud ≡ f .octets) × (length ud ≤ 255) × (f .header ≤ length ud))
 data-room s f inside =
-    let size : length (part (f .«data») (f .octets) s) ≡ f .octets = rw (part-is (f .«data») (f .octets) s) (part-size (f .«data») (f .octets) s (inside .3)) in
-    (size, omega (arith, size, inside .4), omega (arith, size, inside .6))
+    let size : length (stretch (f .«data») (f .octets) s) ≡ f .octets = rw (part-is (f .«data») (f .octets) s) (part-size (f .«data») (f .octets) s (inside .3)) in
+    (size, omega (arith, size, inside .4), omega (arith, size, inside .7))
 
-pub message-is : (s : List ℕ) → Octets s → (f : SubmitFields) → Inside s (SubmitFound.Whole f) → (let format = formatIn (f .first) in let vp = part (f .validity) (f .«validity_octets») s in let ud = part (f .«data») (f .octets) s in
+pub message-is : (s : List ℕ) → Octets s → (f : SubmitFields) → Inside s (SubmitFound.Whole f) → (let format = formatIn (f .first) in let vp = stretch (f .validity) (f .«validity_octets») s in let ud = stretch (f .«data») (f .octets) s in
     (a : SMSAddress) → a ≡ addressIn (take (addressSize (drop (f .address) s)) (drop (f .address) s)) → (period : ValidityPeriod) → period ≡ periodIn format vp → (t : Time) → t ≡ timeIn (ofFormat 3 format vp)
     → (enhanced : List ℕ) → enhanced ≡ pad 7 (ofFormat 1 format vp) → (raw : UserData) → raw ≡ dataWith ud → (header : UserData) → header ≡ dataWith (take (f .header) ud)
     → (text : SubmitText) → text ≡ textWith (readable (codingOf (f .dcs)) (f .udl) (f .header) ud)
@@ -94,4 +95,5 @@ message-is s o f inside a ea period ep t et enhanced en raw er header eh text ex
       ex,
       part-is (f .validity) (f .«validity_octets») s,
       part-is (f .«data») (f .octets) s,
+      ← inside .6,
     )

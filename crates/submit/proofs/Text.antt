@@ -1,4 +1,4 @@
--- The text behind a header of h octets, which is counted with it.
+-- The text after a header of h octets, which is counted with it.
 -- Assumes nothing.
 use Prim.Native.Nat.{ℕ, _+_, _-_, _*_, _/_, _≤_}
 use mathlib.Core.Path.{_≡_, ap, _∙_}
@@ -18,7 +18,7 @@ use Rattle.gsm7.specs.declared.decode.Unpacked.{Unpacked}
 use Rattle.gsm7.specs.Reading.{textOf, unpacked, shown}
 use Rattle.gsm7.proofs.Reading.{unpacked-done}
 use Rattle.gsm7.proofs.DecodingLaws.{text-short}
-use Rattle.submit.specs.Line.{inCount}
+use Rattle.submit.specs.Layout.{inCount}
 use Rattle.submit.specs.Submit.{readable}
 
 module _ (os : List ℕ) (h n : ℕ) (whole : h ≤ length os) (counted : headerSeptets h ≤ n) (few : n ≤ 255) (size : length os ≡ (n * 7 + 7) / 8) where

@@ -1,4 +1,3 @@
-pub mod Writing
-pub mod Line
+pub mod Layout
+pub mod Internal
 pub mod Submit
-pub mod Parts

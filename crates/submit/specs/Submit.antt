@@ -1,35 +1,37 @@
--- SMS-SUBMIT (TS 23.040 §9.2.2.2): the record of its line's fields, its reader's answer, and what its writer makes.
-use Prim.Native.Nat.{ℕ, _+_, _-_}
+-- SMS-SUBMIT (TS 23.040 §9.2.2.2): the record that its fields make, what its writer makes of a record, and what is no part of one.
+use Prim.Native.Nat.{ℕ, _+_, _-_, _*_}
+use mathlib.Core.Path.{_≡_}
 use mathlib.Core.Bool.{Bool, true, false, _&&_}
-use mathlib.Core.List.{List, [], _++_}
-use lib.Dec.{leb}
+use mathlib.Core.List.{List, [], _∷_, _++_}
+use lib.Dec.{eqb, leb}
 use lib.ListN.{length, take, drop}
-use Rattle.octets.specs.Arrays.{pad}
+use Rattle.octets.specs.Answers.{Said}
+use Rattle.octets.specs.Arrays.{pad, clearedArray}
+use Rattle.octets.specs.Checks.{_unless_, found, checked}
 use Rattle.octets.specs.Choice.{if_then_else_, flag, lengthIf}
-use Rattle.octets.specs.Lent.{Making, refused}
-use Rattle.octets.specs.declared.Outcome.{Outcome}
-use Rattle.octets.specs.declared.Refusal.{Refusal}
-use Rattle.octets.specs.declared.Refusal.the-variants.{LengthTooLarge}
-use Rattle.octets.specs.declared.Written.{Written}
-use Rattle.coding.specs.Coding.{codingOf, dataWith, dataOf}
+use Rattle.octets.specs.Lent.{Making}
+use Rattle.octets.specs.declared.Refusal.the-variants.{LengthTooLarge, WrongMessageType, ValidityFormatDisagrees, NoDestination, NotATime, HeaderNotWhole, HeaderPassesCount}
+use Rattle.coding.specs.Coding.{codingOf, dataChecks, dataWith, dataOf, clearedData, TypedData}
+use Rattle.coding.specs.declared.UserData.{UserData}
 use Rattle.coding.specs.declared.UserDataCoding.{UserDataCoding}
 use Rattle.coding.specs.declared.UserDataCoding.the-variants.{Gsm7Bit, EightBit, Ucs2, Compressed}
 use Rattle.septets.specs.Septets.{septetsIn, headerSeptets, fillBits}
 use Rattle.gsm7.specs.Reading.{textOf}
-use Rattle.time.specs.Time.{timeIn}
-use Rattle.address.specs.Address.{addressIn, addressWith}
+use Rattle.time.specs.Time.{timeIn, digitsOf, clearedTime, capitalTime, TypedTime}
+use Rattle.time.specs.declared.Time.{Time}
+use Rattle.address.specs.Address.{addressIn, addressWith, textHeld, clearedAddress, TypedAddress}
+use Rattle.address.specs.Writing.{addressOctets, octetsOr, addressChecks}
+use Rattle.address.specs.declared.SMSAddress.{SMSAddress}
 use Rattle.layout.specs.Layout.{Format, Layout, plain, Reached, reached, halted, done, _then_, isSet, messageType}
-use Rattle.validity_period.specs.Validity.{periodIn, ofFormat, isAbsolute}
+use Rattle.validity_period.specs.Validity.{periodIn, ofFormat, formatOf, isAbsolute, periodOctets, timeHolds}
 use Rattle.validity_period.specs.declared.ValidityPeriod.{ValidityPeriod}
-use Rattle.submit.specs.Line.{Fields, formatIn, line as fields}
-use Rattle.submit.specs.Writing.{making}
+use Rattle.submit.specs.Layout.{Fields, formatIn, headerSize, inCount, fields}
 use Rattle.submit.specs.declared.SmsSubmit.{SmsSubmit}
-use Rattle.submit.specs.declared.SubmitRead.{SubmitRead}
 use Rattle.submit.specs.declared.SubmitText.{SubmitText}
 
--- ---- the readable form of user data (§9.2.3.24)
+-- ---- reading
 
--- the readable form: in 7-bit coding the header's h octets and then the text, in other codings the data
+-- user data in readable form: in 7-bit coding the h octets of the header and then the text, in other codings the data
 unfoldable pub readable : UserDataCoding → ℕ → ℕ → List ℕ → List ℕ
 readable Gsm7Bit udl h ud = take h ud ++ textOf (septetsIn (drop h ud) (fillBits h) (udl - headerSeptets h))
 readable EightBit udl h ud = ud
@@ -39,9 +41,11 @@ readable Compressed udl h ud = ud
 unfoldable pub textWith : List ℕ → SubmitText
 textWith xs = record { octets = pad 510 xs; length = length xs }
 
--- ---- reading
+-- the octets of the header
+abbrev pub headerIn : Fields → ℕ
+headerIn x = headerSize (isSet 6 (x .first)) (x .ud)
 
--- the record that the fields make
+-- the record that the fields make. An address is made from its canonical octets, since these are what a layout gives: they are read as the field itself is (law `canonical-reads` of crate address)
 unfoldable pub submitted : Fields → SmsSubmit
 submitted x = record {
   «tp_rp» = isSet 7 (x .first);
@@ -61,16 +65,16 @@ submitted x = record {
   «tp_user_data_length» = x .udl;
   «tp_user_data_raw» = dataWith (x .ud);
   «has_user_data_header» = isSet 6 (x .first);
-  «tp_user_data_header» = dataWith (take (x .header) (x .ud));
-  «tp_user_data» = textWith (readable (codingOf (x .dcs)) (x .udl) (x .header) (x .ud));
+  «tp_user_data_header» = dataWith (take (headerIn x) (x .ud));
+  «tp_user_data» = textWith (readable (codingOf (x .dcs)) (x .udl) (headerIn x) (x .ud));
 }
 
--- the line of fields (submit/specs/Line.antt), and the record
-unfoldable pub line : Format SmsSubmit
-line = fields then λ x. done (submitted x)
+-- the layout of fields, and the record
+unfoldable pub format : Format SmsSubmit
+format = fields then λ x. done (submitted x)
 
 abbrev pub submit : Layout SmsSubmit
-submit = plain line
+submit = plain format
 
 -- the blank record
 unfoldable pub blank : SmsSubmit
@@ -96,19 +100,12 @@ blank = record {
   «tp_user_data» = textWith [];
 }
 
-unfoldable pub unread : Refusal → SubmitRead
-unread r = record { outcome = Outcome.Refused r; message = blank; «octets_read» = 0 }
-
--- what the reader answers: the record, and how many octets it took
-unfoldable pub answer : Reached SmsSubmit → SubmitRead
-answer (reached r n) = record { outcome = Outcome.Done; message = r; «octets_read» = n }
-answer (halted why) = unread why
+-- how many octets were read, 0 on a refusal
+abbrev pub octetsTaken : {R : Type 0} → Reached R → ℕ
+octetsTaken (reached r at) = at
+octetsTaken (halted why) = 0
 
 -- ---- writing
-
--- RP bit 7, UDHI 6, SRR 5, RD 2
-abbrev pub flagsOf : SmsSubmit → ℕ
-flagsOf r = flag (r .«tp_rp») 128 + flag (r .«tp_udhi») 64 + flag (r .«tp_srr») 32 + flag (r .«tp_rd») 4
 
 -- the lengths that count: of the destination and the header if they are there, of the digits in the absolute format, of data and text
 abbrev pub addressLength : SmsSubmit → ℕ
@@ -125,11 +122,86 @@ abbrev pub lengthsFit : SmsSubmit → Bool
 lengthsFit r =
     leb (addressLength r) 290 && (leb (digitsLength r) 14 && (leb (r .«tp_user_data_raw» .length) 255 && (leb (headerLength r) 255 && leb (r .«tp_user_data» .length) 510)))
 
+-- the first octet: RP bit 7, UDHI 6, SRR 5, VPF 4 and 3, RD 2, and MTI 1
+abbrev pub firstOf : SmsSubmit → ℕ
+firstOf r = flag (r .«tp_rp») 128 + flag (r .«tp_udhi») 64 + flag (r .«tp_srr») 32 + flag (r .«tp_rd») 4 + 8 * r .«tp_vpf» + 1
+
+-- the octets of a record, in the layout's order: header and text are not written
+abbrev pub octetsOf : SmsSubmit → List ℕ
+octetsOf r =
+    let to = r .«tp_destination_address» in
+    firstOf r ∷ r .«tp_mr» ∷ octetsOr [] (addressOctets (to .ton) (to .npi) (textHeld to)) ++ r .«tp_pid» ∷ r .«tp_dcs»
+    ∷ periodOctets (r .«tp_validity_period») (digitsOf (r .«validity_period_digits»)) (r .«validity_period_octets») ++ r .«tp_user_data_length» ∷ dataOf (r .«tp_user_data_raw»)
+
 -- what the writer makes of a record
-unfoldable pub submitting : SmsSubmit → Making Written
+unfoldable pub submitting : SmsSubmit → Making (Said ℕ)
 submitting r =
-    if lengthsFit r then
-    making (flagsOf r) (r .«tp_mti») (r .«tp_vpf») (r .«tp_mr») (r .«has_destination_address») (r .«tp_destination_address» .ton) (r .«tp_destination_address» .npi)
-    (take (addressLength r) (r .«tp_destination_address» .address)) (r .«tp_pid») (r .«tp_dcs») (r .«tp_validity_period») (take (digitsLength r) (r .«validity_period_digits» .digits))
-    (r .«validity_period_octets») (r .«tp_user_data_length») (dataOf (r .«tp_user_data_raw»))
-    else refused LengthTooLarge
+    let to = r .«tp_destination_address» in
+    checked
+    ((LengthTooLarge unless lengthsFit r) ∷ (WrongMessageType unless eqb (r .«tp_mti») 1) ∷ (ValidityFormatDisagrees unless eqb (r .«tp_vpf») (formatOf (r .«tp_validity_period»))) ∷ (NoDestination unless r .«has_destination_address»)
+    ∷ dataChecks (r .«tp_dcs») (r .«tp_user_data_length») (length (dataOf (r .«tp_user_data_raw»))) ++ addressChecks (to .ton) (to .npi) (textHeld to)
+    ++ (NotATime unless timeHolds (r .«tp_validity_period») (digitsOf (r .«validity_period_digits»))) ∷ [])
+    (octetsOf r)
+
+-- what the reader says of the header in the data that a record holds: 17 where it doesn't fit the data, 18 where it doesn't fit the count. The writer doesn't look at it (document 01, demand 2's exception)
+unfoldable pub headerAnswer : SmsSubmit → Said Unit
+headerAnswer r =
+    let ud = dataOf (r .«tp_user_data_raw») in
+    let h = headerSize (r .«tp_udhi») ud in
+    found ((HeaderNotWhole unless leb h (length ud)) ∷ (HeaderPassesCount unless inCount (codingOf (r .«tp_dcs»)) (r .«tp_user_data_length») h) ∷ [])
+
+-- ---- what is no part of a record
+
+-- the same record with another destination, other digits and octets of validity, other user data, header and text
+abbrev pub changed : SmsSubmit → SMSAddress → Time → List ℕ → UserData → Bool → UserData → SubmitText → SmsSubmit
+changed r to digits enhanced raw headed header text = record {
+  «tp_rp» = r .«tp_rp»;
+  «tp_udhi» = r .«tp_udhi»;
+  «tp_srr» = r .«tp_srr»;
+  «tp_mti» = r .«tp_mti»;
+  «tp_rd» = r .«tp_rd»;
+  «tp_vpf» = r .«tp_vpf»;
+  «tp_mr» = r .«tp_mr»;
+  «has_destination_address» = r .«has_destination_address»;
+  «tp_destination_address» = to;
+  «tp_pid» = r .«tp_pid»;
+  «tp_dcs» = r .«tp_dcs»;
+  «tp_validity_period» = r .«tp_validity_period»;
+  «validity_period_digits» = digits;
+  «validity_period_octets» = enhanced;
+  «tp_user_data_length» = r .«tp_user_data_length»;
+  «tp_user_data_raw» = raw;
+  «has_user_data_header» = headed;
+  «tp_user_data_header» = header;
+  «tp_user_data» = text;
+}
+
+abbrev pub clearedText : SubmitText → SubmitText
+clearedText t = record { octets = clearedArray 510 (t .length) (t .octets); length = t .length }
+
+-- an absent destination or header, digits that are not in the absolute format, seven octets that are not in the enhanced one, and what lies after a length set to zero: records are equal where these are
+abbrev pub cleared : SmsSubmit → SmsSubmit
+cleared r =
+    changed r (if r .«has_destination_address» then clearedAddress (r .«tp_destination_address») else addressWith 0 0 [])
+    (if isAbsolute (r .«tp_validity_period») then clearedTime (r .«validity_period_digits») else timeIn [])
+    (if eqb (formatOf (r .«tp_validity_period»)) 1 then r .«validity_period_octets» else pad 7 [])
+    (clearedData (r .«tp_user_data_raw»)) (r .«has_user_data_header»)
+    (if r .«has_user_data_header» then clearedData (r .«tp_user_data_header») else dataWith []) (clearedText (r .«tp_user_data»))
+
+-- the same without header and text, which are derived from the data
+abbrev pub compared : SmsSubmit → SmsSubmit
+compared r =
+    let c = cleared r in
+    changed c (c .«tp_destination_address») (c .«validity_period_digits») (c .«validity_period_octets») (c .«tp_user_data_raw») false (dataWith []) (textWith [])
+
+-- the time's letters capital
+abbrev pub capitalised : SmsSubmit → SmsSubmit
+capitalised r =
+    changed r (r .«tp_destination_address») (capitalTime (r .«validity_period_digits»)) (r .«validity_period_octets») (r .«tp_user_data_raw»)
+    (r .«has_user_data_header») (r .«tp_user_data_header») (r .«tp_user_data»)
+
+-- the arrays have the lengths of their types
+abbrev pub Typed : SmsSubmit → Type 0
+Typed r =
+    TypedAddress (r .«tp_destination_address») × TypedTime (r .«validity_period_digits») × (length (r .«validity_period_octets») ≡ 7) × TypedData (r .«tp_user_data_raw») × TypedData (r .«tp_user_data_header»)
+    × (length (r .«tp_user_data» .octets) ≡ 510)

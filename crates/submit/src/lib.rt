@@ -7,19 +7,25 @@ ghost use mathlib.Core.Bool.{true};
 ghost use mathlib.Core.List.{[], _++_};
 ghost use Prim.Native.Nat.{_+_, _-_, _*_, _/_, _≤_};
 ghost use lib.ListN.{length, take, drop};
+ghost use Rattle.octets.specs.Answers.{refuses, outcomeSays, writtenSays};
 ghost use Rattle.octets.specs.Choice.{lengthIf};
 ghost use Rattle.octets.specs.Lent.{Wrote, lend};
 ghost use Rattle.coding.specs.Coding.{dataOctets};
 ghost use Rattle.septets.specs.Septets.{headerSeptets, fillBits, septetsIn};
 ghost use Rattle.gsm7.specs.Reading.{textOf};
-ghost use Rattle.layout.specs.Layout.{read};
-ghost use Rattle.submit.specs.Line.{inCount, fieldsAt, Inside};
-ghost use Rattle.submit.specs.Submit.{submit, submitted, blank as blankMessage, answer, unread, readable, textWith, submitting};
+ghost use Rattle.layout.specs.Layout.{read, answer};
+ghost use Rattle.submit.specs.Layout.{inCount};
+ghost use Rattle.submit.specs.Internal.{fieldsAt, Inside};
+ghost use Rattle.submit.specs.Submit.{submit, submitted, blank as blankMessage, octetsTaken, readable, textWith, submitting};
+use crate::reading::MTI_SUBMIT;
 use crate::reading::SubmitFields;
 use crate::reading::SubmitFound;
+use crate::writing::SubmitValues;
 use address::SMSAddress;
+use address::writing::AddressCheck;
 use coding::UserData;
 use coding::UserDataCoding;
+use octets::Checked;
 use octets::Outcome;
 use octets::Refusal;
 use octets::Written;
@@ -89,18 +95,8 @@ fn blank() -> SmsSubmit
     }
 }
 
-fn refused(r: Refusal) -> SubmitRead
-    ensures { λ u. ⌜ u ≡ unread r ⌝ }
-{
-    SubmitRead {
-        outcome: Outcome::Refused(r),
-        message: blank(),
-        octets_read: 0,
-    }
-}
-
-// Stores a header of h octets and the text behind it; their number of octets.
-fn put_text(septets: usize, h: usize, data: &[u8], text: &mut [u8; 510]) -> usize
+// Stores a header of h octets and the text after it; their number of octets.
+fn put_with_header(septets: usize, h: usize, data: &[u8], text: &mut [u8; 510]) -> usize
     requires { ⌜ (h ≤ length (now «data»)) × (headerSeptets h ≤ septets) × (septets ≤ 255) × (length (now «data») ≡ (septets * 7 + 7) / 8) × (length (now text) ≡ 510) ⌝ }
     ensures { λ r. ⌜ Wrote 0 (take h (now («data» .entry)) ++ textOf (septetsIn (drop h (now («data» .entry))) (fillBits h) (septets - headerSeptets h))) (now (text .entry)) r (now (text .exit)) ⌝ }
 {
@@ -128,7 +124,7 @@ fn put_readable(
     ensures { λ r. ⌜ Wrote 0 (readable coding udl h (now («data» .entry))) (now (text .entry)) r (now (text .exit)) ⌝ }
 {
     match coding {
-        UserDataCoding::Gsm7Bit => put_text(udl as usize, h, data, text),
+        UserDataCoding::Gsm7Bit => put_with_header(udl as usize, h, data, text),
         UserDataCoding::EightBit => octets::put_octets(text, 0, data),
         UserDataCoding::Ucs2 => octets::put_octets(text, 0, data),
         UserDataCoding::Compressed => octets::put_octets(text, 0, data),
@@ -178,7 +174,7 @@ fn message(data: &[u8], f: SubmitFields) -> SmsSubmit
         tp_vpf: format,
         tp_mr: f.mr,
         has_destination_address: true,
-        tp_destination_address: SMSAddress::decode(data, f.address),
+        tp_destination_address: address::address_at(data, f.address),
         tp_pid: f.pid,
         tp_dcs: dcs,
         tp_validity_period: validity_period::period_in(format, vp),
@@ -194,10 +190,14 @@ fn message(data: &[u8], f: SubmitFields) -> SmsSubmit
 
 // Reads a message.
 pub fn decode_sms_submit_tpdu(data: &[u8]) -> SubmitRead
-    ensures { λ r. ⌜ r ≡ answer (read submit (now («data» .entry))) ⌝ }
+    ensures { λ r. ⌜ ((outcomeSays (r .outcome), r .message) ≡ answer blankMessage (read submit (now («data» .entry)))) × (r .«octets_read» ≡ octetsTaken (read submit (now («data» .entry)))) ⌝ }
 {
     match reading::fields_of(data) {
-        SubmitFound::Refused(r) => refused(r),
+        SubmitFound::Refused(r) => SubmitRead {
+            outcome: Outcome::Refused(r),
+            message: blank(),
+            octets_read: 0,
+        },
         SubmitFound::Whole(f) => {
             let octets_read = f.data + f.octets;
             SubmitRead {
@@ -209,7 +209,7 @@ pub fn decode_sms_submit_tpdu(data: &[u8]) -> SubmitRead
     }
 }
 
-// A length that counts: that of an absent part doesn't.
+// A length that counts: that of what is absent doesn't.
 fn length_if(there: bool, length: usize) -> usize
     ensures { λ r. ⌜ r ≡ lengthIf there length ⌝ }
 {
@@ -217,17 +217,18 @@ fn length_if(there: bool, length: usize) -> usize
 }
 
 impl SmsSubmit {
-    // Writes the message to the start of a lent output.
+    // Writes the message to the start of a lent output: checks in order, then the size, then the octets.
     pub fn encode(self, out: &mut [u8]) -> Written
-        ensures { λ r. ⌜ (r, now (out .exit)) ≡ lend Written.Refused (submitting self) (now (out .entry)) ⌝ }
+        ensures { λ r. ⌜ (writtenSays r, now (out .exit)) ≡ lend refuses (submitting self) (now (out .entry)) ⌝ }
     {
         let period = self.tp_validity_period;
+        let vpf = period.format();
         let n = length_if(
             self.has_destination_address,
             self.tp_destination_address.address_length,
         );
         let m = length_if(
-            period.format() == VALIDITY_PERIOD_FORMAT_ABSOLUTE,
+            vpf == VALIDITY_PERIOD_FORMAT_ABSOLUTE,
             self.validity_period_digits.length,
         );
         let k = self.tp_user_data_raw.length;
@@ -237,28 +238,61 @@ impl SmsSubmit {
         if !fit {
             return Written::Refused(Refusal::LengthTooLarge);
         }
-        let flags = writing::flags(self.tp_rp, self.tp_udhi, self.tp_srr, self.tp_rd);
-        let text = self.tp_destination_address.address;
-        let digits = self.validity_period_digits.digits;
+        let address = self.tp_destination_address.address;
+        let time = self.validity_period_digits.digits;
         let enhanced = self.validity_period_octets;
-        let octets = self.tp_user_data_raw.octets;
-        writing::encode_parts(
-            flags,
-            self.tp_mti,
-            self.tp_vpf,
-            self.tp_mr,
-            self.has_destination_address,
-            self.tp_destination_address.ton,
-            self.tp_destination_address.npi,
-            &text[..n],
-            self.tp_pid,
+        let raw = self.tp_user_data_raw.octets;
+        let text = &address[..n];
+        let digits = &time[..m];
+        let data = &raw[..k];
+        if self.tp_mti != MTI_SUBMIT {
+            return Written::Refused(Refusal::WrongMessageType);
+        }
+        if self.tp_vpf != vpf {
+            return Written::Refused(Refusal::ValidityFormatDisagrees);
+        }
+        if !self.has_destination_address {
+            return Written::Refused(Refusal::NoDestination);
+        }
+        if let Checked::Against(r) = coding::check_user_data(
             self.tp_dcs,
-            period,
-            &digits[..m],
-            &enhanced,
             self.tp_user_data_length,
-            &octets[..k],
-            out,
-        )
+            k,
+        ) {
+            return Written::Refused(r);
+        }
+        let ton = self.tp_destination_address.ton;
+        let npi = self.tp_destination_address.npi;
+        match address::writing::check_address(ton, npi, text) {
+            AddressCheck::Refused(r) => Written::Refused(r),
+            AddressCheck::Fine(count) => {
+                if !validity_period::check_period(period, digits) {
+                    return Written::Refused(Refusal::NotATime);
+                }
+                if out.len() < 7 + (count + 1) / 2 + validity_period::validity_octets(vpf) + k {
+                    return Written::Refused(Refusal::OutputTooShort);
+                }
+                let flags = writing::flags(self.tp_rp, self.tp_udhi, self.tp_srr, self.tp_rd);
+                let values = SubmitValues {
+                    first: flags + 8 * vpf + MTI_SUBMIT,
+                    mr: self.tp_mr,
+                    ton,
+                    npi,
+                    pid: self.tp_pid,
+                    dcs: self.tp_dcs,
+                    period,
+                    udl: self.tp_user_data_length,
+                };
+                Written::Done(writing::put_fields(
+                    values,
+                    text,
+                    count,
+                    digits,
+                    &enhanced,
+                    data,
+                    out,
+                ))
+            }
+        }
     }
 }

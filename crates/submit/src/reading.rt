@@ -4,14 +4,15 @@ ghost use Prim.Native.Nat.{_+_, _≤_};
 ghost use lib.ListN.{length, drop};
 ghost use Rattle.layout.specs.Layout.{readFrom, cut, address as addressKind};
 ghost use Rattle.address.specs.Address.{addressSize, canonicalAddress};
-ghost use Rattle.submit.specs.Line.{headerSize, inCount, line, behindCoding, told, Inside};
+ghost use Rattle.submit.specs.Layout.{headerSize, inCount, fields};
+ghost use Rattle.submit.specs.Internal.{afterCoding, foundSays, Inside};
 use coding::UserDataCoding;
 use octets::Octet;
 use octets::Place;
 use octets::Refusal;
 use octets::Span;
 
-const MTI_SUBMIT: u8 = 1;
+pub const MTI_SUBMIT: u8 = 1;
 
 // The fields of one octet, and where the others start: the address, so many octets of validity, and so many octets of user data, the first `header` of them the header.
 pub struct SubmitFields {
@@ -61,7 +62,7 @@ fn in_count(coding: UserDataCoding, udl: u8, h: usize) -> bool
 }
 
 // What follows TP-DCS.
-fn behind_coding(
+fn after_coding(
     data: &[u8],
     first: u8,
     mr: u8,
@@ -71,7 +72,7 @@ fn behind_coding(
     place: Place,
 ) -> SubmitFound
     requires { ⌜ (address + addressSize (drop address (now «data»)) ≤ length (now «data»)) × (place .at ≤ length (now «data»)) ⌝ }
-    ensures { λ r. ⌜ (told (now («data» .entry)) r ≡ readFrom (behindCoding first mr (canonicalAddress (cut addressKind (drop address (now («data» .entry))))) pid dcs) (now («data» .entry)) (place .at)) × Inside (now («data» .entry)) r ⌝ }
+    ensures { λ r. ⌜ (foundSays (now («data» .entry)) r ≡ readFrom (afterCoding first mr (canonicalAddress (cut addressKind (drop address (now («data» .entry))))) pid dcs) (now («data» .entry)) (place .at)) × Inside (now («data» .entry)) r ⌝ }
 {
     let validity_octets = validity_period::validity_octets(first / 8 % 4);
     let Span::There(validity, place2) = place.span(data, validity_octets) else {
@@ -109,7 +110,7 @@ fn behind_coding(
 
 // The fields of a message.
 pub fn fields_of(data: &[u8]) -> SubmitFound
-    ensures { λ r. ⌜ (told (now («data» .entry)) r ≡ readFrom line (now («data» .entry)) 0) × Inside (now («data» .entry)) r ⌝ }
+    ensures { λ r. ⌜ (foundSays (now («data» .entry)) r ≡ readFrom fields (now («data» .entry)) 0) × Inside (now («data» .entry)) r ⌝ }
 {
     let start = Place { at: 0 };
     let Octet::Read(first, place) = start.octet(data) else {
@@ -121,7 +122,7 @@ pub fn fields_of(data: &[u8]) -> SubmitFound
     let Octet::Read(mr, place2) = place.octet(data) else {
         return SubmitFound::Refused(Refusal::OctetsEnd);
     };
-    let Span::There(address, place3) = address::address_at(data, place2) else {
+    let Span::There(address, place3) = address::address_span(data, place2) else {
         return SubmitFound::Refused(Refusal::OctetsEnd);
     };
     let Octet::Read(pid, place4) = place3.octet(data) else {
@@ -130,5 +131,5 @@ pub fn fields_of(data: &[u8]) -> SubmitFound
     let Octet::Read(dcs, place5) = place4.octet(data) else {
         return SubmitFound::Refused(Refusal::OctetsEnd);
     };
-    behind_coding(data, first, mr, address, pid, dcs, place5)
+    after_coding(data, first, mr, address, pid, dcs, place5)
 }

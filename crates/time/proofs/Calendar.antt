@@ -1,4 +1,4 @@
--- A time from its parts: when it is refused, that it is a time else, and that its digits are those of seven octets.
+-- A time from its calendar values and zone: when it is refused, that it is a time otherwise, and that its digits are those of seven octets.
 -- Assumes nothing.
 use Prim.Native.Nat.{ℕ, _+_, _*_, _/_, _%_, _≤_}
 use mathlib.Core.Path.{_≡_, refl, ap}
@@ -9,14 +9,13 @@ use native.Mathlib.Omega.{arith}
 use borrow.Author.Tests.{le-ltb, ltb-false}
 use lib.Dec.{ltb}
 use lib.IntN.{ℤ, pos, negsuc, natAbs}
+use Rattle.octets.specs.Answers.{Said, refuses, fine}
 use Rattle.octets.specs.Each.{each}
-use Rattle.octets.specs.declared.Outcome.{Outcome}
 use Rattle.octets.specs.declared.Refusal.the-variants.{CalendarOutOfRange, ZoneOutOfRange}
 use Rattle.octets.proofs.Choice.{leb-means, and-means, within-means}
 use Rattle.time.proofs.Laws.{octet-digits, pair-hex}
-use Rattle.time.specs.declared.timestamp.TimestampDigits.{TimestampDigits}
 use Rattle.time.specs.Time.{isHex, timeDigits, isTime}
-use Rattle.time.specs.Timestamp.{inCalendar, twoDigits, decimalOctet, zoneSign, timestamp}
+use Rattle.time.specs.Timestamp.{SaidDigits, inCalendar, twoDigits, decimalOctet, zoneSign, timestamp}
 
 two : (value : ℕ) → value ≤ 99 → (octets : List ℕ) → timeDigits (decimalOctet value ∷ octets) ≡ twoDigits value ++ timeDigits octets
 two value h octets = octet-digits (value / 10) (value % 10) octets (omega arith)
@@ -39,7 +38,7 @@ module _ (year month day hour minute second : ℕ) where
   -- the digits of a time that is not refused are those of these octets
   pub timestamp-octets : (zone : ℤ) → inCalendar year month day hour minute second ≡ true → natAbs zone ≤ 79
       → timestamp year month day hour minute second zone
-      ≡ record { outcome = Outcome.Done; digits = timeDigits (decimalOctet year ∷ decimalOctet month ∷ decimalOctet day ∷ decimalOctet hour ∷ decimalOctet minute ∷ decimalOctet second ∷ (decimalOctet (natAbs zone) + zoneSign zone) ∷ []) }
+      ≡ (fine, timeDigits (decimalOctet year ∷ decimalOctet month ∷ decimalOctet day ∷ decimalOctet hour ∷ decimalOctet minute ∷ decimalOctet second ∷ (decimalOctet (natAbs zone) + zoneSign zone) ∷ []))
   unfolding timestamp timeDigits
   timestamp-octets zone e z =
       let h = calendar-means .0 e in
@@ -49,19 +48,19 @@ module _ (year month day hour minute second : ℕ) where
       rw (e, le-ltb 79 q z, two year (omega arith), two month (omega arith), two day (omega arith), two hour (omega arith), two minute (omega arith), two second (omega arith), d, octet-digits (q / 10 + zoneSign zone) (q % 10) [] (omega arith))
 
   module _ (zone : ℤ) where
-    -- every part is in its range, or there is a refusal
-    pub done-means : (timestamp year month day hour minute second zone .outcome ≡ Outcome.Done) ↔ ((inCalendar year month day hour minute second ≡ true) × (natAbs zone ≤ 79))
+    -- every calendar value and the zone are in their ranges, or there is a refusal
+    pub done-means : (timestamp year month day hour minute second zone .0 ≡ fine) ↔ ((inCalendar year month day hour minute second ≡ true) × (natAbs zone ≤ 79))
     unfolding timestamp
-    done-means = (by (inCalendar year month day hour minute second) (ltb 79 (natAbs zone)) refl refl, λ h. ap (λ (t : TimestampDigits). t .outcome) (timestamp-octets zone (h .0) (h .1)))
+    done-means = (by (inCalendar year month day hour minute second) (ltb 79 (natAbs zone)) refl refl, λ h. ap (λ (t : SaidDigits). t .0) (timestamp-octets zone (h .0) (h .1)))
       where
-        by : (a b : Bool) → inCalendar year month day hour minute second ≡ a → ltb 79 (natAbs zone) ≡ b → timestamp year month day hour minute second zone .outcome ≡ Outcome.Done
+        by : (a b : Bool) → inCalendar year month day hour minute second ≡ a → ltb 79 (natAbs zone) ≡ b → timestamp year month day hour minute second zone .0 ≡ fine
             → (inCalendar year month day hour minute second ≡ true) × (natAbs zone ≤ 79)
         by true false a b done = (a, ltb-false 79 (natAbs zone) b)
-        by true true a b done = let no : _≡_ {A = Outcome} (Outcome.Refused ZoneOutOfRange) Outcome.Done = rw (a, b) at done in let z : _≡_ {A = ℕ} 0 1 = cc in absurd (omega arith)
-        by false b a e done = let no : _≡_ {A = Outcome} (Outcome.Refused CalendarOutOfRange) Outcome.Done = rw a at done in let z : _≡_ {A = ℕ} 0 1 = cc in absurd (omega arith)
+        by true true a b done = let no : refuses ZoneOutOfRange ≡ fine = rw (a, b) at done in let z : _≡_ {A = ℕ} 0 1 = cc in absurd (omega arith)
+        by false b a e done = let no : refuses CalendarOutOfRange ≡ fine = rw a at done in let z : _≡_ {A = ℕ} 0 1 = cc in absurd (omega arith)
 
     -- what is not refused is a time
-    pub timestamp-time : timestamp year month day hour minute second zone .outcome ≡ Outcome.Done → isTime (timestamp year month day hour minute second zone .digits) ≡ true
+    pub timestamp-time : timestamp year month day hour minute second zone .0 ≡ fine → isTime (timestamp year month day hour minute second zone .1) ≡ true
     unfolding timestamp isTime each
     timestamp-time done =
         let p = done-means .0 done in

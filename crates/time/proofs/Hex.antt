@@ -35,7 +35,7 @@ hex-value c e =
     let s = and-true _ _ (t .0) in
     (ltb-true _ _ (s .0), eqb-true _ _ (s .1), eqb-true _ _ (t .1))
 
--- the digit of a value below 16 stands at its place behind 0, 7 further for a letter, is a digit, and has that value
+-- the digit of a value below 16 stands at its place after 0, 7 further for a letter, is a digit, and has that value
 digit : ℕ → Bool
 digit v = eqb (code "0" + v + 7 * (v / 10)) (hexDigit v) && isHex (hexDigit v) && eqb (hexValue (hexDigit v)) v
 

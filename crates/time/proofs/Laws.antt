@@ -1,22 +1,23 @@
 -- Fourteen digits and seven octets: what a time is, there and back, and one more pair in a loop.
 -- Assumes nothing.
-use Prim.Native.Nat.{ℕ, suc, _+_, _*_, _/_, _%_, _<_, _≤_}
-use mathlib.Core.Path.{_≡_, refl, _∙_, ap₂}
+use Prim.Native.Nat.{ℕ, zero, suc, _-_, _+_, _*_, _/_, _%_, _<_, _≤_}
+use mathlib.Core.Path.{_≡_, refl, _∙_, ap, ap₂}
 use mathlib.Core.Bool.{true, _&&_}
-use mathlib.Core.List.{List, [], _∷_}
+use mathlib.Core.List.{List, [], _∷_, _++_}
 use mathlib.Core.Logic.{_↔_}
 use native.Mathlib.Numerals.{add-one}
 use native.Mathlib.Omega.{arith}
 use borrow.Author.Tests.{eq-eqb, eqb-true}
 use lib.Dec.{eqb}
-use lib.ListN.{length, drop, getD, drop-of-length-le}
+use lib.ListN.{length, drop, getD, replicate, drop-of-length-le}
 use lib.Seq.{drop-cons}
 use Rattle.octets.specs.Each.{Octets, each}
 use Rattle.octets.proofs.Choice.{and-true, and-means}
 use Rattle.octets.proofs.Each.{each-means}
-use Rattle.octets.proofs.Laws.{take-pad, pad-full}
+use Rattle.octets.specs.Arrays.{pad}
+use Rattle.octets.proofs.Laws.{take-pad, pad-full, cleared-pad}
 use Rattle.time.specs.declared.Time.{Time}
-use Rattle.time.specs.Time.{hexDigit, isHex, hexValue, capitals, timeDigits, timeOctets, isTime, timeIn, digitsOf}
+use Rattle.time.specs.Time.{hexDigit, isHex, hexValue, capital, capitals, timeDigits, timeOctets, isTime, timeIn, digitsOf, clearedTime, capitalTime}
 use Rattle.time.proofs.Hex.{hex-value, hex-digit}
 
 -- a time is fourteen hexadecimal digits
@@ -112,6 +113,37 @@ module _ (i : ℕ) where
 pub time-held : (os : List ℕ) → digitsOf (timeIn os) ≡ timeDigits os
 unfolding timeIn
 time-held os = take-pad 14 (timeDigits os)
+
+-- and it is cleared
+pub time-cleared : (os : List ℕ) → clearedTime (timeIn os) ≡ timeIn os
+unfolding timeIn
+time-cleared os = rw (cleared-pad 14 (timeDigits os))
+
+-- a time that was written, read back: its letters capital
+capitals-zeros : (n : ℕ) → capitals (replicate n 0) ≡ replicate n 0
+unfolding capitals
+capitals-zeros zero = refl
+capitals-zeros (suc n) = ap (λ l. 0 ∷ l) (capitals-zeros n)
+
+length-capitals : (ds : List ℕ) → length (capitals ds) ≡ length ds
+unfolding capitals
+length-capitals [] = refl
+length-capitals (d ∷ ds) = ap suc (length-capitals ds)
+
+capitals-append : (ds es : List ℕ) → capitals (ds ++ es) ≡ capitals ds ++ capitals es
+unfolding capitals
+capitals-append [] es = refl
+capitals-append (d ∷ ds) es = ap (λ l. capital d ∷ l) (capitals-append ds es)
+
+capitals-pad : (n : ℕ) (ds : List ℕ) → capitals (pad n ds) ≡ pad n (capitals ds)
+unfolding pad
+capitals-pad n ds = capitals-append ds (replicate (n - length ds) 0) ∙ rw (length-capitals ds, capitals-zeros)
+
+pub time-back : (t : Time) → isTime (digitsOf t) ≡ true → length (digitsOf t) ≡ t .length → timeIn (timeOctets (digitsOf t)) ≡ capitalTime (clearedTime t)
+unfolding timeIn
+time-back t e n =
+    let size : length (capitals (digitsOf t)) ≡ t .length = length-capitals (digitsOf t) ∙ n in
+    rw (digits-back (digitsOf t) e, size, ← capitals-pad 14 (digitsOf t))
 
 -- seven octets that were read, as the time of a record
 pub time-stored : (os : List ℕ) → length os ≡ 7 → {ds : List ℕ} → ds ≡ timeDigits os → _≡_ {A = Time} (record { digits = ds; length = 14 }) (timeIn os)

@@ -6,7 +6,7 @@ use mathlib.Core.Bool.{Bool, true, false, _&&_, _||_}
 use mathlib.Core.List.{List, [], _∷_, map}
 use lib.Dec.{eqb, leb}
 use lib.ListN.{length, length as size, getD, take}
-use Rattle.octets.specs.Arrays.{pad}
+use Rattle.octets.specs.Arrays.{pad, clearedArray}
 use Rattle.octets.specs.Choice.{if_then_else_, within}
 use Rattle.octets.specs.Each.{each}
 use Rattle.octets.specs.Texts.{codes}
@@ -66,3 +66,15 @@ timeIn os = record { digits = pad 14 (timeDigits os); length = size (timeDigits 
 -- the digits that a record holds
 abbrev pub digitsOf : Time → List ℕ
 digitsOf t = take (t .length) (t .digits)
+
+-- what lies after the length is no part of a record: set to zero
+abbrev pub clearedTime : Time → Time
+clearedTime t = record { digits = clearedArray 14 (t .length) (t .digits); length = t .length }
+
+-- its letters capital
+abbrev pub capitalTime : Time → Time
+capitalTime t = record { digits = capitals (t .digits); length = t .length }
+
+-- the array has the length of its type
+abbrev pub TypedTime : Time → Type 0
+TypedTime t = size (t .digits) ≡ 14

@@ -15,7 +15,7 @@ pub struct Time {
     pub length: usize,
 }
 
-// The capital hexadecimal digit of a value below 16; the letters stand 7 characters behind the figures.
+// The capital hexadecimal digit of a value below 16; the letters stand 7 characters after the figures.
 fn hex_digit(value: u8) -> u8
     requires { ⌜ value < 16 ⌝ }
     ensures { λ r. ⌜ r ≡ hexDigit value ⌝ }
@@ -55,7 +55,7 @@ pub fn is_time(digits: &[u8]) -> bool
     true
 }
 
-// Writes the seven octets of a time from `at` on; the place behind them.
+// Writes the seven octets of a time from `at` on; the place after them.
 pub fn encode_time(digits: &[u8], out: &mut [u8], at: usize) -> usize
     requires { ⌜ (isTime (now digits) ≡ true) × (at + 7 ≤ length (now out)) ⌝ }
     ensures { λ r. ⌜ Wrote at (timeOctets (now (digits .entry))) (now (out .entry)) r (now (out .exit)) ⌝ }

@@ -1,11 +1,11 @@
-// A time from its parts (TS 23.040 §9.2.3.11): calendar values and the zone.
+// A time from its calendar values and zone (TS 23.040 §9.2.3.11).
 ghost use mathlib.Core.Path.{_≡_};
 ghost use mathlib.Core.List.{[], _∷_};
 ghost use Prim.Native.Nat.{_≤_};
 ghost use lib.IntN.{natAbs};
 ghost use Rattle.octets.specs.declared.Refusal.the-variants.{CalendarOutOfRange, ZoneOutOfRange};
 ghost use Rattle.time.specs.Time.{timeDigits};
-ghost use Rattle.time.specs.Timestamp.{inCalendar, decimalOctet, refusedDigits, zoneSign, timestamp};
+ghost use Rattle.time.specs.Timestamp.{inCalendar, decimalOctet, timestampSays, refusedDigits, zoneSign, timestamp};
 use octets::Outcome;
 use octets::Refusal;
 
@@ -17,7 +17,7 @@ pub struct TimestampDigits {
 
 // A refusal, with no digits.
 fn refused(why: Refusal) -> TimestampDigits
-    ensures { λ r. ⌜ r ≡ refusedDigits why ⌝ }
+    ensures { λ r. ⌜ timestampSays r ≡ refusedDigits why ⌝ }
 {
     TimestampDigits {
         outcome: Outcome::Refused(why),
@@ -26,18 +26,18 @@ fn refused(why: Refusal) -> TimestampDigits
 }
 
 fn out_of_calendar() -> TimestampDigits
-    ensures { λ r. ⌜ r ≡ refusedDigits CalendarOutOfRange ⌝ }
+    ensures { λ r. ⌜ timestampSays r ≡ refusedDigits CalendarOutOfRange ⌝ }
 {
     refused(Refusal::CalendarOutOfRange)
 }
 
 fn out_of_zones() -> TimestampDigits
-    ensures { λ r. ⌜ r ≡ refusedDigits ZoneOutOfRange ⌝ }
+    ensures { λ r. ⌜ timestampSays r ≡ refusedDigits ZoneOutOfRange ⌝ }
 {
     refused(Refusal::ZoneOutOfRange)
 }
 
-// Every part but the zone is in its range.
+// Every calendar value is in its range.
 fn in_calendar(year: u8, month: u8, day: u8, hour: u8, minute: u8, second: u8) -> bool
     ensures { λ r. ⌜ r ≡ inCalendar year month day hour minute second ⌝ }
 {
@@ -93,7 +93,7 @@ fn digits_of(year: u8, month: u8, day: u8, hour: u8, minute: u8, second: u8, zon
     crate::decode_time(&octets, 0)
 }
 
-// The fourteen digits of a time from its parts: two decimal digits each, and the sign of the zone in its first digit.
+// The fourteen digits of a time from its calendar values and zone: two decimal digits each, and the sign of the zone in its first digit.
 pub fn timestamp_digits(
     year: u8,
     month: u8,
@@ -103,7 +103,7 @@ pub fn timestamp_digits(
     second: u8,
     time_zone_quarter_hours: i8,
 ) -> TimestampDigits
-    ensures { λ r. ⌜ r ≡ timestamp year month day hour minute second «time_zone_quarter_hours» ⌝ }
+    ensures { λ r. ⌜ timestampSays r ≡ timestamp year month day hour minute second «time_zone_quarter_hours» ⌝ }
 {
     if !in_calendar(year, month, day, hour, minute, second) {
         return out_of_calendar();

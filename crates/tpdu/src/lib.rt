@@ -1,4 +1,5 @@
-// SMS transfer-layer codec (TS 23.040, TS 23.038): the entry points and their types, under the names of the Rust crate tpdu.
+// SMS transfer-layer codec (TS 23.040, TS 23.038), the face: every public function and type, nothing else. What the Rust
+// crate tpdu has too stands under its names.
 pub use address::SMSAddress;
 pub use canonical::canonical_deliver;
 pub use canonical::canonical_deliver_report_ack;
@@ -24,7 +25,6 @@ pub use gsm7::decode::unpack_gsm7;
 pub use gsm7::packing::Packed;
 pub use gsm7::packing::pack_gsm7;
 pub use octets::Outcome;
-pub use octets::Place;
 pub use octets::Refusal;
 pub use octets::Written;
 pub use parameters::OptionalOctet;

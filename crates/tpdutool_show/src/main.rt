@@ -1,4 +1,4 @@
-// The program tpdutool, for people: its stored input and output.
+// The program tpdutool again, with the argument `show`: its stored run for people.
 fn main() {
     requests::run();
 }

@@ -2,63 +2,49 @@
 -- Assumes nothing.
 use Prim.Native.Nat.{ℕ, _-_, _*_, _<_, _≤_}
 use mathlib.Core.Path.{_≡_, refl, sym}
+use mathlib.Core.Bool.{Bool, true, false}
 use mathlib.Core.List.{List}
 use native.Mathlib.Omega.{arith}
-use native.Mathlib.Nat.{le-refl}
-use borrow.Author.Tests.{lt-ltb, le-ltb, eq-eqb, ne-eqb}
-use lib.ListN.{length, take, drop, length-drop}
-use lib.Seq.{take-all}
-use Rattle.octets.specs.Lent.{refused}
+use native.Mathlib.Nat.{le-refl, zero-add}
+use borrow.Author.Tests.{lt-ltb, le-ltb, eq-eqb, ne-eqb, ltb-true, ltb-false}
+use lib.Dec.{ltb}
+use lib.ListN.{length, take, drop, replicate, length-drop}
+use lib.Seq.{take-all, length-take-le}
+use Rattle.octets.specs.Answers.{fine}
+use Rattle.octets.specs.Arrays.{pad}
+use Rattle.octets.specs.Lent.{refused, Wrote}
 use Rattle.octets.specs.declared.Refusal.the-variants.{LengthTooLarge, HeaderNotWhole, HeaderPassesCount, TooFewOctets}
-use Rattle.octets.specs.declared.Outcome.{Outcome}
-use Rattle.octets.specs.declared.Outcome.the-variants.{Done, Refused}
 use Rattle.septets.specs.Septets.{septetsIn, octetCount, headerSeptets, fillBits}
-use Rattle.gsm7.specs.declared.decode.Unpacked.{Unpacked}
-use Rattle.gsm7.specs.Reading.{textOf, unpacked, shown as shownText}
+use Rattle.gsm7.specs.Reading.{textOf}
 use Rattle.gsm7.specs.Packing.{packing}
-use Rattle.gsm7.proofs.Reading.{unpacked-reads, unpacked-ends}
-use Rattle.user_data_header.specs.Internal.{joined}
-use Rattle.user_data_header.specs.Header.{headerOctets, shown, unread, unpackedWithHeader, packingWithHeader}
+use Rattle.gsm7.proofs.DecodingLaws.{text-fits}
+use Rattle.octets.proofs.Laws.{sets-zeros}
+use Rattle.user_data_header.specs.Header.{SaidHeader, headerOctets, headerGiven, headerRefused, unpackedWithHeader, packingWithHeader}
 
+-- a header of h octets, which take s septets, as the calls tell them
 module _ (os : List ℕ) (n : ℕ) where
-  pub read-long : 255 < n → unpackedWithHeader os n ≡ unread LengthTooLarge
+  pub read-long : 255 < n → unpackedWithHeader os n ≡ headerRefused LengthTooLarge
   unfolding unpackedWithHeader
-  read-long h = rw (lt-ltb 255 n h)
+  read-long many = rw (lt-ltb 255 n many)
 
-  module _ (few : n ≤ 255) where
-    pub read-short : length os < headerOctets os → unpackedWithHeader os n ≡ unread HeaderNotWhole
+  module _ (few : n ≤ 255) {h : ℕ} (h-is : h ≡ headerOctets os) where
+    pub read-short : length os < h → unpackedWithHeader os n ≡ headerRefused HeaderNotWhole
     unfolding unpackedWithHeader
-    read-short h = rw (le-ltb 255 n few, lt-ltb _ _ h)
+    read-short short = rw (le-ltb 255 n few, ← h-is, lt-ltb _ _ short)
 
-    module _ (whole : headerOctets os ≤ length os) where
-      pub read-over : n < headerSeptets (headerOctets os) → unpackedWithHeader os n ≡ unread HeaderPassesCount
+    module _ (whole : h ≤ length os) {s : ℕ} (s-is : s ≡ headerSeptets h) where
+      pub read-over : n < s → unpackedWithHeader os n ≡ headerRefused HeaderPassesCount
       unfolding unpackedWithHeader
-      read-over h = rw (le-ltb 255 n few, le-ltb _ _ whole, lt-ltb _ _ h)
+      read-over over = rw (le-ltb 255 n few, ← h-is, ← s-is, le-ltb _ _ whole, lt-ltb _ _ over)
 
-      module _ (fits : headerSeptets (headerOctets os) ≤ n) where
-        pub read-few : length (drop (headerOctets os) os) < octetCount (fillBits (headerOctets os)) (n - headerSeptets (headerOctets os))
-            → unpackedWithHeader os n ≡ unread TooFewOctets
+      module _ (fits : s ≤ n) where
+        pub read-few : length os - h < octetCount (s * 7 - h * 8) (n - s) → unpackedWithHeader os n ≡ headerRefused TooFewOctets
         unfolding unpackedWithHeader
-        read-few h = rw (le-ltb 255 n few, le-ltb _ _ whole, le-ltb _ _ fits, lt-ltb _ _ h)
+        read-few short = rw (le-ltb 255 n few, ← h-is, ← s-is, le-ltb _ _ whole, le-ltb _ _ fits, length-drop, lt-ltb _ _ short)
 
-        pub read-done : octetCount (fillBits (headerOctets os)) (n - headerSeptets (headerOctets os)) ≤ length (drop (headerOctets os) os)
-            → unpackedWithHeader os n
-            ≡ shown (take (headerOctets os) os) (textOf (septetsIn (drop (headerOctets os) os) (fillBits (headerOctets os)) (n - headerSeptets (headerOctets os))))
+        pub read-done : octetCount (s * 7 - h * 8) (n - s) ≤ length os - h → unpackedWithHeader os n ≡ headerGiven (take h os) (textOf (septetsIn (drop h os) (s * 7 - h * 8) (n - s)))
         unfolding unpackedWithHeader
-        read-done h = rw (le-ltb 255 n few, le-ltb _ _ whole, le-ltb _ _ fits, le-ltb _ _ h)
-
-        -- by the outcome of reading the text, with k the header's octets and h its septets; the part that runs to the end is the rest
-        module _ (k h : ℕ) (u : Unpacked) (e : u ≡ unpacked (take (length os - k) (drop k os)) (h * 7 - k * 8) (n - h)) (k-is : k ≡ headerOctets os) (h-is : h ≡ headerSeptets k) where
-          rest-is : u ≡ unpacked (drop (headerOctets os) os) (fillBits (headerOctets os)) (n - headerSeptets (headerOctets os))
-          rest-is = rw (h-is, k-is, take-all (length os - headerOctets os) (drop (headerOctets os) os) (rw length-drop (le-refl _))) at e
-
-          pub read-joined : joined (take k os) u (u .outcome) ≡ unpackedWithHeader os n
-          unfolding shown shownText
-          read-joined = rw k-is (by-outcome (u .outcome) refl)
-            where
-              by-outcome : (o : Outcome) → u .outcome ≡ o → joined (take (headerOctets os) os) u o ≡ unpackedWithHeader os n
-              by-outcome Done p = let r = unpacked-reads _ _ _ (omega arith) rest-is p in rw (read-done (r .0), r .1)
-              by-outcome (Refused r) p = sym (read-few (unpacked-ends _ _ _ (omega arith) rest-is r p))
+        read-done enough = rw (le-ltb 255 n few, ← h-is, ← s-is, le-ltb _ _ whole, le-ltb _ _ fits, length-drop, le-ltb _ _ enough)
 
 module _ (header text : List ℕ) where
   pub packing-bad : (length header ≡ headerOctets header → ⊥) → packingWithHeader header text ≡ refused HeaderNotWhole
@@ -68,3 +54,13 @@ module _ (header text : List ℕ) where
   pub packing-good : length header ≡ headerOctets header → packingWithHeader header text ≡ packing header text
   unfolding packingWithHeader
   packing-good h = rw (eq-eqb _ _ h)
+
+-- a header of h octets, and the text of what runs from there to the end, in their arrays
+pub both-stored : (os : List ℕ) (h fill septets : ℕ) → h ≤ length os → septets ≤ 255 → {n : ℕ} {header array : List ℕ} → header ≡ pad 255 (take h os)
+    → Wrote 0 (textOf (septetsIn (take (length os - h) (drop h os)) fill septets)) (replicate 510 0) n array
+    → _≡_ {A = SaidHeader} (fine, header, h, array, n) (headerGiven (take h os) (textOf (septetsIn (drop h os) fill septets)))
+unfolding headerGiven
+both-stored os h fill septets whole few e w =
+    let text = textOf (septetsIn (drop h os) fill septets) in
+    let to-end : take (length os - h) (drop h os) ≡ drop h os = take-all (length os - h) (drop h os) (rw length-drop (le-refl _)) in
+    rw (e, length-take-le h os whole, w .place, w .list, to-end, zero-add, sets-zeros 510 text (text-fits (drop h os) fill septets few))

@@ -10,25 +10,23 @@ use borrow.Author.Tests.{eqb-true, eqb-false, ltb-true, ltb-false}
 use lib.Dec.{eqb, ltb}
 use lib.ListN.{length, getD, take, drop, List·getD-append, length-append}
 use lib.Seq.{take-at, drop-at, length-take-le, getD-take}
+use Rattle.octets.specs.Answers.{Said, fine}
 use Rattle.octets.specs.Lent.{made}
 use Rattle.octets.specs.declared.Refusal.{Refusal}
-use Rattle.octets.specs.declared.Outcome.the-variants.{Done}
 use Rattle.septets.specs.Septets.{packedSeptets, septetsIn, headerSeptets, fillBits, octetCount}
 use Rattle.septets.proofs.Inverse.{length-packed, septets-septets, length-septets}
-use Rattle.gsm7.specs.declared.packing.Packed.{Packed}
 use Rattle.gsm7.specs.Reading.{textOf}
 use Rattle.gsm7.specs.Writing.{septetsOf}
-use Rattle.gsm7.specs.Packing.{packedAs}
+use Rattle.gsm7.specs.Packing.{SaidCounts, packedAs}
 use Rattle.gsm7.proofs.Adequate.{text-packed-text}
-use Rattle.gsm7.specs.Packing.{octetsBehind}
-use Rattle.gsm7.proofs.CaseByCase.{packing-made, packing-done}
+use Rattle.gsm7.specs.Packing.{octetsAfter}
+use Rattle.gsm7.proofs.PackingCases.{packing-made, packing-done}
 use Rattle.gsm7.proofs.EncodingLaws.{read-writable}
-use Rattle.user_data_header.specs.declared.UnpackedWithHeader.{UnpackedWithHeader}
-use Rattle.user_data_header.specs.Header.{headerOctets, shown, unread, unpackedWithHeader, packingWithHeader}
+use Rattle.user_data_header.specs.Header.{SaidHeader, headerOctets, headerGiven, headerRefused, unpackedWithHeader, packingWithHeader}
 use Rattle.user_data_header.proofs.Cases.{read-long, read-short, read-over, read-few, read-done, packing-bad, packing-good}
 
 -- a header that is packed is as long as its first octet says
-whole-header : (header text xs : List ℕ) (a : Packed) → packingWithHeader header text ≡ made xs a → length header ≡ headerOctets header
+whole-header : (header text xs : List ℕ) (a : SaidCounts) → packingWithHeader header text ≡ made xs a → length header ≡ headerOctets header
 whole-header header text xs a p = by-test (eqb (length header) (headerOctets header)) refl
   where
     by-test : (t : Bool) → eqb (length header) (headerOctets header) ≡ t → length header ≡ headerOctets header
@@ -36,9 +34,9 @@ whole-header header text xs a p = by-test (eqb (length header) (headerOctets hea
     by-test false e = let r = packing-bad header text (eqb-false _ _ e) in let z : _≡_ {A = ℕ} 0 1 = cc in absurd (omega arith)
 
 -- what was packed reads back as the same header and text
-behind-reads : (header text ss : List ℕ) → length header ≡ headerOctets header → septetsOf text ≡ some ss → headerSeptets (length header) + length ss ≤ 255
-    → unpackedWithHeader (octetsBehind header ss) (headerSeptets (length header) + length ss) ≡ shown header text
-behind-reads header text ss long e few =
+after-reads : (header text ss : List ℕ) → length header ≡ headerOctets header → septetsOf text ≡ some ss → headerSeptets (length header) + length ss ≤ 255
+    → unpackedWithHeader (octetsAfter header ss) (headerSeptets (length header) + length ss) ≡ headerGiven header text
+after-reads header text ss long e few =
     let h = length header in
     let packed = packedSeptets (fillBits h) ss in
     let os = header ++ packed in
@@ -47,32 +45,33 @@ behind-reads header text ss long e few =
     let left : n - headerSeptets h ≡ length ss = omega arith in
     let size : length os ≡ h + octetCount (fillBits h) (length ss) = length-append header packed ∙ rw length-packed in
     let rest : drop h os ≡ packed = drop-at header packed h refl in
-    let enough : octetCount (fillBits (headerOctets os)) (n - headerSeptets (headerOctets os)) ≤ length (drop (headerOctets os) os) =
-    rw (first, left, rest, length-packed) (omega arith) in
-    read-done os n few (rw first (omega arith)) (rw first (omega arith)) enough
-    ∙ rw (first, left, rest, take-at header packed h refl) (ap (shown header) (text-packed-text (fillBits h) text ss e))
+    let enough : octetCount (fillBits h) (n - headerSeptets h) ≤ length os - h = rw left (omega arith) in
+    read-done os n few (sym first) (omega arith) refl (omega arith) enough
+    ∙ rw (left, rest, take-at header packed h refl) (ap (headerGiven header) (text-packed-text (fillBits h) text ss e))
 
-pub packed-reads : (header text xs : List ℕ) (a : Packed) → packingWithHeader header text ≡ made xs a → unpackedWithHeader xs (a .septets) ≡ shown header text
-packed-reads header text xs a p =
+pub packed-reads : (header text xs : List ℕ) (said : Said Unit) (octets septets : ℕ) → packingWithHeader header text ≡ made xs (said, octets, septets)
+    → unpackedWithHeader xs septets ≡ headerGiven header text
+packed-reads header text xs said octets septets p =
+    let a : SaidCounts = (said, octets, septets) in
     let long = whole-header header text xs a p in
     let m = packing-made header text xs a (sym (packing-good header text long) ∙ p) in
-    ap₂ unpackedWithHeader (m .3) (ap (λ (b : Packed). b .septets) (m .4)) ∙ behind-reads header text (m .0) long (m .1) (m .2)
+    ap₂ unpackedWithHeader (m .3) (ap (λ (b : SaidCounts). b .2) (m .4)) ∙ after-reads header text (m .0) long (m .1) (m .2)
 
 -- what was read can be packed, in no more septets, and then reads as the same header and text
 abbrev Packs : List ℕ → ℕ → Type 0
 Packs os n =
-    (header : List ℕ) × (text : List ℕ) × (xs : List ℕ) × (a : Packed) × (unpackedWithHeader os n ≡ shown header text) × (packingWithHeader header text ≡ made xs a)
-    × (a .septets ≤ n) × (unpackedWithHeader xs (a .septets) ≡ shown header text)
+    (header : List ℕ) × (text : List ℕ) × (xs : List ℕ) × (k : ℕ) × (unpackedWithHeader os n ≡ headerGiven header text) × (packingWithHeader header text ≡ made xs (packedAs xs k))
+    × (k ≤ n) × (unpackedWithHeader xs k ≡ headerGiven header text)
 
 module _ (os : List ℕ) (n : ℕ) where
   abbrev h : ℕ
   h = headerOctets os
 
-  not-refused : (r : Refusal) → unpackedWithHeader os n .outcome ≡ Done → unpackedWithHeader os n ≡ unread r → Packs os n
-  unfolding unread
-  not-refused r d e = let q = sym d ∙ ap (λ (u : UnpackedWithHeader). u .outcome) e in let z : _≡_ {A = ℕ} 0 1 = cc in absurd (omega arith)
+  not-refused : (r : Refusal) → unpackedWithHeader os n .0 ≡ fine → unpackedWithHeader os n ≡ headerRefused r → Packs os n
+  unfolding headerRefused
+  not-refused r d e = let q = sym d ∙ ap (λ (u : SaidHeader). u .0) e in let z : _≡_ {A = ℕ} 0 1 = cc in absurd (omega arith)
 
-  packs : n ≤ 255 → h ≤ length os → headerSeptets h ≤ n → octetCount (fillBits h) (n - headerSeptets h) ≤ length (drop h os) → Packs os n
+  packs : n ≤ 255 → h ≤ length os → headerSeptets h ≤ n → octetCount (fillBits h) (n - headerSeptets h) ≤ length os - h → Packs os n
   packs few whole fits enough =
       let ss = septetsIn (drop h os) (fillBits h) (n - headerSeptets h) in
       let w = read-writable ss (septets-septets _ _ _) in
@@ -80,20 +79,20 @@ module _ (os : List ℕ) (n : ℕ) where
       let text = textOf ss in
       let size : length header ≡ h = length-take-le h os whole in
       let first : getD header 0 0 ≡ getD os 0 0 = getD-take h os 0 0 (omega arith) in
-      let xs = octetsBehind header (w .0) in
-      let a = packedAs xs (headerSeptets (length header) + length (w .0)) in
-      let under : headerSeptets (length header) + length (w .0) ≤ n = rw size (omega (arith, w .2, length-septets (drop h os) (fillBits h) (n - headerSeptets h))) in
-      let made-is : packingWithHeader header text ≡ made xs a = packing-good header text (size ∙ rw first) ∙ packing-done header text (w .0) (w .1) (omega arith) in
-      (header, text, xs, a, read-done os n few whole fits enough, made-is, under, packed-reads header text xs a made-is)
+      let xs = octetsAfter header (w .0) in
+      let k = headerSeptets (length header) + length (w .0) in
+      let under : k ≤ n = rw size (omega (arith, w .2, length-septets (drop h os) (fillBits h) (n - headerSeptets h))) in
+      let made-is : packingWithHeader header text ≡ made xs (packedAs xs k) = packing-good header text (size ∙ rw first) ∙ packing-done header text (w .0) (w .1) (omega arith) in
+      (header, text, xs, k, read-done os n few refl whole refl fits enough, made-is, under, packed-reads header text xs fine (length xs) k made-is)
 
-  pub read-packs : unpackedWithHeader os n .outcome ≡ Done → Packs os n
+  pub read-packs : unpackedWithHeader os n .0 ≡ fine → Packs os n
   read-packs d =
-      by-count (ltb 255 n) refl (ltb (length os) h) refl (ltb n (headerSeptets h)) refl (ltb (length (drop h os)) (octetCount (fillBits h) (n - headerSeptets h))) refl
+      by-count (ltb 255 n) refl (ltb (length os) h) refl (ltb n (headerSeptets h)) refl (ltb (length os - h) (octetCount (fillBits h) (n - headerSeptets h))) refl
     where
       by-count : (t : Bool) → ltb 255 n ≡ t → (u : Bool) → ltb (length os) h ≡ u → (v : Bool) → ltb n (headerSeptets h) ≡ v
-          → (w : Bool) → ltb (length (drop h os)) (octetCount (fillBits h) (n - headerSeptets h)) ≡ w → Packs os n
+          → (w : Bool) → ltb (length os - h) (octetCount (fillBits h) (n - headerSeptets h)) ≡ w → Packs os n
       by-count true p u q v r w s = not-refused _ d (read-long os n (ltb-true _ _ p))
-      by-count false p true q v r w s = not-refused _ d (read-short os n (ltb-false _ _ p) (ltb-true _ _ q))
-      by-count false p false q true r w s = not-refused _ d (read-over os n (ltb-false _ _ p) (ltb-false _ _ q) (ltb-true _ _ r))
-      by-count false p false q false r true s = not-refused _ d (read-few os n (ltb-false _ _ p) (ltb-false _ _ q) (ltb-false _ _ r) (ltb-true _ _ s))
+      by-count false p true q v r w s = not-refused _ d (read-short os n (ltb-false _ _ p) refl (ltb-true _ _ q))
+      by-count false p false q true r w s = not-refused _ d (read-over os n (ltb-false _ _ p) refl (ltb-false _ _ q) refl (ltb-true _ _ r))
+      by-count false p false q false r true s = not-refused _ d (read-few os n (ltb-false _ _ p) refl (ltb-false _ _ q) refl (ltb-false _ _ r) (ltb-true _ _ s))
       by-count false p false q false r false s = packs (ltb-false _ _ p) (ltb-false _ _ q) (ltb-false _ _ r) (ltb-false _ _ s)

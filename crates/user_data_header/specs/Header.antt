@@ -1,43 +1,57 @@
--- Text behind a user data header (TS 23.040 §9.2.3.24), in 7-bit coding.
+-- Text after a user data header (TS 23.040 §9.2.3.24), in 7-bit coding.
 use Prim.Native.Nat.{ℕ, _+_, _-_}
-use mathlib.Core.Bool.{Bool, true, false}
-use mathlib.Core.List.{List, []}
+use mathlib.Core.Path.{_≡_, refl}
+use mathlib.Core.List.{List, [], _∷_}
 use lib.ListN.{length, getD, take, drop}
 use lib.Dec.{eqb, ltb}
+use Rattle.octets.specs.Answers.{Said, refuses, fine, outcomeSays}
 use Rattle.octets.specs.Choice.{if_then_else_}
 use Rattle.octets.specs.Arrays.{pad}
 use Rattle.octets.specs.Lent.{Making, refused}
 use Rattle.octets.specs.declared.Refusal.{Refusal}
 use Rattle.octets.specs.declared.Refusal.the-variants.{LengthTooLarge, HeaderNotWhole, HeaderPassesCount, TooFewOctets}
-use Rattle.octets.specs.declared.Outcome.the-variants.{Done, Refused}
-use Rattle.septets.specs.Septets.{septetsIn, octetCount, headerSeptets, fillBits}
-use Rattle.gsm7.specs.declared.packing.Packed.{Packed}
-use Rattle.gsm7.specs.Reading.{textOf}
-use Rattle.gsm7.specs.Packing.{packing}
+use Rattle.septets.specs.Septets.{numberOf, lowestDigits, septetsIn, octetCount, headerSeptets, fillBits}
+use Rattle.gsm7.specs.Alphabet.{character}
+use Rattle.gsm7.specs.Reading.{utf8, textOf}
+use Rattle.gsm7.specs.Packing.{SaidCounts, packing}
 use Rattle.user_data_header.specs.declared.UnpackedWithHeader.{UnpackedWithHeader}
 
 -- the octets of a header: its first octet counts those that follow
 abbrev pub headerOctets : List ℕ → ℕ
 headerOctets os = getD os 0 0 + 1
 
+-- what the reader's answer says: its outcome, and the arrays of the header and of the text, each with the number of its octets
+abbrev pub SaidHeader : Type 0
+SaidHeader = Said Unit × List ℕ × ℕ × List ℕ × ℕ
+
+abbrev pub unpackedWithHeaderSays : UnpackedWithHeader → SaidHeader
+unpackedWithHeaderSays u = (outcomeSays (u .outcome), u .header, u .«header_length», u .text, u .«text_length»)
+
 -- a header and a text in their arrays
-unfoldable pub shown : List ℕ → List ℕ → UnpackedWithHeader
-shown header text = record { outcome = Done; header = pad 255 header; «header_length» = length header; text = pad 510 text; «text_length» = length text }
+unfoldable pub headerGiven : List ℕ → List ℕ → SaidHeader
+headerGiven header text = (fine, pad 255 header, length header, pad 510 text, length text)
 
 -- a refusal: neither
-unfoldable pub unread : Refusal → UnpackedWithHeader
-unread r = record { outcome = Refused r; header = pad 255 []; «header_length» = 0; text = pad 510 []; «text_length» = 0 }
+unfoldable pub headerRefused : Refusal → SaidHeader
+headerRefused why = (refuses why, pad 255 [], 0, pad 510 [], 0)
 
 -- what reading user data of n septets gives: header, fill bits that are not looked at, text. (Empty data are no header: the length octet itself is missing.)
-unfoldable pub unpackedWithHeader : List ℕ → ℕ → UnpackedWithHeader
+unfoldable pub unpackedWithHeader : List ℕ → ℕ → SaidHeader
 unpackedWithHeader os n =
     let h = headerOctets os in
-    if ltb 255 n then unread LengthTooLarge
-    else if ltb (length os) h then unread HeaderNotWhole
-    else if ltb n (headerSeptets h) then unread HeaderPassesCount
-    else if ltb (length (drop h os)) (octetCount (fillBits h) (n - headerSeptets h)) then unread TooFewOctets
-    else shown (take h os) (textOf (septetsIn (drop h os) (fillBits h) (n - headerSeptets h)))
+    if ltb 255 n then headerRefused LengthTooLarge
+    else if ltb (length os) h then headerRefused HeaderNotWhole
+    else if ltb n (headerSeptets h) then headerRefused HeaderPassesCount
+    else if ltb (length (drop h os)) (octetCount (fillBits h) (n - headerSeptets h)) then headerRefused TooFewOctets
+    else headerGiven (take h os) (textOf (septetsIn (drop h os) (fillBits h) (n - headerSeptets h)))
 
 -- what packing gives: the header must be as long as its first octet says
-unfoldable pub packingWithHeader : List ℕ → List ℕ → Making Packed
+unfoldable pub packingWithHeader : List ℕ → List ℕ → Making SaidCounts
 packingWithHeader header text = if eqb (length header) (headerOctets header) then packing header text else refused HeaderNotWhole
+
+-- a header of 6 octets, and "A" after it; no octet; header 00, which takes 2 septets, with the fill bits there and not there; a header that is too short to be packed
+known-headers : (unpackedWithHeader (0x05 ∷ 0x00 ∷ 0x03 ∷ 0x01 ∷ 0x02 ∷ 0x01 ∷ 0x82 ∷ []) 8 ≡ headerGiven (0x05 ∷ 0x00 ∷ 0x03 ∷ 0x01 ∷ 0x02 ∷ 0x01 ∷ []) (0x41 ∷ []))
+    × (unpackedWithHeader [] 2 ≡ headerRefused HeaderNotWhole) × (unpackedWithHeader (0x00 ∷ []) 1 ≡ headerRefused HeaderPassesCount) × (unpackedWithHeader (0x00 ∷ 0x00 ∷ []) 2 ≡ headerGiven (0x00 ∷ []) []) × (unpackedWithHeader (0x00 ∷ []) 2 ≡ headerRefused TooFewOctets)
+    × (packingWithHeader (0x01 ∷ []) [] ≡ refused HeaderNotWhole)
+unfolding numberOf lowestDigits septetsIn character utf8 textOf unpackedWithHeader packingWithHeader
+known-headers = (refl, refl, refl, refl, refl, refl)

@@ -1,9 +1,11 @@
-// Characters of a text: those of UTF-16 as UTF-8, and control characters spelled out, so that a text stays on its line.
+// Text in the output as UTF-8, given as UTF-8 or UTF-16. Control characters are spelled out: a text stays on its line.
 ghost use mathlib.Core.Path.{_≡_};
 ghost use Prim.Native.Nat.{_+_, _*_, _<_, _≤_};
 ghost use lib.ListN.{take};
 ghost use Rattle.utf16.specs.Characters.{utf8 as utf8Of, characterOf, firstCharacter, replacement as theReplacement};
-use output::Page;
+use output::Output;
+use output::hexadecimal::put_hex_octet;
+use text_fields::slices::between;
 
 // A character, and how many octets it took.
 pub struct Character {
@@ -11,7 +13,7 @@ pub struct Character {
     pub size: usize,
 }
 
-// The octets of a character.
+// The octets of a character, and how many they are.
 pub struct Utf8Octets {
     pub octets: [u8; 4],
     pub length: usize,
@@ -56,7 +58,7 @@ fn utf8(c: u32) -> Utf8Octets
     }
 }
 
-// A lone surrogate or a lone octet.
+// What stands for a lone surrogate and for a lone octet: U+FFFD.
 fn replacement() -> Character
     ensures { λ r. ⌜ r ≡ theReplacement ⌝ }
 {
@@ -66,7 +68,7 @@ fn replacement() -> Character
     }
 }
 
-// The character that two units of UTF-16 begin with.
+// The character that two units begin with: both are one if they are a pair of surrogates.
 fn character_of(high: u32, low: u32) -> Character
     requires { ⌜ (high < 65536) × (low < 65536) ⌝ }
     ensures { λ r. ⌜ (r ≡ characterOf high low) × (r .code < 0x110000) × (1 ≤ r .size) × (r .size ≤ 4) ⌝ }
@@ -98,14 +100,14 @@ fn character_of(high: u32, low: u32) -> Character
     }
 }
 
-// Sixteen bits, high octet first.
+// A unit of UTF-16: sixteen bits, high octet first.
 fn unit(high: u8, low: u8) -> u32
     ensures { λ r. ⌜ (r ≡ high * 256 + low) × (r < 65536) ⌝ }
 {
     high as u32 * 256 + low as u32
 }
 
-// The first character of UTF-16.
+// The first character of octets in UTF-16.
 fn first_character(octets: &[u8]) -> Character
     ensures { λ r. ⌜ (r ≡ firstCharacter (now (octets .entry))) × (r .code < 0x110000) × (1 ≤ r .size) × (r .size ≤ 4) ⌝ }
 {
@@ -119,7 +121,9 @@ fn first_character(octets: &[u8]) -> Character
     character_of(high, unit(octets[2], octets[3]))
 }
 
-// The letter behind the backslash of an octet that is spelled out; 0 for one that stands for itself.
+// ---- text in the output
+
+// The letter after the backslash of an octet that is spelled out; 0 for one that stands for itself.
 fn escape_letter(octet: u8) -> u8 {
     match octet {
         b'\n' => b'n',
@@ -132,13 +136,13 @@ fn escape_letter(octet: u8) -> u8 {
 }
 
 // An octet that is spelled out in hexadecimal.
-fn put_hex_escape(out: &mut Page, at: usize, octet: u8) -> usize {
-    let escape = output::put(out, at, b"\\x");
-    output::put_hex_octet(out, escape, octet)
+fn put_hex_escape(out: &mut Output, at: usize, octet: u8) -> usize {
+    let next = output::put(out, at, b"\\x");
+    put_hex_octet(out, next, octet)
 }
 
-// An octet of a text.
-fn put_octet(out: &mut Page, at: usize, octet: u8) -> usize {
+// An octet of a text, spelled out if it must be.
+fn put_escaped(out: &mut Output, at: usize, octet: u8) -> usize {
     let letter = escape_letter(octet);
     match letter {
         0 => output::put(out, at, &[octet]),
@@ -147,37 +151,27 @@ fn put_octet(out: &mut Page, at: usize, octet: u8) -> usize {
     }
 }
 
-// A text in UTF-8.
-pub fn put_text(out: &mut Page, at: usize, text: &[u8]) -> usize {
+// A text given as UTF-8.
+pub fn put_utf8(out: &mut Output, at: usize, text: &[u8]) -> usize {
     let mut place = at;
     let mut i = 0;
     while i < text.len() {
-        place = put_octet(out, place, text[i]);
+        place = put_escaped(out, place, text[i]);
         i += 1;
     }
     place
 }
 
-// The first n octets, or all of them.
-pub fn first(octets: &[u8], n: usize) -> &[u8] {
-    if n <= octets.len() {
-        &octets[0..n]
-    } else {
-        octets
-    }
-}
-
-// A character of a text.
-fn put_character(out: &mut Page, at: usize, c: u32) -> usize
+fn put_character(out: &mut Output, at: usize, c: u32) -> usize
     requires { ⌜ c < 0x110000 ⌝ }
 {
-    let shown = utf8(c);
-    let octets = shown.octets;
-    put_text(out, at, first(&octets, shown.length))
+    let made = utf8(c);
+    let octets = made.octets;
+    put_utf8(out, at, between(&octets, 0, made.length))
 }
 
-// A text in UTF-16, high octets first.
-pub fn put_utf16(out: &mut Page, at: usize, octets: &[u8]) -> usize {
+// A text given as UTF-16, high octets first.
+pub fn put_utf16(out: &mut Output, at: usize, octets: &[u8]) -> usize {
     let mut place = at;
     let mut i = 0;
     while i < octets.len() {

@@ -1,5 +1,6 @@
 -- The validity period (TS 23.040 §9.2.3.3, §9.2.3.12).
 use Prim.Native.Nat.{ℕ}
+use mathlib.Core.Path.{_≡_, refl}
 use mathlib.Core.Bool.{Bool, true}
 use mathlib.Core.List.{List, [], _∷_}
 use lib.Dec.{eqb}
@@ -43,3 +44,9 @@ timeHolds ValidityPeriod.None digits = true
 timeHolds (ValidityPeriod.Relative x) digits = true
 timeHolds ValidityPeriod.Absolute digits = isTime digits
 timeHolds ValidityPeriod.Enhanced digits = true
+
+-- VPF 2 and one octet; 3 and a time; 1 and seven octets as they stand
+known-periods : (periodIn 2 (0xa7 ∷ []) ≡ ValidityPeriod.Relative 0xa7) × (periodIn 3 [] ≡ ValidityPeriod.Absolute) × (periodIn 1 [] ≡ ValidityPeriod.Enhanced) × (periodIn 0 [] ≡ ValidityPeriod.None)
+    × (periodSize 0 ≡ 0) × (periodSize 2 ≡ 1) × (periodSize 3 ≡ 7) × (periodSize 1 ≡ 7)
+unfolding periodIn periodSize
+known-periods = (refl, refl, refl, refl, refl, refl, refl, refl)

@@ -99,7 +99,7 @@ pub fn check_period(period: ValidityPeriod, digits: &[u8]) -> bool
     }
 }
 
-// Writes a validity period that was checked; the place behind it.
+// Writes a validity period that was checked; the place after it.
 pub fn put_period(
     period: ValidityPeriod,
     digits: &[u8],

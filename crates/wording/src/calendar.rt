@@ -1,32 +1,28 @@
-// Times and validity periods.
+// Times and relative validity periods, as people write them.
 ghost use Prim.Native.Nat.{_<_};
-use crate::refusals::number_of;
-use output::Page;
+use crate::refusals::refusal_number;
+use output::Output;
+use output::hexadecimal::digit_value;
+use text_fields::lists::entry;
+use text_fields::slices::between;
 
-// What is no digit, and no number of two digits.
-const NO_DIGIT: u8 = 255;
-
-// The value of a hexadecimal digit.
-fn digit_value(digit: u8) -> u8 {
-    match digit {
-        b'0'..=b'9' => digit - b'0',
-        b'A'..=b'F' => digit - b'A' + 10,
-        _ => NO_DIGIT,
-    }
-}
+// What two digits count as that are no number: more than any of them.
+const NO_NUMBER: u8 = 255;
 
 // The number of two decimal digits.
 fn number(tens: u8, ones: u8) -> u8 {
     let t = digit_value(tens);
     let o = digit_value(ones);
     if 9 < t {
-        return NO_DIGIT;
+        return NO_NUMBER;
     }
     if 9 < o {
-        return NO_DIGIT;
+        return NO_NUMBER;
     }
     t * 10 + o
 }
+
+// ---- times: fourteen digits, YYMMDDhhmmssZZ
 
 // The sign of a zone: 8 is added to the first digit of a negative one (TS 23.040 §9.2.3.11).
 fn zone_sign(tens: u8) -> u8 {
@@ -41,31 +37,31 @@ fn zone_quarters(tens: u8, ones: u8) -> u8 {
     let t = digit_value(tens);
     let o = digit_value(ones);
     if 15 < t {
-        return NO_DIGIT;
+        return NO_NUMBER;
     }
     if 9 < o {
-        return NO_DIGIT;
+        return NO_NUMBER;
     }
     t % 8 * 10 + o
 }
 
-// Number i of those that two digits each give.
+// The number of pair i.
 fn pair(digits: &[u8; 14], i: usize) -> u8
     requires { ⌜ i < 7 ⌝ }
 {
     number(digits[2 * i], digits[2 * i + 1])
 }
 
-// Values in the calendar's ranges.
+// Whether a date and a time are in the calendar's ranges.
 fn is_date_and_time(year: u8, month: u8, day: u8, hour: u8, minute: u8, second: u8) -> bool {
-    let read = time::timestamp::timestamp_digits(year, month, day, hour, minute, second, 0);
+    let read = tpdu::timestamp_digits(year, month, day, hour, minute, second, 0);
     let outcome = read.outcome;
-    number_of(outcome) == 0
+    refusal_number(outcome) == 0
 }
 
-// Decimal digits in the calendar's ranges, and a zone.
+// Whether digits are a date, a time and a zone.
 fn is_calendar_time(digits: &[u8; 14]) -> bool {
-    if zone_quarters(digits[12], digits[13]) == NO_DIGIT {
+    if zone_quarters(digits[12], digits[13]) == NO_NUMBER {
         return false;
     }
     is_date_and_time(
@@ -78,25 +74,20 @@ fn is_calendar_time(digits: &[u8; 14]) -> bool {
     )
 }
 
-// Digits 2i and 2i + 1; none where there are no such digits.
+// The digits of pair i.
 fn two_digits(digits: &[u8], i: usize) -> &[u8]
     requires { ⌜ i < 7 ⌝ }
 {
-    if digits.len() < 14 {
-        return digits;
-    }
-    let start = 2 * i;
-    let end = start + 2;
-    &digits[start..end]
+    between(digits, 2 * i, 2 * i + 2)
 }
 
-// Date and time: each two digits behind what separates them.
-fn put_date_and_time(out: &mut Page, at: usize, digits: &[u8]) -> usize {
+// Date and time: `2024-02-15 12:30:45`. Each pair of digits stands after what separates it from the one before.
+fn put_date_and_time(out: &mut Output, at: usize, digits: &[u8]) -> usize {
     let separators = b"20\n-\n-\n \n:\n:\n";
     let mut place = at;
     let mut i = 0;
     while i < 6 {
-        let next = output::put(out, place, text_fields::word(separators, i));
+        let next = output::put(out, place, entry(separators, i));
         place = output::put(out, next, two_digits(digits, i));
         i += 1;
     }
@@ -104,7 +95,7 @@ fn put_date_and_time(out: &mut Page, at: usize, digits: &[u8]) -> usize {
 }
 
 // A zone: ` +01:00`.
-fn put_zone(out: &mut Page, at: usize, tens: u8, ones: u8) -> usize {
+fn put_zone(out: &mut Output, at: usize, tens: u8, ones: u8) -> usize {
     let quarters = zone_quarters(tens, ones);
     let hours = quarters / 4;
     let minutes = quarters % 4 * 15;
@@ -120,17 +111,19 @@ fn put_zone(out: &mut Page, at: usize, tens: u8, ones: u8) -> usize {
     output::put(out, at, &zone)
 }
 
-// The digits YYMMDDhhmmssZZ as `2024-02-15 12:30:45 +00:00`, or as they are.
-pub fn put_time(out: &mut Page, at: usize, digits: [u8; 14]) -> usize {
+// A time as `2024-02-15 12:30:45 +00:00`, or its digits as they are.
+pub fn put_calendar_time(out: &mut Output, at: usize, digits: [u8; 14]) -> usize {
     if !is_calendar_time(&digits) {
-        let behind = output::put(out, at, &digits);
-        return output::put(out, behind, b" (no calendar time)");
+        let next = output::put(out, at, &digits);
+        return output::put(out, next, b" (no calendar time)");
     }
     let next = put_date_and_time(out, at, &digits);
     put_zone(out, next, digits[12], digits[13])
 }
 
-// The units of a period, in the list of their names.
+// ---- relative validity periods
+
+// The units of a period, by their places in the list of names; the plural stands after each.
 const MINUTE: usize = 0;
 
 const HOUR: usize = 2;
@@ -140,17 +133,17 @@ const DAY: usize = 4;
 const WEEK: usize = 6;
 
 // A number of units: `1 hour`, `2 days`.
-fn put_count(out: &mut Page, at: usize, n: u64, unit: usize) -> usize
+fn put_count(out: &mut Output, at: usize, n: u64, unit: usize) -> usize
     requires { ⌜ unit < 8 ⌝ }
 {
     let units = b" minute\n minutes\n hour\n hours\n day\n days\n week\n weeks\n";
     let number = output::put_decimal(out, at, n);
     let name = if n == 1 { unit } else { unit + 1 };
-    output::put(out, number, text_fields::word(units, name))
+    output::put(out, number, entry(units, name))
 }
 
 // Minutes as hours and minutes.
-fn put_minutes(out: &mut Page, at: usize, minutes: u64) -> usize {
+fn put_minutes(out: &mut Output, at: usize, minutes: u64) -> usize {
     if minutes < 60 {
         return put_count(out, at, minutes, MINUTE);
     }
@@ -162,7 +155,8 @@ fn put_minutes(out: &mut Page, at: usize, minutes: u64) -> usize {
     put_count(out, space, minutes % 60, MINUTE)
 }
 
-fn put_period(out: &mut Page, at: usize, v: u8) -> usize {
+// A period by its octet (TS 23.040 §9.2.3.12.1).
+fn put_period_length(out: &mut Output, at: usize, v: u8) -> usize {
     match v {
         0..=143 => put_minutes(out, at, (v as u64 + 1) * 5),
         144..=167 => put_minutes(out, at, 12 * 60 + (v as u64 - 143) * 30),
@@ -171,11 +165,11 @@ fn put_period(out: &mut Page, at: usize, v: u8) -> usize {
     }
 }
 
-// A relative validity period (TS 23.040 §9.2.3.12.1): `relative 170 (4 days)`.
-pub fn put_relative(out: &mut Page, at: usize, v: u8) -> usize {
+// A relative validity period: `relative 170 (4 days)`.
+pub fn put_relative(out: &mut Output, at: usize, v: u8) -> usize {
     let format = output::put(out, at, b"relative ");
     let value = output::put_decimal(out, format, v as u64);
     let opened = output::put(out, value, b" (");
-    let period = put_period(out, opened, v);
+    let period = put_period_length(out, opened, v);
     output::put(out, period, b")")
 }

@@ -1,5 +1,6 @@
-// The labels of lines, by number.
-use output::Page;
+// The labels of lines, by number: a label stands in the list of labels at its number.
+use output::Output;
+use text_fields::lists::entry;
 
 pub const FROM: usize = 0;
 
@@ -31,8 +32,8 @@ pub const DATA: usize = 13;
 
 pub const REFUSED: usize = 14;
 
-// The start of a line: the label of a number, indented, and spaces up to its value.
-pub fn put_label(out: &mut Page, at: usize, label: usize) -> usize {
+// The start of a line: two spaces, the label, and spaces up to the value.
+pub fn put_label(out: &mut Output, at: usize, label: usize) -> usize {
     let labels = b"\
         from      \n\
         to        \n\
@@ -50,5 +51,5 @@ pub fn put_label(out: &mut Page, at: usize, label: usize) -> usize {
         data      \n\
         refused   \n";
     let indent = output::put(out, at, b"  ");
-    output::put(out, indent, text_fields::word(labels, label))
+    output::put(out, indent, entry(labels, label))
 }

@@ -1,5 +1,5 @@
-// What octets mean to people: times and validity periods, statuses, causes and codings, and the labels of lines.
+// What octets mean, in words for people: times, codings, statuses, causes and refusals; and the labels of lines.
 pub mod calendar;
-pub mod codes;
 pub mod labels;
+pub mod meanings;
 pub mod refusals;

@@ -1,23 +1,19 @@
-// The refusals in words: the name of each, and what it means. In the lists a refusal stands at its number; none has number 0.
-use octets::Outcome;
-use octets::Refusal;
-use output::Page;
+// The refusals in words: the name of each, and what it means. In the lists a refusal stands at its number:
+// place 0 is empty, since no refusal has that number, and so are places 24 to 36, whose refusals are not here yet.
+use output::Output;
+use text_fields::lists::entry;
+use tpdu::Outcome;
 
 // The number of an outcome's refusal; 0 if there is none.
-pub fn number_of(outcome: Outcome) -> u8 {
+pub fn refusal_number(outcome: Outcome) -> u8 {
     match outcome {
         Outcome::Done => 0,
         Outcome::Refused(why) => why.number(),
     }
 }
 
-// The name of a refusal.
-pub fn put_name(out: &mut Page, at: usize, r: Refusal) -> usize {
-    put_name_of(out, at, r.number())
-}
-
-// The same of a refusal's number.
-pub fn put_name_of(out: &mut Page, at: usize, number: u8) -> usize {
+// The name of a refusal, by its number.
+fn put_name(out: &mut Output, at: usize, refusal: u8) -> usize {
     let names = b"\n\
         LengthTooLarge\n\
         OctetsEnd\n\
@@ -41,12 +37,25 @@ pub fn put_name_of(out: &mut Page, at: usize, number: u8) -> usize {
         CalendarOutOfRange\n\
         ZoneOutOfRange\n\
         TooManySeptets\n\
-        OutputTooShort\n";
-    output::put(out, at, text_fields::word(names, number as usize))
+        OutputTooShort\n\
+        \n\
+        \n\
+        \n\
+        \n\
+        \n\
+        \n\
+        \n\
+        \n\
+        \n\
+        \n\
+        \n\
+        \n\
+        \n";
+    output::put(out, at, entry(names, refusal as usize))
 }
 
-// What a refusal of a number means.
-fn put_meaning(out: &mut Page, at: usize, number: u8) -> usize {
+// What a refusal means, by its number.
+fn put_meaning(out: &mut Output, at: usize, refusal: u8) -> usize {
     let meanings = b"\n\
         A record's length field passes its array, or a text reader's count passes 255\n\
         The octets end inside a field\n\
@@ -70,18 +79,37 @@ fn put_meaning(out: &mut Page, at: usize, number: u8) -> usize {
         A calendar value is out of range\n\
         The zone passes 79 either way\n\
         Header and text take more than 255 septets\n\
-        A lent output is too short\n";
-    output::put(out, at, text_fields::word(meanings, number as usize))
+        A lent output is too short\n\
+        \n\
+        \n\
+        \n\
+        \n\
+        \n\
+        \n\
+        \n\
+        \n\
+        \n\
+        \n\
+        \n\
+        \n\
+        \n";
+    output::put(out, at, entry(meanings, refusal as usize))
 }
 
-// A refusal's number and what it means.
-pub fn put_refusal_words(out: &mut Page, at: usize, why: Refusal) -> usize {
-    put_words_of(out, at, why.number())
+// A refusal's number and a space.
+fn put_number(out: &mut Output, at: usize, refusal: u8) -> usize {
+    let next = output::put_decimal(out, at, refusal as u64);
+    output::put(out, next, b" ")
 }
 
-// The same of a refusal's number.
-pub fn put_words_of(out: &mut Page, at: usize, number: u8) -> usize {
-    let behind = output::put_decimal(out, at, number as u64);
-    let space = output::put(out, behind, b" ");
-    put_meaning(out, space, number)
+// A refusal's number and name, for programs: `2 OctetsEnd`.
+pub fn put_number_and_name(out: &mut Output, at: usize, refusal: u8) -> usize {
+    let next = put_number(out, at, refusal);
+    put_name(out, next, refusal)
+}
+
+// A refusal's number and meaning, for people: `2 The octets end inside a field`.
+pub fn put_number_and_meaning(out: &mut Output, at: usize, refusal: u8) -> usize {
+    let next = put_number(out, at, refusal);
+    put_meaning(out, next, refusal)
 }

@@ -3,7 +3,7 @@
 use Prim.Native.Nat.{ℕ, _≤_, _<_}
 use mathlib.Core.Path.{_≡_, sym, _∙_}
 use borrow.Author.Tests.{eq-eqb, ne-eqb, le-leb, lt-leb}
-use Rattle.octets.specs.declared.Checked.{Checked}
+use Rattle.octets.specs.Answers.{refuses, fine}
 use Rattle.octets.specs.declared.Refusal.the-variants.{UserDataLengthDisagrees, UserDataTooLong}
 use Rattle.coding.specs.declared.UserDataCoding.{UserDataCoding}
 use Rattle.coding.specs.Coding.{checkedData, dataOctets, codingOf}
@@ -16,18 +16,18 @@ module _ (dcs udl n : ℕ) {coding : UserDataCoding} {octets : ℕ} (e : octets 
   given : octets ≡ dataOctets (codingOf dcs) udl
   given = size-told dcs udl e c
 
-  disagrees : (n ≡ octets → ⊥) → Checked.Against UserDataLengthDisagrees ≡ checkedData dcs udl n
+  disagrees : (n ≡ octets → ⊥) → refuses UserDataLengthDisagrees ≡ checkedData dcs udl n
   unfolding checkedData
   disagrees h = rw (ne-eqb n (dataOctets (codingOf dcs) udl) (λ p. h (p ∙ sym given)))
 
   module _ (h : n ≡ octets) where
-    too-long : 140 < n → Checked.Against UserDataTooLong ≡ checkedData dcs udl n
+    too-long : 140 < n → refuses UserDataTooLong ≡ checkedData dcs udl n
     unfolding checkedData
     too-long l = rw (eq-eqb n (dataOctets (codingOf dcs) udl) (h ∙ given), lt-leb n 140 l)
 
-    fine : n ≤ 140 → Checked.Fine ≡ checkedData dcs udl n
+    all-fine : n ≤ 140 → fine ≡ checkedData dcs udl n
     unfolding checkedData
-    fine l = rw (eq-eqb n (dataOctets (codingOf dcs) udl) (h ∙ given), le-leb n 140 l)
+    all-fine l = rw (eq-eqb n (dataOctets (codingOf dcs) udl) (h ∙ given), le-leb n 140 l)
 
 pub check-user-data-spec : {M : Type 1} → statement M
 check-user-data-spec =
@@ -37,4 +37,4 @@ check-user-data-spec =
     (λ c κs. tt)
     (λ c. disagrees _ _ _ (c .before .user-data-octets .ensures) (c .before .before .user-data-coding .ensures) (c .if1 .taken))
     (λ c. too-long _ _ _ (c .before .before .user-data-octets .ensures) (c .before .before .before .user-data-coding .ensures) (c .before .if1 .left) (c .if2 .taken))
-    (λ c. fine _ _ _ (c .before .before .user-data-octets .ensures) (c .before .before .before .user-data-coding .ensures) (c .before .if1 .left) (c .if2 .left)))
+    (λ c. all-fine _ _ _ (c .before .before .user-data-octets .ensures) (c .before .before .before .user-data-coding .ensures) (c .before .if1 .left) (c .if2 .left)))

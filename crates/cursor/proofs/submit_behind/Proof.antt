@@ -37,11 +37,12 @@ use denote.Triple.Table.{cited}
 use denote.Triple.Walked.{says, Stays, stay-none, stay-none-slice, walkOf, goes-none, goes-none-slice, ends-at, walked}
 use denote.Exit.{yes}
 use denote.Triple.Clauses.{ensured}
-use Rattle.submit.specs.Submit.{submit, answer}
+use Rattle.layout.specs.Layout.{answer}
+use Rattle.submit.specs.Submit.{submit, blank, octetsTaken}
 use Rattle.submit.specs.declared.SubmitRead.{SubmitRead}
 use Rattle.submit.proofs.SubmitRead as S
 use Rattle.submit.proofs.SubmitRead.Laws as S′
-use Rattle.cursor.specs.From.{behindPlace, submitFrom}
+use Rattle.cursor.specs.From.{behindPlace, submitReadSays, submitFrom}
 use Rattle.cursor.proofs.Places.{from-there}
 use Rattle.cursor.specs.declared.Cursor.{Cursor}
 use Rattle.cursor.proofs.Cursor as T
@@ -65,12 +66,12 @@ abbrev stayed : Stays (this.ended .signature .params) (this.ended .kept)
 stayed = (stay-none-slice (0 ∷ []) tt (plain (λ _. u8)) yes, (stay-none (λ _. usize) yes, tt))
 
 -- a cursor made anew, moved, and read from: the SUBMIT behind so many octets
-found : (s : RefT (List ℕ)) (count : ℕ) (c d : Cursor) {t : SubmitRead} → (c .octets ≡ s) × (c .place ≡ 0) → (d .octets ≡ c .octets) × (d .place ≡ behindPlace (now (c .octets)) (c .place) count) → t ≡ submitFrom (now (d .octets)) (d .place)
-    → t ≡ submitFrom (now s) count
+found : (s : RefT (List ℕ)) (count : ℕ) (c d : Cursor) {t : SubmitRead} → (c .octets ≡ s) × (c .place ≡ 0) → (d .octets ≡ c .octets) × (d .place ≡ behindPlace (now (c .octets)) (c .place) count) → submitReadSays t ≡ submitFrom (now (d .octets)) (d .place)
+    → submitReadSays t ≡ submitFrom (now s) count
 found s count c d e f h =
     let o : d .octets ≡ s = f .0 ∙ e .0 in
     let p : d .place ≡ behindPlace (now s) 0 count = f .1 ∙ ap (λ (x : RefT (List ℕ)). behindPlace (now x) (c .place) count) (e .0) ∙ ap (λ (n : ℕ). behindPlace (now s) n count) (e .1) in
-    h ∙ ap (λ (x : RefT (List ℕ)). submitFrom (now x) (d .place)) o ∙ ap answer (from-there (now s) count p submit)
+    h ∙ ap (λ (x : RefT (List ℕ)). submitFrom (now x) (d .place)) o ∙ ap (λ x. (answer blank x, octetsTaken x)) (from-there (now s) count p submit)
 
 module _ {M : Type 1} (𝓤 : URA M) (H : Heap 𝓤) (A : Atoms 𝓤) (mem : Memory → SProp 𝓤) (run : Routine → Fun 𝓤) where
   -- the contracts that the proof cites
@@ -109,7 +110,7 @@ module _ {M : Type 1} (𝓤 : URA M) (H : Heap 𝓤) (A : Atoms 𝓤) (W : Given
   Moved c d = (d .octets ≡ c .octets) × (d .place ≡ behindPlace (now (c .octets)) (c .place) count)
 
   abbrev Read : Cursor → SubmitRead → Type 0
-  Read d t = t ≡ submitFrom (now (d .octets)) (d .place)
+  Read d t = submitReadSays t ≡ submitFrom (now (d .octets)) (d .place)
 
   -- what each is passed, and asks
   abbrev to-new : New 𝓤 H A mem run .Ghost
@@ -136,7 +137,7 @@ module _ {M : Type 1} (𝓤 : URA M) (H : Heap 𝓤) (A : Atoms 𝓤) (W : Given
     goes-decode : ent 𝓤 (⋆ 𝓤 H A (‵ (B (κ, tt) .own r (u ∷ [])) ∷ (‵ (flft κ q) ⊛ ‵ ftrue) ∷ [])) (Decode 𝓤 H A mem run .pre to-decode)
     goes-decode = qed W (‵ (B (κ, tt) .own r (u ∷ [])) ∷ (‵ (flft κ q) ⊛ ‵ ftrue) ∷ []) ∵ nothing ! $ move ! (1 ∷ 0 ∷ []) $ fjoin ! $ move ! (1 ∷ 0 ∷ []) $ join ! $ frame ! $ done !
 
-  exits : (t : SubmitRead) (u : Val) → t ≡ submitFrom (now s) count → ent 𝓤 (⋆ 𝓤 H A (‵ (S.the-row .own t (u ∷ [])) ∷ (‵ (flft κ q) ⊛ ‵ ftrue) ∷ ‵ Own ∷ [])) (Post u)
+  exits : (t : SubmitRead) (u : Val) → submitReadSays t ≡ submitFrom (now s) count → ent 𝓤 (⋆ 𝓤 H A (‵ (S.the-row .own t (u ∷ [])) ∷ (‵ (flft κ q) ⊛ ‵ ftrue) ∷ ‵ Own ∷ [])) (Post u)
   exits t u e =
       qed W (‵ (S.the-row .own t (u ∷ [])) ∷ (‵ (flft κ q) ⊛ ‵ ftrue) ∷ ‵ Own ∷ []) ∵
       suffices ! _ (ends-at 𝓤 H A this.ended stayed (this.clauses 𝓤 H A mem run) W (((κ, tt), (q, tt), tt, (s, (count, tt)), at), tt) u t (tt, (tt, tt)) (tt, (tt, tt))) $ says ! e $

@@ -1,4 +1,4 @@
--- `gsm7::octet_or_zero` meets its contract: an octet fits a u16, and behind the end the list reads 0.
+-- `septets::octet_or_zero` meets its contract: an octet fits a u16, and past the end the list reads 0.
 -- Assumes nothing.
 use native.Mathlib.Omega.{arith}
 use mathlib.Core.Path.{sym}

@@ -10,7 +10,7 @@ use denote.Ref.{now}
 use lib.ListN.{length, getD, set, length-set}
 use lib.Seq.{sets}
 use Rattle.octets.proofs.Laws.{Left, left-start, left-step, left-end, wrote-one}
-use Rattle.septets.specs.Septets.{packedSeptets, digitsOf, numberOf}
+use Rattle.septets.specs.Septets.{packedSeptets, lowestDigits, numberOf}
 use Rattle.septets.proofs.Number.{rest-start, rest-step, rest-end, digits-zero, octet-at}
 use Rattle.septets.proofs.Inverse.{length-packed}
 use Rattle.septets.proofs.pack_octets.Statement.{statement}
@@ -22,7 +22,7 @@ use Rattle.septets.proofs.septet_before.Reads as septet-before-reads
 
 -- the octets that are left when j of n are packed
 abbrev left : List ℕ → ℕ → ℕ → ℕ → List ℕ
-left ss f n j = digitsOf 8 (n - j) (numberOf 7 ss * 2 ^ f / 2 ^ (j * 8))
+left ss f n j = lowestDigits 8 (n - j) (numberOf 7 ss * 2 ^ f / 2 ^ (j * 8))
 
 abbrev Inv-loop : tie.InvT-loop
 Inv-loop septets fill out₀ at n index₀ shift₀ low₀ j₀ out index shift low j =

@@ -1,4 +1,4 @@
--- `submit::blank` meets its contract: part by part.
+-- `submit::blank` meets its contract: field by field.
 -- Assumes nothing.
 use Rattle.octets.specs.Arrays.{pad}
 use Rattle.submit.specs.Submit.{blank}

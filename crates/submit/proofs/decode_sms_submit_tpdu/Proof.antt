@@ -1,6 +1,5 @@
--- `submit::decode_sms_submit_tpdu` meets its contract: it is the reader that the line describes.
+-- `submit::decode_sms_submit_tpdu` meets its contract: it is the reader that the layout describes.
 -- Assumes nothing.
-use mathlib.Core.Path.{_∙_}
 use borrow.Author.Needs.{needs}
 use Rattle.submit.proofs.RecordRead.{answer-refused, answer-done}
 use Rattle.submit.proofs.decode_sms_submit_tpdu.Statement.{statement}
@@ -13,7 +12,7 @@ message-requires : tie.Need-message-requires
 message-requires c κs = rw (c .before .before .f .given .1) at (c .before .before .before .before .fields-of .ensures .1)
 
 returns : tie.Need-returns
-returns c = c .refused .ensures ∙ answer-refused _ _ (rw (c .before .before .r .given .1) at (c .before .before .before .before .fields-of .ensures .0))
+returns c = answer-refused _ _ _ (rw (c .before .before .r .given .1) at (c .before .before .before .before .fields-of .ensures .0)) (c .blank .ensures)
 
 returns-2 : tie.Need-returns-2
 returns-2 c =

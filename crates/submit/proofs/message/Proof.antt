@@ -1,4 +1,4 @@
--- `submit::message` meets its contract: part by part.
+-- `submit::message` meets its contract: field by field.
 -- Assumes nothing.
 use mathlib.Core.Path.{sym, _∙_}
 use native.Mathlib.Omega.{arith}
@@ -29,7 +29,7 @@ text-in-requires : tie.Need-text-in-requires
 text-in-requires c κs =
     let entry = c .before .before .before .before .before .before .before .before .before .before .before .before .before in
     let (size, few, header) = data-room (now (entry .args .«data»)) (entry .args .f) (entry .pre) in
-    rw (c .user-data-coding .ensures) (header, entry .pre .7, size ∙ entry .pre .5)
+    rw (c .user-data-coding .ensures) (header, entry .pre .8, size ∙ entry .pre .5)
 
 returns : tie.Need-returns
 returns c =
@@ -39,7 +39,7 @@ returns c =
     let known = period .before .before .before .before .before .before in
     let entry = known .before in
     message-is (now (entry .args .«data»)) (λ i. known .shared-slice-known .given i .fits) (entry .args .f) (entry .pre)
-    _ (period .before .decode .ensures) _ (period .period-in .ensures) _ (raw .before .before .digits-in .ensures) _ (raw .before .enhanced-in .ensures)
+    _ (period .before .address-at .ensures) _ (period .period-in .ensures) _ (raw .before .before .digits-in .ensures) _ (raw .before .enhanced-in .ensures)
     _ (raw .data-with .ensures) _ (coded .before .data-with2 .ensures) _ (c .text-in .ensures ∙ rw (coded .user-data-coding .ensures))
 
 pub message-spec : {M : Type 1} → statement M

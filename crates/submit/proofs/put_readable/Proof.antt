@@ -5,12 +5,12 @@ use borrow.Author.Needs.{needs}
 use borrow.Author.Tests.{leb-true}
 use Rattle.coding.specs.Coding.{dataOctets}
 use Rattle.coding.proofs.Laws.{data-at-most}
-use Rattle.submit.specs.Line.{inCount}
+use Rattle.submit.specs.Layout.{inCount}
 use Rattle.submit.specs.Submit.{readable}
 use Rattle.submit.proofs.put_readable.Statement.{statement}
 use Rattle.submit.proofs.put_readable.Tie as tie
 
-seven-bit : tie.Need-put-text-requires
+seven-bit : tie.Need-put-with-header-requires
 unfolding inCount dataOctets
 seven-bit c κs =
     let s = c .before .before .before .before in
@@ -30,7 +30,7 @@ put-readable-spec =
     (λ c κs. let s = c .before .before .before .before in omega (arith, s .pre .2, s .pre .3, data-at-most (s .args .coding) (s .args .udl)))
     (λ c. search needs)
     (λ c κs. let s = c .before .before .before .before in omega (arith, s .pre .2, s .pre .3, data-at-most (s .args .coding) (s .args .udl)))
-    (λ c. rw (c .before .before .enum-told .given .1) (c .put-text .ensures))
+    (λ c. rw (c .before .before .enum-told .given .1) (c .put-with-header .ensures))
     (λ c. rw (c .before .before .enum-told2 .given .1) (c .put-octets .ensures))
     (λ c. rw (c .before .before .enum-told3 .given .1) (c .put-octets2 .ensures))
     (λ c. rw (c .before .before .enum-told4 .given .1) (c .put-octets3 .ensures)))

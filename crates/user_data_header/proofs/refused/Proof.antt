@@ -2,10 +2,10 @@
 -- Assumes nothing.
 use mathlib.Core.Path.{refl}
 use Rattle.octets.specs.Arrays.{pad}
-use Rattle.user_data_header.specs.Header.{unread}
+use Rattle.user_data_header.specs.Header.{headerRefused}
 use Rattle.user_data_header.proofs.refused.Statement.{statement}
 use Rattle.user_data_header.proofs.refused.Tie as tie
 
 pub refused-spec : {M : Type 1} → statement M
-unfolding unread pad
+unfolding headerRefused pad
 refused-spec = tie.close (tie.spec (λ c. refl))

@@ -25,7 +25,7 @@ in-septets : tie.Need-returns
 in-septets c =
     let a = c .before .before .before .before .before .before .before .args in
     let f = fine-text _ _ _ _ (c .before .before .before .before .before .before .before .pre .0) (c .before .before .before .before .if1 .taken) in
-    octets-are (f .4) (wrote-field (a .at) _ _ _ _ (rw (septets-are _ (f .0) (f .1)) at (c .before .before .put-text .ensures)))
+    octets-are (f .4) (wrote-field (a .at) _ _ _ _ (rw (septets-are _ (f .0) (f .1)) at (c .before .before .put-septets .ensures)))
 
 in-digits : tie.Need-returns-2
 in-digits c =
@@ -33,8 +33,8 @@ in-digits c =
     let f = fine-digits _ _ _ _ (c .before .before .before .before .before .before .before .pre .0) (c .before .before .before .before .if1 .left) in
     octets-are (f .2) (wrote-field (a .at) _ _ _ _ (c .before .before .put-digits .ensures))
 
-put-text-requires : tie.Need-put-text-requires
-put-text-requires c κs =
+put-septets-requires : tie.Need-put-septets-requires
+put-septets-requires c κs =
     let f = fine-text _ _ _ _ (c .before .before .before .before .pre .0) (c .before .if1 .taken) in
     (spells _ (f .0) (f .1) (f .2), rw (septets-are _ (f .0) (f .1)) (simp length-set (omega (arith, f .2, f .3, c .before .before .before .before .pre .1))))
 
@@ -55,8 +55,8 @@ put-address-spec =
     (λ c. omega arith)
     (λ c. simp length-set (omega arith))
     (λ c. omega arith)
-    put-text-requires
-    (λ c. kept-by (c .before .before .put-text .ensures) ∙ simp length-set)
+    put-septets-requires
+    (λ c. kept-by (c .before .before .put-septets .ensures) ∙ simp length-set)
     in-septets
     (λ c. omega arith)
     put-digits-requires

@@ -3,7 +3,7 @@
 use mathlib.Core.Path.{refl}
 use contract.Running.{givenOf}
 use denote.Enum.Laws.{lawful}
-use Rattle.cursor.specs.From.{octetFrom}
+use Rattle.cursor.specs.From.{octetReadSays, octetFrom}
 use Rattle.cursor.proofs.from_place.OctetRead.{the-row, the-type}
 use Rattle.cursor.proofs.from_place.OctetRead.Laws.{mir, the-laws}
 use Rattle.cursor.proofs.from_place.octet_at.Symbol as callee
@@ -16,5 +16,5 @@ use Rattle.cursor.proofs.Cursor.read_octet.Code as code
 pub read-octet-spec : {M : Type 1} → statement M
 unfolding code.routine
 read-octet-spec 𝓤 H 𝓜 𝓖 𝓡 =
-    goes-through the-row mir refl octetFrom callee.name 𝓤 H 𝓜 𝓖 𝓡 code.env name
+    goes-through the-row mir refl octetReadSays octetFrom callee.name 𝓤 H 𝓜 𝓖 𝓡 code.env name
     (lawful the-type the-laws 𝓤 H (𝓖 .A) (givenOf 𝓤 H 𝓜 𝓖) tt) (code.unfolded 𝓤 H 𝓜 𝓡) callee.routine code.calls-cursor·from-place·octet-at (met 𝓤 H 𝓜 𝓖 𝓡)

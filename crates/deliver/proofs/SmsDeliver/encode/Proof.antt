@@ -6,20 +6,20 @@ use native.Mathlib.Omega.{arith}
 use borrow.Author.Needs.{needs}
 use lib.ListN.{length}
 use lib.Seq.{length-take-le}
-use Rattle.octets.specs.declared.Written.{Written}
+use Rattle.octets.specs.Answers.{refuses}
 use Rattle.octets.proofs.Laws.{lent-refused}
 use Rattle.deliver.specs.declared.SmsDeliver.{SmsDeliver}
-use Rattle.deliver.proofs.RecordWritten.{too-long, by-parts, all-fit}
+use Rattle.deliver.proofs.RecordWritten.{too-long, by-fields, all-fit}
 use Rattle.deliver.proofs.SmsDeliver.encode.Reads as reads
 use Rattle.deliver.proofs.SmsDeliver.encode.Lts as lts
 use Rattle.deliver.proofs.flags.Reads as flags-reads
-use Rattle.deliver.proofs.writing.encode_parts.Reads as encode-parts-reads
+use Rattle.deliver.proofs.writing.encode_fields.Reads as encode-fields-reads
 use Rattle.deliver.proofs.SmsDeliver.encode.Statement.{statement}
 use Rattle.deliver.proofs.SmsDeliver.encode.Tie as tie
 
 -- where the lengths pass no array
 abbrev Fits : Type 0
-Fits = lts.Else1 (flags-reads.Asked, flags-reads.Learnt, encode-parts-reads.Asked, encode-parts-reads.Learnt) reads.Pre reads.Post
+Fits = lts.Else1 (flags-reads.Asked, flags-reads.Learnt, encode-fields-reads.Asked, encode-fields-reads.Learnt) reads.Pre reads.Post
 
 module _ (c : Fits) where
   abbrev message : SmsDeliver
@@ -38,7 +38,7 @@ pub encode-spec : {M : Type 1} → statement M
 encode-spec =
     tie.close
     (tie.spec
-    (λ c. lent-refused Written.Refused _ _ (too-long _ (c .if1 .taken)))
+    (λ c. lent-refused refuses _ _ (too-long _ (c .if1 .taken)))
     (λ c κs. tt)
     (λ c. text-fits (c .before .before .before .before))
     (λ c. sym (length-take-le _ _ (text-fits (c .before .before .before .before .before))))
@@ -49,4 +49,4 @@ encode-spec =
     (λ c κs. tt)
     (λ c. search needs)
     (λ c. let k = c .before .before .before .before .before .before .before .before .before .before .before in
-    rw (by-parts _ (k .if1 .left), ← c .before .before .before .before .before .before .before .before .before .before .flags .ensures) (c .before .before .encode-parts .ensures)))
+    rw (by-fields _ (k .if1 .left), ← c .before .before .before .before .before .before .before .before .before .before .flags .ensures) (c .before .before .encode-fields .ensures)))

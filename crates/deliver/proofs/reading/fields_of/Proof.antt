@@ -1,7 +1,8 @@
 -- `deliver::reading::fields_of` meets its contract: it finds what the line reads.
 -- Assumes nothing.
-use mathlib.Core.Path.{sym, _∙_}
+use mathlib.Core.Path.{sym, _∙_, ap}
 use borrow.Author.Needs.{needs}
+use Rattle.octets.specs.Answers.{octetSays, spanSays}
 use Rattle.deliver.proofs.FieldByField.{no-first, other-type, no-address, to-address}
 use Rattle.deliver.proofs.reading.fields_of.Statement.{statement}
 use Rattle.deliver.proofs.reading.fields_of.Tie as tie
@@ -10,22 +11,22 @@ returns-3 : tie.Need-returns-3
 returns-3 c =
     let i = c .before .before .before in
     let f = i .before .before in
-    (no-address _ (sym (f .before .before .octet .ensures) ∙ f .first .given .1) (i .if1 .left) (sym (c .before .before .address-at .ensures) ∙ c .enum-told2 .given .1), tt)
+    (no-address _ (sym (f .before .before .octet .ensures) ∙ ap octetSays (f .first .given .1)) (i .if1 .left) (sym (c .before .before .address-span .ensures) ∙ ap spanSays (c .enum-told2 .given .1)), tt)
 
-behind-address-requires : tie.Need-behind-address-requires
-behind-address-requires c κs =
+after-address-requires : tie.Need-after-address-requires
+after-address-requires c κs =
     let a = c .before in
     let i = a .before .before .before in
     let f = i .before .before in
-    to-address _ (sym (f .before .before .octet .ensures) ∙ f .first .given .1) (i .if1 .left) (sym (a .before .before .address-at .ensures) ∙ a .address .given .1) .0
+    to-address _ (sym (f .before .before .octet .ensures) ∙ ap octetSays (f .first .given .1)) (i .if1 .left) (sym (a .before .before .address-span .ensures) ∙ ap spanSays (a .address .given .1)) .0
 
 returns-4 : tie.Need-returns-4
 returns-4 c =
     let a = c .before .before in
     let i = a .before .before .before in
     let f = i .before .before in
-    let r = c .behind-address .ensures in
-    (r .0 ∙ to-address _ (sym (f .before .before .octet .ensures) ∙ f .first .given .1) (i .if1 .left) (sym (a .before .before .address-at .ensures) ∙ a .address .given .1) .1, r .1)
+    let r = c .after-address .ensures in
+    (r .0 ∙ to-address _ (sym (f .before .before .octet .ensures) ∙ ap octetSays (f .first .given .1)) (i .if1 .left) (sym (a .before .before .address-span .ensures) ∙ ap spanSays (a .address .given .1)) .1, r .1)
 
 pub fields-of-spec : {M : Type 1} → statement M
 fields-of-spec =
@@ -34,11 +35,11 @@ fields-of-spec =
     (λ c κs. tt)
     (λ c. search needs)
     (λ c. search needs)
-    (λ c. (no-first _ (sym (c .before .before .octet .ensures) ∙ c .enum-told .given .1), tt))
-    (λ c. (other-type _ (sym (c .before .before .before .before .octet .ensures) ∙ c .before .before .first .given .1) (c .if1 .taken), tt))
+    (λ c. (no-first _ (sym (c .before .before .octet .ensures) ∙ ap octetSays (c .enum-told .given .1)), tt))
+    (λ c. (other-type _ (sym (c .before .before .before .before .octet .ensures) ∙ ap octetSays (c .before .before .first .given .1)) (c .if1 .taken), tt))
     (λ c κs. tt)
     (λ c. search needs)
     (λ c. search needs)
     returns-3
-    behind-address-requires
+    after-address-requires
     returns-4)

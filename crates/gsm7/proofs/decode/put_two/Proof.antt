@@ -3,6 +3,8 @@
 use mathlib.Core.Path.{_≡_, refl}
 use native.Mathlib.Numerals.{add-one}
 use native.Mathlib.Omega.{arith}
+use borrow.Author.Needs.{needs}
+use lib.ListN.{length-set}
 use Rattle.gsm7.proofs.decode.put_two.Statement.{statement}
 use Rattle.gsm7.proofs.decode.put_two.Tie as tie
 
@@ -14,6 +16,7 @@ put-two-spec =
     (λ c. omega arith)
     (λ c. omega arith)
     (λ c. omega arith)
+    (λ c. simp length-set (omega arith))
     (λ c. omega arith)
-    (λ c. omega arith)
+    (λ c. search needs)
     (λ c. record { place = refl; list = rw add-one }))

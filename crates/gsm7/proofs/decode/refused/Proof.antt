@@ -2,12 +2,12 @@
 -- Assumes nothing.
 use mathlib.Core.Path.{refl}
 use Rattle.octets.specs.Arrays.{pad}
-use Rattle.gsm7.specs.Reading.{unread}
+use Rattle.gsm7.specs.Reading.{textRefused}
 use Rattle.gsm7.proofs.decode.refused.Statement.{statement}
 use Rattle.gsm7.proofs.decode.refused.Tie as tie
 
 returns : tie.Need-returns
-unfolding unread pad
+unfolding textRefused pad
 returns c = refl
 
 pub refused-spec : {M : Type 1} → statement M

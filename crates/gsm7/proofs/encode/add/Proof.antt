@@ -1,4 +1,4 @@
--- `gsm7::encode::add` meets its contract: a store behind the array's end would change nothing.
+-- `gsm7::encode::add` meets its contract: a store past the array's end would change nothing.
 -- Assumes nothing.
 use Prim.Native.Nat.{_+_}
 use mathlib.Core.Path.{refl, sym}

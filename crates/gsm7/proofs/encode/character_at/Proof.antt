@@ -5,7 +5,7 @@ use Prim.Native.Nat.{ℕ, _+_, _<_, _≤_}
 use mathlib.Core.Path.{_≡_, sym, _∙_}
 use denote.Ref.{now}
 use lib.ListN.{getD}
-use Rattle.gsm7.proofs.Decoding.{first-one, first-two, first-three}
+use Rattle.gsm7.proofs.FirstCharacter.{first-one, first-two, first-three}
 use Rattle.gsm7.proofs.encode.character_at.Statement.{statement}
 use Rattle.gsm7.proofs.encode.character_at.Tie as tie
 

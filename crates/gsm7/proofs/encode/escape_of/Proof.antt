@@ -2,11 +2,13 @@
 -- Assumes nothing.
 use Prim.Native.Nat.{ℕ, _-_, _≤_}
 use mathlib.Core.Path.{_≡_, refl, _∙_}
+use mathlib.Core.List.{[], _∷_}
 use mathlib.Core.Option.{none, some}
 use native.Mathlib.Omega.{arith}
 use lib.ListN.{getD, drop}
+use Rattle.octets.specs.Answers.{gives, refuses}
+use Rattle.octets.specs.declared.Refusal.the-variants.{NotInAlphabet}
 use Rattle.gsm7.specs.declared.decode.Extension.{Extension}
-use Rattle.gsm7.specs.declared.encode.Code.the-variants.{Escaped, Absent}
 use Rattle.gsm7.specs.Alphabet.{extension, rowWith}
 use Rattle.gsm7.specs.Writing.{extendedCode}
 use Rattle.gsm7.proofs.Rows.{row-here, row-next, row-end}
@@ -20,11 +22,11 @@ Inv-loop c i₀ i =
 abbrev μ-loop : tie.MeasureT-loop
 μ-loop c i₀ i = 10 - i
 
-found : (c : ℕ) {e : Extension} → rowWith (λ (e : Extension). e .character) c extension ≡ some e → Escaped (e .code) ≡ extendedCode c
+found : (c : ℕ) {e : Extension} → rowWith (λ (e : Extension). e .character) c extension ≡ some e → gives (0x1b ∷ e .code ∷ []) ≡ extendedCode c
 unfolding extendedCode
 found c p = rw p
 
-missed : (c : ℕ) → rowWith (λ (e : Extension). e .character) c extension ≡ none → Absent ≡ extendedCode c
+missed : (c : ℕ) → rowWith (λ (e : Extension). e .character) c extension ≡ none → refuses NotInAlphabet ≡ extendedCode c
 unfolding extendedCode
 missed c p = rw p
 

@@ -2,7 +2,7 @@
 -- Assumes nothing.
 use native.Mathlib.Omega.{arith}
 use mathlib.Core.Path.{sym}
-use Rattle.gsm7.proofs.Decoding.{three-small, three-third, three-second, three-first, three-read}
+use Rattle.gsm7.proofs.FirstCharacter.{three-small, three-third, three-second, three-first, three-read}
 use Rattle.gsm7.proofs.encode.three_octets.Statement.{statement}
 use Rattle.gsm7.proofs.encode.three_octets.Tie as tie
 

@@ -2,7 +2,7 @@
 -- Assumes nothing.
 use native.Mathlib.Omega.{arith}
 use mathlib.Core.Path.{sym}
-use Rattle.gsm7.proofs.Decoding.{two-small, two-second, two-first, two-read}
+use Rattle.gsm7.proofs.FirstCharacter.{two-small, two-second, two-first, two-read}
 use Rattle.gsm7.proofs.encode.two_octets.Statement.{statement}
 use Rattle.gsm7.proofs.encode.two_octets.Tie as tie
 

@@ -14,7 +14,7 @@ use Rattle.gsm7.specs.Writing.{septetsOf}
 use Rattle.gsm7.specs.Packing.{notPacked}
 use Rattle.gsm7.proofs.Adequate.{septets-digits}
 use Rattle.gsm7.proofs.Scanning.{scanned-some, scanned-not, codes-are}
-use Rattle.gsm7.proofs.CaseByCase.{packing-none, packing-some, packing-many}
+use Rattle.gsm7.proofs.PackingCases.{packing-none, packing-some, packing-many}
 use Rattle.gsm7.proofs.packing.pack_septets.Statement.{statement}
 use Rattle.gsm7.proofs.packing.pack_septets.Tie as tie
 use Rattle.gsm7.proofs.packing.pack_septets.Reads as reads

@@ -6,10 +6,10 @@ use Rattle.request_line.proofs.keys.against_values.Statement.{statement
 use Rattle.request_line.proofs.keys.against_values.Tie as tie
 
 abbrev Inv-loop : tie.InvT-loop
-Inv-loop kind line key₀ key = Unit {0}
+Inv-loop row line key₀ key = Unit {0}
 
 abbrev μ-loop : tie.MeasureT-loop
-μ-loop kind line key₀ key = 24 - key
+μ-loop row line key₀ key = 24 - key
 
 pub against-values-spec : {M : Type 1} → statement M
 against-values-spec =

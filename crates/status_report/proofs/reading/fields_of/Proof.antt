@@ -17,7 +17,7 @@ returns-4 c =
     let m = c .before .before .before .before in
     let i = m .before .before .before in
     let f = i .before .before in
-    (no-address _ (sym (f .before .before .octet .ensures) ∙ f .first .given .1) (i .if1 .left) (sym (m .before .before .octet2 .ensures) ∙ m .mr .given .1) (sym (c .before .before .address-at .ensures) ∙ c .enum-told3 .given .1), tt)
+    (no-address _ (sym (f .before .before .octet .ensures) ∙ f .first .given .1) (i .if1 .left) (sym (m .before .before .octet2 .ensures) ∙ m .mr .given .1) (sym (c .before .before .address-span .ensures) ∙ c .enum-told3 .given .1), tt)
 
 behind-address-requires : tie.Need-behind-address-requires
 behind-address-requires c κs =
@@ -25,7 +25,7 @@ behind-address-requires c κs =
     let m = a .before .before .before .before in
     let i = m .before .before .before in
     let f = i .before .before in
-    let t = to-address _ (sym (f .before .before .octet .ensures) ∙ f .first .given .1) (i .if1 .left) (sym (m .before .before .octet2 .ensures) ∙ m .mr .given .1) (sym (a .before .before .address-at .ensures) ∙ a .address .given .1) in
+    let t = to-address _ (sym (f .before .before .octet .ensures) ∙ f .first .given .1) (i .if1 .left) (sym (m .before .before .octet2 .ensures) ∙ m .mr .given .1) (sym (a .before .before .address-span .ensures) ∙ a .address .given .1) in
     (t .0, t .1)
 
 returns-5 : tie.Need-returns-5
@@ -35,7 +35,7 @@ returns-5 c =
     let i = m .before .before .before in
     let f = i .before .before in
     let r = c .behind-address .ensures in
-    (r .0 ∙ to-address _ (sym (f .before .before .octet .ensures) ∙ f .first .given .1) (i .if1 .left) (sym (m .before .before .octet2 .ensures) ∙ m .mr .given .1) (sym (a .before .before .address-at .ensures) ∙ a .address .given .1) .2, r .1)
+    (r .0 ∙ to-address _ (sym (f .before .before .octet .ensures) ∙ f .first .given .1) (i .if1 .left) (sym (m .before .before .octet2 .ensures) ∙ m .mr .given .1) (sym (a .before .before .address-span .ensures) ∙ a .address .given .1) .2, r .1)
 
 pub fields-of-spec : {M : Type 1} → statement M
 fields-of-spec =

@@ -7,7 +7,7 @@ use native.Mathlib.Omega.{arith}
 use borrow.Author.Needs.{needs}
 use borrow.Author.Tests.{not-true, not-false}
 use lib.ListN.{length, getD}
-use Rattle.submit.specs.Line.{headerSize}
+use Rattle.submit.specs.Layout.{headerSize}
 use Rattle.submit.proofs.reading.header_size.Statement.{statement}
 use Rattle.submit.proofs.reading.header_size.Tie as tie
 

@@ -1,7 +1,7 @@
 -- `submit::reading::in_count` meets its contract: only 7-bit coding counts septets.
 -- Assumes nothing.
 use borrow.Author.Needs.{needs}
-use Rattle.submit.specs.Line.{inCount}
+use Rattle.submit.specs.Layout.{inCount}
 use Rattle.submit.proofs.reading.in_count.Statement.{statement}
 use Rattle.submit.proofs.reading.in_count.Tie as tie
 

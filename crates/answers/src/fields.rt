@@ -1,0 +1,94 @@
+// The fields of an answer, and the answers for a refusal and of a writer. Functions are named for what they write.
+use output::Output;
+use output::hexadecimal::put_hex;
+use output::hexadecimal::put_hex_octet;
+use text_fields::lists::entry;
+use text_fields::slices::between;
+use tpdu::Outcome;
+use tpdu::Time;
+use tpdu::UserData;
+use tpdu::Written;
+use wording::refusals::put_number_and_meaning;
+use wording::refusals::put_number_and_name;
+
+// ---- fields: a name, such as ` udl=`, and a value
+
+pub fn number(out: &mut Output, at: usize, name: &[u8], n: u8) -> usize {
+    let next = output::put(out, at, name);
+    output::put_decimal(out, next, n as u64)
+}
+
+// Several numbers: entry i of a list of names for number i.
+pub fn numbers(out: &mut Output, at: usize, names: &[u8], values: &[u8]) -> usize {
+    let mut place = at;
+    let mut i = 0;
+    while i < values.len() {
+        place = number(out, place, entry(names, i), values[i]);
+        i += 1;
+    }
+    place
+}
+
+// A flag: 1 or 0.
+pub fn flag(out: &mut Output, at: usize, name: &[u8], is_on: bool) -> usize {
+    number(out, at, name, is_on as u8)
+}
+
+pub fn absent(out: &mut Output, at: usize, name: &[u8]) -> usize {
+    let next = output::put(out, at, name);
+    output::put(out, next, b"-")
+}
+
+// An octet in hexadecimal.
+pub fn octet(out: &mut Output, at: usize, name: &[u8], octet: u8) -> usize {
+    let next = output::put(out, at, name);
+    put_hex_octet(out, next, octet)
+}
+
+// Octets in hexadecimal.
+pub fn octets(out: &mut Output, at: usize, name: &[u8], octets: &[u8]) -> usize {
+    let next = output::put(out, at, name);
+    put_hex(out, next, octets)
+}
+
+pub fn user_data(out: &mut Output, at: usize, name: &[u8], data: UserData) -> usize {
+    let held = data.octets;
+    octets(out, at, name, between(&held, 0, data.length))
+}
+
+// The digits of a time.
+pub fn time(out: &mut Output, at: usize, name: &[u8], time: Time) -> usize {
+    let next = output::put(out, at, name);
+    let digits = time.digits;
+    output::put(out, next, between(&digits, 0, time.length))
+}
+
+// ---- refusals, and a writer's answer
+
+// A refusal, by its number: with its name, or, for people, with its meaning.
+pub fn refused(out: &mut Output, at: usize, refusal: u8, show: bool) -> usize {
+    let next = output::put(out, at, b"refused ");
+    if show {
+        return put_number_and_meaning(out, next, refusal);
+    }
+    put_number_and_name(out, next, refusal)
+}
+
+// An answer that was put from `at` to `next`; or the refusal, in its place.
+pub fn unless_refused(out: &mut Output, at: usize, next: usize, o: Outcome, show: bool) -> usize {
+    match o {
+        Outcome::Done => next,
+        Outcome::Refused(why) => refused(out, at, why.number(), show),
+    }
+}
+
+// What a writer is lent.
+pub type Lent = [u8; 255];
+
+// What a writer answered, and the octets that it wrote.
+pub fn written(out: &mut Output, at: usize, w: Written, lent: &Lent, show: bool) -> usize {
+    match w {
+        Written::Done(n) => octets(out, at, b"ok ", between(lent, 0, n)),
+        Written::Refused(why) => refused(out, at, why.number(), show),
+    }
+}

@@ -1,0 +1,19 @@
+-- The number that a function for another language answers: a count, or 256 and the refusal's number.
+use Prim.Native.Nat.{ℕ, _+_}
+use mathlib.Core.List.{List}
+use Rattle.octets.specs.Answers.{Said, gives, refuses}
+use Rattle.octets.specs.Refusals.{refusalNumber}
+
+-- of an outcome, with a count beside it
+abbrev pub numbered : Said Unit → ℕ → ℕ
+numbered (gives x) n = n
+numbered (refuses why) n = 256 + refusalNumber why
+
+-- of a writer's answer
+abbrev pub countNumber : Said ℕ → ℕ
+countNumber (gives n) = n
+countNumber (refuses why) = 256 + refusalNumber why
+
+-- of what a writer does with a lent buffer, and the buffer
+abbrev pub lentNumber : Said ℕ × List ℕ → ℕ × List ℕ
+lentNumber lent = (countNumber (lent .0), lent .1)
