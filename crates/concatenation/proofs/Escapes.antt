@@ -1,6 +1,6 @@
--- In the septets of a text every escape has its code behind it, and a code is no escape.
+-- In the septets of a text every escape has its code after it, and a code is no escape.
 -- Assumes nothing.
-use Prim.Native.Nat.{ℕ, zero, suc, _+_, _-_, _<_}
+use Prim.Native.Nat.{ℕ, zero, suc, _+_, _<_}
 use mathlib.Core.Path.{_≡_, refl, sym, _∙_, subst}
 use mathlib.Core.Bool.{not}
 use mathlib.Core.List.{List, [], _∷_}
@@ -17,7 +17,7 @@ use Rattle.gsm7.specs.Characters.{Entry, plain, extended, coded}
 use Rattle.gsm7.specs.Writing.{septetsOf}
 use Rattle.gsm7.proofs.Adequate.{entries-of}
 
--- every escape has a code behind it, which is no escape
+-- every escape has a code after it, which is no escape
 abbrev pub Escapes : List ℕ → Type 0
 Escapes ss = (i : ℕ) → getD ss i 0 ≡ 0x1b → (suc i < length ss) × (getD ss (suc i) 0 ≡ 0x1b → ⊥)
 

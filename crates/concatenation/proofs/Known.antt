@@ -7,15 +7,16 @@ use mathlib.Core.Option.{some}
 use native.Mathlib.Omega.{arith}
 use native.Mathlib.Nat.{add-zero}
 use lib.ListN.{length, replicate, length-append, length-replicate, replicate-append-replicate}
+use Rattle.octets.specs.Answers.{fine}
 use Rattle.octets.specs.Lent.{refused, made}
 use Rattle.octets.specs.declared.Refusal.the-variants.{TooManyParts}
-use Rattle.septets.specs.Septets.{numberOf, digitsOf, packedSeptets}
+use Rattle.septets.specs.Septets.{numberOf, lowestDigits, packedSeptets}
 use Rattle.gsm7.specs.Alphabet.{rowWith, indexOf}
 use Rattle.gsm7.specs.Reading.{utf8}
-use Rattle.gsm7.specs.Writing.{extendedCode, codeOf, same, twoOctets, threeOctets, firstCharacter, before, behind, scan, septetsOf}
+use Rattle.gsm7.specs.Writing.{extendedCode, codeOf, same, twoOctets, threeOctets, firstCharacter, before, startingWith, scan, septetsOf}
 use Rattle.concatenation.specs.Cutting.{most, cutInto, partsOf}
 use Rattle.concatenation.specs.Internal.{codesOf}
-use Rattle.concatenation.specs.Messages.{message, partHeader, numbered, counted, messagesOf, concatenating}
+use Rattle.concatenation.specs.Messages.{message, partHeader, numbered, messagesOf, concatenating}
 use Rattle.concatenation.proofs.InTurn.{parts-next}
 use Rattle.concatenation.proofs.Sizes.{full-size}
 use Rattle.concatenation.proofs.Laws.{too-many, in-parts}
@@ -31,12 +32,12 @@ abbrev escaped : List ℕ
 escaped = 0x1b ∷ 0x65 ∷ []
 
 -- 160 septets are one message, 161 two; the euro sign is not parted, and 154 septets with it are one message
-rows : (concatenating 7 (letters 160) ≡ made (message [] (letters 160)) (counted 141 1))
-    × (concatenating 7 (letters 161) ≡ made (message (partHeader 7 2 1) (letters 153) ++ message (partHeader 7 2 2) (letters 8)) (counted 156 2))
-    × (concatenating 7 (letters 152 ++ euro ++ letters 7) ≡ made (message (partHeader 7 2 1) (letters 152) ++ message (partHeader 7 2 2) (escaped ++ letters 7)) (counted 156 2))
-    × (concatenating 7 (letters 152 ++ euro) ≡ made (message [] (letters 152 ++ escaped)) (counted 136 1))
-    × (concatenating 7 [] ≡ made (0 ∷ []) (counted 1 1))
-unfolding numberOf digitsOf packedSeptets rowWith indexOf utf8 extendedCode codeOf same twoOctets threeOctets firstCharacter before behind scan most cutInto numbered messagesOf concatenating
+rows : (concatenating 7 (letters 160) ≡ made (message [] (letters 160)) (fine, 141, 1))
+    × (concatenating 7 (letters 161) ≡ made (message (partHeader 7 2 1) (letters 153) ++ message (partHeader 7 2 2) (letters 8)) (fine, 156, 2))
+    × (concatenating 7 (letters 152 ++ euro ++ letters 7) ≡ made (message (partHeader 7 2 1) (letters 152) ++ message (partHeader 7 2 2) (escaped ++ letters 7)) (fine, 156, 2))
+    × (concatenating 7 (letters 152 ++ euro) ≡ made (message [] (letters 152 ++ escaped)) (fine, 136, 1))
+    × (concatenating 7 [] ≡ made (0 ∷ []) (fine, 1, 1))
+unfolding numberOf lowestDigits packedSeptets rowWith indexOf utf8 extendedCode codeOf same twoOctets threeOctets firstCharacter before startingWith scan most cutInto numbered messagesOf concatenating
 rows = (refl, refl, refl, refl, refl)
 
 -- the septets of each part, with an extension character at each place around the cut; and with one after the other
@@ -49,13 +50,13 @@ cuts : (sizes (letters 150 ++ euro ++ letters 9) ≡ 153 ∷ 8 ∷ [])
     × (sizes (letters 153 ++ euro ++ letters 9) ≡ 153 ∷ 11 ∷ [])
     × (sizes (letters 151 ++ euro ++ euro ++ letters 9) ≡ 153 ∷ 11 ∷ [])
     × (sizes (letters 150 ++ euro ++ euro ++ letters 9) ≡ 152 ∷ 11 ∷ [])
-unfolding sizes rowWith indexOf utf8 extendedCode codeOf same twoOctets threeOctets firstCharacter before behind scan most cutInto
+unfolding sizes rowWith indexOf utf8 extendedCode codeOf same twoOctets threeOctets firstCharacter before startingWith scan most cutInto
 cuts = (refl, refl, refl, refl, refl, refl)
 
 -- ---- 39,015 septets are 255 parts, one more is refused
 
 letters-coded : (n : ℕ) → septetsOf (letters n) ≡ some (letters n)
-unfolding rowWith indexOf codeOf firstCharacter before behind scan
+unfolding rowWith indexOf codeOf firstCharacter before startingWith scan
 letters-coded zero = refl
 letters-coded (suc n) = rw (letters-coded n)
 
@@ -76,7 +77,7 @@ full-octets reference total number (suc n) =
 
 -- with n full parts, and one letter more
 module _ (reference n : ℕ) (long : 1 < n) where
-  pub full-parts : n ≤ 255 → (xs : List ℕ) × (concatenating reference (letters (n * 153)) ≡ made xs (counted (141 * n) n))
+  pub full-parts : n ≤ 255 → (xs : List ℕ) × (concatenating reference (letters (n * 153)) ≡ made xs (fine, 141 * n, n))
   unfolding cutInto
   full-parts h =
       let ps : partsOf (letters (n * 153)) ≡ replicate n (letters 153) = rw (add-zero, append-nil) at (letters-parts n 0) in
@@ -90,7 +91,7 @@ module _ (reference n : ℕ) (long : 1 < n) where
       too-many reference (letters (n * 153 + 1)) (letters (n * 153 + 1)) (letters-coded (n * 153 + 1)) (rw length-replicate (omega arith))
       (rw (letters-parts n 1, length-append, length-replicate) (omega arith))
 
-longest : (xs : List ℕ) × (concatenating 7 (letters 39015) ≡ made xs (counted 35955 255))
+longest : (xs : List ℕ) × (concatenating 7 (letters 39015) ≡ made xs (fine, 35955, 255))
 longest = full-parts 7 255 (omega arith) (omega arith)
 
 too-long : concatenating 7 (letters 39016) ≡ refused TooManyParts

@@ -11,20 +11,19 @@ use native.Mathlib.Nat.{add-zero}
 use lib.Dec.{leb}
 use lib.ListN.{length, getD, take, drop}
 use lib.Seq.{take-at, take-all, drop-append-add}
-use Rattle.octets.specs.Lent.{Making, refused, made, lend}
+use Rattle.octets.specs.Answers.{fine}
 use Rattle.octets.specs.Choice.{if_then_else_}
+use Rattle.octets.specs.Lent.{Making, refused, made, lend}
 use Rattle.octets.specs.declared.Refusal.the-variants.{OutputTooShort}
-use Rattle.octets.specs.declared.Outcome.the-variants.{Done}
-use Rattle.gsm7.specs.Reading.{textOf, shown as shownText}
+use Rattle.gsm7.specs.Reading.{textOf, textGiven}
 use Rattle.gsm7.specs.Writing.{septetsOf}
-use Rattle.gsm7.specs.Packing.{octetsBehind, packedAs}
-use Rattle.gsm7.proofs.CaseByCase.{packing-done}
+use Rattle.gsm7.specs.Packing.{octetsAfter}
+use Rattle.gsm7.proofs.PackingCases.{packing-done}
 use Rattle.gsm7.proofs.PackingLaws.{packed-reads as plain-reads}
-use Rattle.user_data_header.specs.Header.{shown, packingWithHeader}
+use Rattle.user_data_header.specs.Header.{headerGiven, packingWithHeader}
 use Rattle.user_data_header.proofs.Inverse.{packed-reads}
-use Rattle.concatenation.specs.declared.Concatenated.{Concatenated}
 use Rattle.concatenation.specs.Cutting.{Parts, partsOf}
-use Rattle.concatenation.specs.Messages.{message, partHeader, numbered, notSent, counted, concatenating}
+use Rattle.concatenation.specs.Messages.{message, partHeader, numbered, SaidMessages, notSent, sentAs, concatenating}
 use Rattle.concatenation.specs.Received.{messageAt, read, readWithHeader, Received}
 use Rattle.concatenation.proofs.Taken.{text-taken}
 use Rattle.concatenation.proofs.Texts.{Texts, cut-texts}
@@ -34,17 +33,17 @@ use Rattle.concatenation.proofs.Laws.{Case, uncoded, one, many, parts, 
 -- ---- one message at a time
 
 -- with no header it reads as the text
-one-reads : (text ss : List ℕ) → septetsOf text ≡ some ss → length ss ≤ 160 → read (message [] ss) ≡ shownText text
-one-reads text ss e h = plain-reads text (octetsBehind [] ss) (packedAs (octetsBehind [] ss) (0 + length ss)) (packing-done [] text ss e (omega arith))
+one-reads : (text ss : List ℕ) → septetsOf text ≡ some ss → length ss ≤ 160 → read (message [] ss) ≡ textGiven text
+one-reads text ss e h = plain-reads text (octetsAfter [] ss) fine _ (0 + length ss) (packing-done [] text ss e (omega arith))
 
 -- a part reads as its header and its text
 part-reads : (reference total number : ℕ) (p : List ℕ) → septetsOf (textOf p) ≡ some p → length p ≤ 153
-    → readWithHeader (message (partHeader reference total number) p) ≡ shown (partHeader reference total number) (textOf p)
+    → readWithHeader (message (partHeader reference total number) p) ≡ headerGiven (partHeader reference total number) (textOf p)
 unfolding packingWithHeader
 part-reads reference total number p e h =
     let header = partHeader reference total number in
-    let xs = octetsBehind header p in
-    packed-reads header (textOf p) xs (packedAs xs (7 + length p)) (packing-done header (textOf p) p e (omega arith))
+    let xs = octetsAfter header p in
+    packed-reads header (textOf p) xs fine _ (7 + length p) (packing-done header (textOf p) p e (omega arith))
 
 -- ---- part k starts at octet 141 (k - 1)
 
@@ -126,36 +125,40 @@ module _ (reference : ℕ) (text ss : List ℕ) (e : septetsOf text ≡ some ss)
 
 -- ---- over the octets that were written to a lent buffer
 
--- where the answer is `Done`, octets were made, and stand at the buffer's start
-lent-octets : (m : Making Concatenated) (buffer : List ℕ) {a : Concatenated} {after : List ℕ} → _≡_ {A = Concatenated × List ℕ} (a, after) (lend notSent m buffer) → a .outcome ≡ Done
+-- where the number is 0, octets were made, and stand at the buffer's start
+lent-octets : (m : Making SaidMessages) (buffer : List ℕ) {a : SaidMessages} {after : List ℕ} → _≡_ {A = SaidMessages × List ℕ} (a, after) (lend notSent m buffer) → a .0 ≡ fine
     → (xs : List ℕ) × (m ≡ made xs a) × (after ≡ xs ++ drop (length xs) buffer)
 unfolding lend notSent
-lent-octets (refused r) buffer p d = let q = sym d ∙ ap (λ (x : Concatenated × List ℕ). x .0 .outcome) p in let z : _≡_ {A = ℕ} 0 1 = cc in absurd (omega arith)
+lent-octets (refused why) buffer p d = let q = sym d ∙ ap (λ (x : SaidMessages × List ℕ). x .0 .0) p in let z : _≡_ {A = ℕ} 0 1 = cc in absurd (omega arith)
 lent-octets (made xs b) buffer {a} {after} p d = by-room (leb (length xs) (length buffer)) p
   where
-    by-room : (t : Bool) → _≡_ {A = Concatenated × List ℕ} (a, after) (if t then (b, xs ++ drop (length xs) buffer) else (notSent OutputTooShort, buffer))
+    by-room : (t : Bool) → _≡_ {A = SaidMessages × List ℕ} (a, after) (if t then (b, xs ++ drop (length xs) buffer) else (notSent OutputTooShort, buffer))
         → (ys : List ℕ) × (made xs b ≡ made ys a) × (after ≡ ys ++ drop (length ys) buffer)
-    by-room true q = (xs, ap (λ (x : Concatenated × List ℕ). made xs (x .0)) (sym q), ap (λ (x : Concatenated × List ℕ). x .1) q)
-    by-room false q = let r = sym d ∙ ap (λ (x : Concatenated × List ℕ). x .0 .outcome) q in let z : _≡_ {A = ℕ} 0 1 = cc in absurd (omega arith)
+    by-room true q = (xs, ap (λ (x : SaidMessages × List ℕ). made xs (x .0)) (sym q), ap (λ (x : SaidMessages × List ℕ). x .1) q)
+    by-room false q = let r = sym d ∙ ap (λ (x : SaidMessages × List ℕ). x .0 .0) q in let z : _≡_ {A = ℕ} 0 1 = cc in absurd (omega arith)
 
 -- the octets that `pack_gsm7_concatenated` wrote are as many as it answers, and reading them gives the text
-pub received : (reference : ℕ) (text buffer : List ℕ) {a : Concatenated} {after : List ℕ} → _≡_ {A = Concatenated × List ℕ} (a, after) (lend notSent (concatenating reference text) buffer) → a .outcome ≡ Done
-    → (length (take (a .octets) after) ≡ a .octets) × Received reference text (take (a .octets) after) (a .messages)
-received reference text buffer {a} {after} p d = by (case reference text)
-  where
-    written : (xs : List ℕ) × (concatenating reference text ≡ made xs a) × (after ≡ xs ++ drop (length xs) buffer)
-    written = lent-octets (concatenating reference text) buffer p d
+module _ (reference : ℕ) (text buffer : List ℕ) {octets messages : ℕ} {after : List ℕ} (p : _≡_ {A = SaidMessages × List ℕ} ((fine, octets, messages), after) (lend notSent (concatenating reference text) buffer)) where
+  abbrev Back : Type 0
+  Back = (length (take octets after) ≡ octets) × Received reference text (take octets after) messages
 
-    told : (xs : List ℕ) (n : ℕ) → concatenating reference text ≡ made xs (counted (length xs) n) → Received reference text xs n
-        → (length (take (a .octets) after) ≡ a .octets) × Received reference text (take (a .octets) after) (a .messages)
-    told xs n m r =
-        let is : a ≡ counted (length xs) n = let w = written .1 in cc in
-        let same : written .0 ≡ xs = let w = written .1 in cc in
-        let front : take (a .octets) after ≡ xs = rw (is, written .2, same) (take-at xs (drop (length xs) buffer) (length xs) refl) in
-        (rw (front, is), rw (front, is) r)
+  written : (xs : List ℕ) × (concatenating reference text ≡ made xs (fine, octets, messages)) × (after ≡ xs ++ drop (length xs) buffer)
+  written = lent-octets (concatenating reference text) buffer p refl
 
-    by : Case reference text → (length (take (a .octets) after) ≡ a .octets) × Received reference text (take (a .octets) after) (a .messages)
-    by (uncoded e m) = let w = written .1 in let z : _≡_ {A = ℕ} 0 1 = cc in absurd (omega arith)
-    by (one ss e h m) = told (message [] ss) 1 m (one-received reference text ss e h)
-    by (many ss e h m) = let w = written .1 in let z : _≡_ {A = ℕ} 0 1 = cc in absurd (omega arith)
-    by (parts ss e l h m) = told (numbered reference (length (partsOf ss)) 1 (partsOf ss)) (length (partsOf ss)) m (parts-received reference text ss e l h)
+  told : (xs : List ℕ) (n : ℕ) → concatenating reference text ≡ made xs (sentAs xs n) → Received reference text xs n → Back
+  told xs n m r =
+      let is : _≡_ {A = SaidMessages} (fine, octets, messages) (sentAs xs n) = let w = written .1 in cc in
+      let long : octets ≡ length xs = ap (λ (a : SaidMessages). a .1) is in
+      let number : messages ≡ n = ap (λ (a : SaidMessages). a .2) is in
+      let same : written .0 ≡ xs = let w = written .1 in cc in
+      let front : take octets after ≡ xs = rw (long, written .2, same) (take-at xs (drop (length xs) buffer) (length xs) refl) in
+      (rw (front, long), rw (front, number) r)
+
+  pub received : Back
+  received = by (case reference text)
+    where
+      by : Case reference text → Back
+      by (uncoded e m) = let w = written .1 in let z : _≡_ {A = ℕ} 0 1 = cc in absurd (omega arith)
+      by (one ss e h m) = told (message [] ss) 1 m (one-received reference text ss e h)
+      by (many ss e h m) = let w = written .1 in let z : _≡_ {A = ℕ} 0 1 = cc in absurd (omega arith)
+      by (parts ss e l h m) = told (numbered reference (length (partsOf ss)) 1 (partsOf ss)) (length (partsOf ss)) m (parts-received reference text ss e l h)

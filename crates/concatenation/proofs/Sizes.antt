@@ -9,7 +9,7 @@ use lib.ListN.{length, take, drop, length-append, length-drop}
 use lib.Seq.{length-take-le}
 use Rattle.septets.specs.Septets.{octetCount}
 use Rattle.gsm7.specs.Writing.{septetsOf}
-use Rattle.gsm7.proofs.CaseByCase.{length-behind}
+use Rattle.gsm7.proofs.PackingCases.{length-after}
 use Rattle.concatenation.specs.Cutting.{Parts, most, cutInto, partsOf}
 use Rattle.concatenation.specs.Messages.{message, partHeader, numbered}
 use Rattle.concatenation.specs.Internal.{lastLength}
@@ -38,7 +38,7 @@ parts-full ss = cut-full (length ss) ss
 
 module _ (reference total : ℕ) where
   part-size : (n : ℕ) (p : List ℕ) → length (message (partHeader reference total n) p) ≡ 1 + octetCount 0 (7 + length p)
-  part-size n p = ap suc (length-behind (partHeader reference total n) p) ∙ omega arith
+  part-size n p = ap suc (length-after (partHeader reference total n) p) ∙ omega arith
 
   -- a part takes at most 141 octets, and exactly 141 where it holds 152 or 153 septets
   pub under-size : (n : ℕ) (p : List ℕ) → length p ≤ 153 → length (message (partHeader reference total n) p) ≤ 141
@@ -69,7 +69,7 @@ last-small h (p ∷ ps) l w = last-small (length p) ps (w .0 .0) (w .1)
 -- ---- the octets of a text's messages
 
 pub one-size : (ss : List ℕ) → length (message [] ss) ≡ 1 + octetCount 0 (length ss)
-one-size ss = ap suc (length-behind [] ss) ∙ omega arith
+one-size ss = ap suc (length-after [] ss) ∙ omega arith
 
 module _ (text ss : List ℕ) (e : septetsOf text ≡ some ss) where
   parts-of : Parts (partsOf ss)

@@ -137,8 +137,8 @@ module _ (s : ℕ) (ss p : List ℕ) (ps : List (List ℕ)) (c : Cutting (s ∷ 
   under : length p ≤ most (s ∷ ss)
   under = rw split at (longest p (joined ps) (c .parts .0))
 
-  behind : (k : ℕ) → length p ≤ k → drop k (s ∷ ss) ≡ drop (k - length p) (joined ps)
-  behind k h =
+  after : (k : ℕ) → length p ≤ k → drop k (s ∷ ss) ≡ drop (k - length p) (joined ps)
+  after k h =
       let i : length p + (k - length p) ≡ k = omega arith in
       ap (drop k) (sym split) ∙ ap (λ (n : ℕ). drop n (p ++ joined ps)) (sym i) ∙ drop-append-add p (joined ps) (k - length p)
 
@@ -166,7 +166,7 @@ fewest (suc n) (s ∷ ss) h (p ∷ ps) c =
   where
     by : Dropped (most (s ∷ ss) - length p) ps → ((qs : List (List ℕ)) → Cutting (drop (most (s ∷ ss)) (s ∷ ss)) qs → length (cutInto n (drop (most (s ∷ ss)) (s ∷ ss))) ≤ length qs)
         → suc (length (cutInto n (drop (most (s ∷ ss)) (s ∷ ss)))) ≤ suc (length ps)
-    by r ih = omega (arith, ih (r .0) (record { whole = r .1 ∙ sym (behind s ss p ps c (most (s ∷ ss)) (under s ss p ps c)); parts = r .2 }), r .3)
+    by r ih = omega (arith, ih (r .0) (record { whole = r .1 ∙ sym (after s ss p ps c (most (s ∷ ss)) (under s ss p ps c)); parts = r .2 }), r .3)
 
 as-much : (n : ℕ) (ss : List ℕ) → length ss ≤ n → (qs : List (List ℕ)) → Cutting ss qs → AsMuch (cutInto n ss) qs
 unfolding cutInto

@@ -1,15 +1,16 @@
 // A text in the parts of a concatenated short message (TS 23.040 §9.2.3.24.1).
 ghost use mathlib.Core.Path.{_≡_};
-ghost use Prim.Native.Nat.{_+_, _^_, _<_, _≤_};
+ghost use Prim.Native.Nat.{_+_, _<_, _≤_};
 ghost use mathlib.Core.List.{[]};
 ghost use lib.ListN.{length};
+ghost use Rattle.octets.specs.Answers.{fine};
 ghost use Rattle.octets.specs.Lent.{lend, Wrote};
 ghost use Rattle.septets.specs.Septets.{Digits, headerSeptets};
 ghost use Rattle.gsm7.specs.Internal.{Codes};
 ghost use Rattle.gsm7.specs.Writing.{septetsOf};
 ghost use Rattle.concatenation.specs.Cutting.{partsOf};
-ghost use Rattle.concatenation.specs.Messages.{message, numbered, notSent, counted, concatenating};
-ghost use Rattle.concatenation.specs.Internal.{StoredAs, countedAs, codesOf, Coded};
+ghost use Rattle.concatenation.specs.Messages.{message, numbered, concatenatedSays, notSent, concatenating};
+ghost use Rattle.concatenation.specs.Internal.{storedSays, StoredAs, countedSays, countedAs, codesOf, Coded};
 use gsm7::encode::Scalar;
 use gsm7::encode::Scanned;
 use octets::Outcome;
@@ -38,18 +39,18 @@ enum Counted {
     NotCoded,
 }
 
-fn refused(r: Refusal) -> Concatenated
-    ensures { λ u. ⌜ u ≡ notSent r ⌝ }
+fn refused(why: Refusal) -> Concatenated
+    ensures { λ r. ⌜ concatenatedSays r ≡ notSent why ⌝ }
 {
     Concatenated {
-        outcome: Outcome::Refused(r),
+        outcome: Outcome::Refused(why),
         octets: 0,
         messages: 0,
     }
 }
 
 fn done(octets: usize, messages: usize) -> Concatenated
-    ensures { λ u. ⌜ u ≡ counted octets messages ⌝ }
+    ensures { λ r. ⌜ concatenatedSays r ≡ (fine, octets, messages) ⌝ }
 {
     Concatenated {
         outcome: Outcome::Done,
@@ -61,7 +62,7 @@ fn done(octets: usize, messages: usize) -> Concatenated
 // Stores the septets of the part that starts at `from`, as many as it can hold, at the array's start.
 fn store_part(table: &[u8; 256], text: &[u8], from: usize, codes: &mut [u8; 255]) -> Stored
     requires { ⌜ Codes (now table) × (from < length (now text)) × (length (now codes) ≡ 255) ⌝ }
-    ensures { λ r. ⌜ StoredAs (now (text .entry)) from (now (codes .exit)) r ⌝ }
+    ensures { λ r. ⌜ StoredAs (now (text .entry)) from (now (codes .exit)) (storedSays r) ⌝ }
 {
     let mut count = 0;
     let mut i = from;
@@ -98,7 +99,7 @@ fn store_part(table: &[u8; 256], text: &[u8], from: usize, codes: &mut [u8; 255]
 // How many parts a text is cut into, and how many septets they have.
 fn count_parts(table: &[u8; 256], text: &[u8]) -> Counted
     requires { ⌜ Codes (now table) ⌝ }
-    ensures { λ r. ⌜ r ≡ countedAs (septetsOf (now (text .entry))) ⌝ }
+    ensures { λ r. ⌜ countedSays r ≡ countedAs (septetsOf (now (text .entry))) ⌝ }
 {
     let mut codes = [0u8; 255];
     let mut septets = 0;
@@ -167,7 +168,7 @@ fn put_one(text: &[u8], out: &mut [u8]) -> usize
 
 // The messages of a text: one with no header, or parts with the given reference.
 pub fn pack_gsm7_concatenated(text: &[u8], reference: u8, out: &mut [u8]) -> Concatenated
-    ensures { λ r. ⌜ (r, now (out .exit)) ≡ lend notSent (concatenating reference (now (text .entry))) (now (out .entry)) ⌝ }
+    ensures { λ r. ⌜ (concatenatedSays r, now (out .exit)) ≡ lend notSent (concatenating reference (now (text .entry))) (now (out .entry)) ⌝ }
 {
     let table = gsm7::encode::CODES;
     let Counted::All {

@@ -1,14 +1,14 @@
 -- `concatenation::count_parts` meets its contract: what is left of the text, counted on, still gives the whole.
 -- Assumes nothing.
 use Prim.Native.Nat.{ℕ, _*_, _-_, _≤_}
-use mathlib.Core.Path.{_≡_, refl, subst}
+use mathlib.Core.Path.{_≡_, refl, ap, subst}
 use mathlib.Core.List.{List}
 use native.Mathlib.Omega.{arith}
 use denote.Ref.{now}
 use lib.ListN.{length, drop}
 use Rattle.gsm7.specs.Writing.{septetsOf}
-use Rattle.concatenation.specs.declared.Stored.{Stored}
-use Rattle.concatenation.specs.Internal.{StoredAs, countedAs}
+use Rattle.octets.specs.Answers.{gives}
+use Rattle.concatenation.specs.Internal.{storedSays, StoredAs, countedAs}
 use Rattle.concatenation.proofs.Counting.{countedOn, counted-start, counted-next, counted-none, counted-end}
 use Rattle.concatenation.proofs.count_parts.Statement.{statement}
 use Rattle.concatenation.proofs.count_parts.Tie as tie
@@ -29,7 +29,7 @@ store-part-requires c κs = (c .before .before .before .before .pre, omega arith
 returns : tie.Need-returns Inv-loop μ-loop
 returns c =
     let l = c .before .before .before .before .before .loop in
-    let e = subst (StoredAs (now (c .before .before .before .before .before .before .before .args .text)) (l .from) (c .before .before .store-part .last .1 .1 .1 .0)) (c .enum-told .given .1) (c .before .before .store-part .ensures) in
+    let e = subst (StoredAs (now (c .before .before .before .before .before .before .before .args .text)) (l .from) (c .before .before .store-part .last .1 .1 .1 .0)) (ap storedSays (c .enum-told .given .1)) (c .before .before .store-part .ensures) in
     counted-none _ (l .from) (l .septets) (l .parts) (l .last) (l .inv .4) e
 
 -- where a part is known
@@ -45,8 +45,8 @@ from-of c = c .before .before .before .before .before .before .loop .from
 abbrev codes-of : Known → List ℕ
 codes-of c = c .before .before .before .store-part .last .1 .1 .1 .0
 
-part : (c : Known) → StoredAs (text-of c) (from-of c) (codes-of c) (Stored.Part (c .before .count .given .0 .0) (c .before .count .given .0 .1 .0))
-part c = subst (StoredAs (text-of c) (from-of c) (codes-of c)) (c .before .count .given .1) (c .before .before .before .store-part .ensures)
+part : (c : Known) → StoredAs (text-of c) (from-of c) (codes-of c) (gives (c .before .count .given .0 .0, c .before .count .given .0 .1 .0))
+part c = subst (StoredAs (text-of c) (from-of c) (codes-of c)) (ap storedSays (c .before .count .given .1)) (c .before .before .before .store-part .ensures)
 
 loop-again : tie.Need-loop-again Inv-loop μ-loop
 loop-again c =

@@ -1,7 +1,7 @@
 -- `concatenation::pack_gsm7_concatenated` meets its contract, case by case: 10, one message, 26, parts; and 23 where these don't fit.
 -- Assumes nothing.
 use Prim.Native.Nat.{ℕ, _+_, _-_, _*_, _/_, _<_, _≤_}
-use mathlib.Core.Path.{_≡_, sym, _∙_}
+use mathlib.Core.Path.{_≡_, sym, ap, _∙_}
 use mathlib.Core.List.{List}
 use mathlib.Core.Option.{some}
 use native.Mathlib.Omega.{arith}
@@ -13,7 +13,7 @@ use Rattle.gsm7.specs.Writing.{septetsOf}
 use Rattle.gsm7.proofs.ByCharacter.{codes-right}
 use Rattle.concatenation.specs.Cutting.{partsOf}
 use Rattle.concatenation.specs.Messages.{numbered, notSent}
-use Rattle.concatenation.specs.Internal.{codesOf, lastLength}
+use Rattle.concatenation.specs.Internal.{countedSays, codesOf, lastLength}
 use Rattle.concatenation.proofs.Counting.{counted-all, counted-not}
 use Rattle.concatenation.proofs.Laws.{not-coded, one-message, too-many, in-parts}
 use Rattle.concatenation.proofs.InTurn.{parts-some}
@@ -31,7 +31,7 @@ use Rattle.concatenation.proofs.refused.Reads as refused-reads
 returns : tie.Need-returns
 returns c =
     rw (c .refused .ensures)
-    (lent-refused notSent _ _ (not-coded _ _ (counted-not (septetsOf (now (c .before .before .before .before .before .before .before .args .text))) (sym (c .before .enum-told .given .1) ∙ c .before .before .before .count-parts .ensures))))
+    (lent-refused notSent _ _ (not-coded _ _ (counted-not (septetsOf (now (c .before .before .before .before .before .before .before .args .text))) (sym (ap countedSays (c .before .enum-told .given .1)) ∙ c .before .before .before .count-parts .ensures))))
 
 -- where the parts are counted
 abbrev Known : Type 0
@@ -55,7 +55,7 @@ last-of c = c .before .septets .given .0 .1 .1 .0
 
 known : (c : Known) → (septetsOf (text-of c) ≡ some (codesOf (text-of c))) × (septets-of c ≡ length (codesOf (text-of c)))
     × (parts-of c ≡ length (partsOf (codesOf (text-of c)))) × (last-of c ≡ lastLength 0 (partsOf (codesOf (text-of c))))
-known c = counted-all (septetsOf (text-of c)) (septets-of c) (parts-of c) (last-of c) (sym (c .before .septets .given .1) ∙ c .before .before .before .count-parts .ensures)
+known c = counted-all (septetsOf (text-of c)) (septets-of c) (parts-of c) (last-of c) (sym (ap countedSays (c .before .septets .given .1)) ∙ c .before .before .before .count-parts .ensures)
 
 -- ---- one message
 

@@ -1,7 +1,7 @@
 -- `concatenation::put_parts` meets its contract: part after part is written, and what is left, written too, still gives the whole.
 -- Assumes nothing.
 use Prim.Native.Nat.{ℕ, _+_, _-_}
-use mathlib.Core.Path.{_≡_, refl, sym, _∙_, subst}
+use mathlib.Core.Path.{_≡_, refl, sym, _∙_, ap, subst}
 use mathlib.Core.List.{List}
 use native.Mathlib.Omega.{arith}
 use native.Mathlib.Nat.{zero-add}
@@ -9,10 +9,10 @@ use denote.Ref.{now}
 use lib.ListN.{length}
 use lib.Seq.{sets}
 use Rattle.octets.proofs.Laws.{left-start, kept-by}
-use Rattle.concatenation.specs.declared.Stored.{Stored}
+use Rattle.octets.specs.Answers.{gives}
 use Rattle.concatenation.specs.Cutting.{partsOf}
 use Rattle.concatenation.specs.Messages.{numbered}
-use Rattle.concatenation.specs.Internal.{StoredAs, codesOf}
+use Rattle.concatenation.specs.Internal.{storedSays, StoredAs, codesOf}
 use Rattle.concatenation.proofs.Putting.{Putting, putting-coded, putting-end, putting-more, putting-room, putting-digits, putting-next}
 use Rattle.concatenation.proofs.put_parts.Statement.{statement}
 use Rattle.concatenation.proofs.put_parts.Tie as tie
@@ -39,7 +39,7 @@ loop-holds c =
 returns : tie.Need-returns Inv-loop μ-loop
 returns c =
     let l = c .before .before .before .before .before .loop in
-    absurd (putting-coded (l .inv .2) (subst (StoredAs _ (l .from) (c .before .before .store-part .last .1 .1 .1 .0)) (c .enum-told .given .1) (c .before .before .store-part .ensures)))
+    absurd (putting-coded (l .inv .2) (subst (StoredAs _ (l .from) (c .before .before .store-part .last .1 .1 .1 .0)) (ap storedSays (c .enum-told .given .1)) (c .before .before .store-part .ensures)))
 
 -- where a part is known
 abbrev Known : Type 0
@@ -51,8 +51,8 @@ text-of c = now (c .before .before .before .before .before .before .before .befo
 abbrev codes-of : Known → List ℕ
 codes-of c = c .before .before .before .store-part .last .1 .1 .1 .0
 
-part : (c : Known) → StoredAs (text-of c) (c .before .before .before .before .before .before .loop .from) (codes-of c) (Stored.Part (c .before .count .given .0 .0) (c .before .count .given .0 .1 .0))
-part c = subst (StoredAs _ _ (codes-of c)) (c .before .count .given .1) (c .before .before .before .store-part .ensures)
+part : (c : Known) → StoredAs (text-of c) (c .before .before .before .before .before .before .loop .from) (codes-of c) (gives (c .before .count .given .0 .0, c .before .count .given .0 .1 .0))
+part c = subst (StoredAs _ _ (codes-of c)) (ap storedSays (c .before .count .given .1)) (c .before .before .before .store-part .ensures)
 
 put-message-requires : tie.Need-put-message-requires Inv-loop μ-loop
 put-message-requires c κs =
