@@ -77,14 +77,14 @@ loop-again-2 : tie.Need-loop-again-2 Inv-loop μ-loop
 loop-again-2 c =
     let p = c .before .before in
     let (ks, is, w) = stored-some _ (p .add-character .ensures) (c .before .if4 .left) in
-    stores-more (p .before .before .before .before .before .before .before .before .before .loop .inv) (p .before .before .before .before .before .before .before .before .loop-test .taken) (character p) is w (c .if5 .left)
+    stores-more (p .before .before .before .before .before .before .before .before .before .loop .inv) (p .before .before .before .before .before .before .before .before .loop-test .taken) (character p) is w (omega arith)
 
 returns-5 : tie.Need-returns-5 Inv-loop μ-loop
 returns-5 c =
     let p = c .before .before in
     let l = p .before .before .before .before .before .before .before .before .before .loop in
     let (ks, is, w) = stored-some _ (p .add-character .ensures) (c .before .if4 .left) in
-    stores-over (l .inv) (p .before .before .before .before .before .before .before .before .loop-test .taken) (character p) is w (c .if5 .taken) (omega (arith, stored-few _ (p .add-character .ensures), l .inv .room))
+    stores-over (l .inv) (p .before .before .before .before .before .before .before .before .loop-test .taken) (character p) is w (omega arith) (omega (arith, stored-few _ (p .add-character .ensures), l .inv .room))
 
 returns-3 : tie.Need-returns-3 Inv-loop μ-loop
 returns-3 c = stores-end (c .before .loop .inv) (c .before .before .before .pre .1) (c .loop-test .left)
