@@ -4,14 +4,13 @@ use mathlib.Core.Path.{_≡_, refl}
 use mathlib.Core.List.{List, [], _∷_}
 use lib.Dec.{leb, ltb}
 use lib.ListN.{length, getD, drop}
-use Rattle.octets.specs.Answers.{Said, gives, refuses, outcomeSays}
+use Rattle.octets.specs.Answers.{Said, gives, refuses}
 use Rattle.octets.specs.Choice.{if_then_else_}
 use Rattle.octets.specs.declared.Refusal.the-variants.{OctetsEnd}
 use Rattle.layout.specs.Layout.{Layout, Reached, read, answer}
 use Rattle.cursor.specs.declared.from_place.OctetRead.{OctetRead}
 use Rattle.submit.specs.Submit as Submit
 use Rattle.submit.specs.declared.SmsSubmit.{SmsSubmit}
-use Rattle.submit.specs.declared.SubmitRead.{SubmitRead}
 use Rattle.deliver.specs.Deliver as Deliver
 use Rattle.deliver.specs.declared.SmsDeliver.{SmsDeliver}
 use Rattle.submit_report.specs.SubmitReport as SubmitReport
@@ -37,10 +36,6 @@ octetReadSays (OctetRead.Refused why) = refuses why
 -- the answers from a place on: one octet, and the seven readers'
 unfoldable pub octetFrom : List ℕ → ℕ → Said (ℕ × ℕ)
 octetFrom s place = if ltb place (length s) then gives (getD s place 0, place + 1) else refuses OctetsEnd
-
--- a SUBMIT's answer, with the number of octets read beside the record
-abbrev pub submitReadSays : SubmitRead → (Said Unit × SmsSubmit) × ℕ
-submitReadSays r = ((outcomeSays (r .outcome), r .message), r .«octets_read»)
 
 abbrev pub submitFrom : List ℕ → ℕ → (Said Unit × SmsSubmit) × ℕ
 submitFrom s place = (answer Submit.blank (from Submit.submit s place), Submit.octetsTaken (from Submit.submit s place))

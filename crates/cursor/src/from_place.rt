@@ -2,7 +2,8 @@
 ghost use mathlib.Core.Path.{_≡_};
 ghost use lib.ListN.{drop};
 ghost use Rattle.octets.specs.Answers.{outcomeSays};
-ghost use Rattle.cursor.specs.From.{behindPlace, octetReadSays, octetFrom, submitReadSays, submitFrom, deliverFrom, submitReportAckFrom, submitReportErrorFrom, deliverReportAckFrom, deliverReportErrorFrom, statusReportFrom};
+ghost use Rattle.submit.specs.Submit.{submitReadSays};
+ghost use Rattle.cursor.specs.From.{behindPlace, octetReadSays, octetFrom, submitFrom, deliverFrom, submitReportAckFrom, submitReportErrorFrom, deliverReportAckFrom, deliverReportErrorFrom, statusReportFrom};
 use deliver::DeliverRead;
 use deliver::SmsDeliver;
 use deliver_report::DeliverReportRead;

@@ -3,7 +3,8 @@ pub mod from_place;
 
 ghost use mathlib.Core.Path.{_≡_};
 ghost use Rattle.octets.specs.Answers.{outcomeSays};
-ghost use Rattle.cursor.specs.From.{behindPlace, octetReadSays, octetFrom, submitReadSays, submitFrom, deliverFrom, submitReportAckFrom, submitReportErrorFrom, deliverReportAckFrom, deliverReportErrorFrom, statusReportFrom};
+ghost use Rattle.submit.specs.Submit.{submitReadSays};
+ghost use Rattle.cursor.specs.From.{behindPlace, octetReadSays, octetFrom, submitFrom, deliverFrom, submitReportAckFrom, submitReportErrorFrom, deliverReportAckFrom, deliverReportErrorFrom, statusReportFrom};
 use crate::from_place::OctetRead;
 use deliver::DeliverRead;
 use deliver_report::DeliverReportRead;

@@ -1,18 +1,15 @@
--- How the writer of SMS-DELIVER-REPORT ends.
+-- What the writer makes, check by check.
 -- Assumes nothing.
-use Prim.Native.Nat.{ℕ, _+_, _≤_, _<_}
+use Prim.Native.Nat.{ℕ, _+_}
 use mathlib.Core.Path.{_≡_, _∙_}
 use mathlib.Core.Bool.{Bool}
 use mathlib.Core.List.{List, _++_}
 use native.Mathlib.Omega.{arith}
 use lib.ListN.{length, length-append}
+use Rattle.octets.specs.Answers.{Said, gives, refuses, fine}
 use Rattle.octets.specs.Checks.{Check, found}
-use Rattle.octets.specs.Lent.{made, lend, Wrote}
-use Rattle.octets.specs.declared.Checked.{Checked}
+use Rattle.octets.specs.Lent.{Making, refused, made}
 use Rattle.octets.specs.declared.Refusal.{Refusal}
-use Rattle.octets.specs.declared.Refusal.the-variants.{OutputTooShort}
-use Rattle.octets.specs.declared.Written.{Written}
-use Rattle.octets.proofs.Laws.{lent-refused, lent-short, lent-written}
 use Rattle.octets.proofs.Checks.{passed, against, all-passed, one-against}
 use Rattle.parameters.specs.Optional.{held}
 use Rattle.parameters.specs.Parameters.{Parameters}
@@ -20,36 +17,32 @@ use Rattle.parameters.specs.declared.OptionalOctet.{OptionalOctet}
 use Rattle.parameters.specs.Checking.{indicatorChecks, dataChecks}
 use Rattle.deliver_report.specs.Writing.{octetsIn, making}
 
--- how many octets the parts take
-pub size-is : (udhi : Bool) (cause : OptionalOctet) (pi : ℕ) (p : Parameters) → length (octetsIn udhi cause pi p) ≡ 2 + held cause + (held (p .pid) + held (p .dcs) + held (p .udl) + length (p .ud))
-size-is udhi cause pi p = simp length-append (omega arith)
+module _ (udhi : Bool) (cause : OptionalOctet) (pi : ℕ) (p : Parameters) where
+  abbrev all : Making (Said ℕ)
+  all = making udhi cause pi p
 
-module _ (udhi : Bool) (cause : OptionalOctet) (pi : ℕ) (p : Parameters) (l : List ℕ) where
+  abbrev octets : List ℕ
+  octets = octetsIn udhi cause pi p
+
+  pub size-is : length octets ≡ 2 + held cause + (held (p .pid) + held (p .dcs) + held (p .udl) + length (p .ud))
+  size-is = simp length-append (omega arith)
+
+  -- the indicator's checks, and the user data's
   abbrev first : List Check
   first = indicatorChecks pi (p .pid) (p .dcs) (p .udl)
 
-  abbrev more : List Check
-  more = dataChecks (p .dcs) (p .udl) (length (p .ud))
+  abbrev last : List Check
+  last = dataChecks (p .dcs) (p .udl) (length (p .ud))
 
-  abbrev lent : Written × List ℕ
-  lent = lend Written.Refused (making udhi cause pi p) l
-
-  pub indicator-against : (why : Refusal) → found first ≡ Checked.Against why → _≡_ {A = Written × List ℕ} (Written.Refused why, l) lent
+  pub indicator-against : {why : Refusal} → found first ≡ refuses why → all ≡ refused why
   unfolding making
-  indicator-against why e = lent-refused Written.Refused l why (one-against (octetsIn udhi cause pi p) (first ++ more) (against more first e))
+  indicator-against e = one-against octets (first ++ last) (against last first e)
 
-  module _ (f : found first ≡ Checked.Fine) where
-    pub data-against : (why : Refusal) → found more ≡ Checked.Against why → _≡_ {A = Written × List ℕ} (Written.Refused why, l) lent
+  module _ (i : found first ≡ fine) where
+    pub data-against : {why : Refusal} → found last ≡ refuses why → all ≡ refused why
     unfolding making
-    data-against why e = lent-refused Written.Refused l why (one-against (octetsIn udhi cause pi p) (first ++ more) (passed more first f ∙ e))
+    data-against e = one-against octets (first ++ last) (passed last first i ∙ e)
 
-    module _ (g : found more ≡ Checked.Fine) where
-      fine : making udhi cause pi p ≡ made (octetsIn udhi cause pi p) (Written.Done (length (octetsIn udhi cause pi p)))
-      unfolding making
-      fine = all-passed (octetsIn udhi cause pi p) (first ++ more) (passed more first f ∙ g)
-
-      pub short : length l < length (octetsIn udhi cause pi p) → _≡_ {A = Written × List ℕ} (Written.Refused OutputTooShort, l) lent
-      short h = lent-short Written.Refused l fine h
-
-      pub written : {n : ℕ} {l′ : List ℕ} → length (octetsIn udhi cause pi p) ≤ length l → Wrote 0 (octetsIn udhi cause pi p) l n l′ → _≡_ {A = Written × List ℕ} (Written.Done n, l′) lent
-      written h w = lent-written l fine h w
+    pub all-made : found last ≡ fine → all ≡ made octets (gives (length octets))
+    unfolding making
+    all-made d = all-passed octets (first ++ last) (passed last first i ∙ d)

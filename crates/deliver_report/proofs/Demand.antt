@@ -1,120 +1,147 @@
--- Demand 3 of document 01 for the two readers of SMS-DELIVER-REPORT and their writer.
+-- Demand 3 of DELIVER-REPORT's two readers with its writer, and that this looks at nothing that is no part of a record.
 -- Assumes nothing.
 use Prim.Native.Nat.{ℕ, _≤_}
-use mathlib.Core.Path.{_≡_, refl, ap, _∙_}
+use mathlib.Core.Path.{_≡_, refl, sym, ap, _∙_}
 use mathlib.Core.Bool.{Bool, true, false, _||_}
 use mathlib.Core.List.{List, [], _∷_, _++_, append-nil}
 use native.Mathlib.Omega.{arith}
-use borrow.Author.Tests.{le-leb, eqb-true, eqb-false}
+use borrow.Author.Tests.{eqb-true, eqb-false}
 use lib.ListN.{length}
-use Rattle.octets.specs.Each.{Octets, each}
 use Rattle.octets.specs.Checks.{checked}
-use Rattle.octets.proofs.Laws.{take-pad}
+use Rattle.octets.specs.Choice.{flag}
+use Rattle.octets.specs.Each.{Octets, each}
 use Rattle.octets.proofs.Each.{octets-tested}
+use Rattle.octets.proofs.Laws.{take-cleared}
 use Rattle.coding.specs.Coding.{dataWith}
+use Rattle.coding.proofs.Laws.{data-held, data-cleared}
 use Rattle.layout.specs.Demand.{Demand3}
 use Rattle.layout.specs.Layout.{octet, first, indicator, bit, isSet, messageType, kept, indicatorSize, Field, standsAs, joined, anyPastLimit, reached, after, reading, readFrom, fieldsOf, read, canonicalOf, unwritable}
 use Rattle.layout.proofs.Makes.{Makes, makes-then}
-use Rattle.layout.proofs.Demand.{Answers, Writes, Stopped, demand3, stopped-in-line, demand3-stopping, answers-plain, answers-stopping}
-use Rattle.layout.proofs.Rewriting.{Told}
+use Rattle.layout.proofs.Demand.{Answers, Writes, Stopped, demand3, stopped-in-format, demand3-stopping, answers-plain, answers-stopping}
 use Rattle.layout.proofs.FirstOctet.{kept-type, kept-bit}
 use Rattle.parameters.specs.Optional.{octetsHeld}
 use Rattle.parameters.specs.Parameters.{Parameters}
 use Rattle.parameters.specs.declared.OptionalOctet.{OptionalOctet}
 use Rattle.parameters.specs.declared.OptionalOctet.the-variants.{Absent, Present}
-use Rattle.parameters.specs.Line.{parameters}
+use Rattle.parameters.specs.Layout.{parameters}
 use Rattle.parameters.proofs.Checking.{answers}
 use Rattle.parameters.proofs.Made.{Held, parameters-make, joined-append, past-append}
-use Rattle.deliver_report.specs.DeliverReport.{reported, rest, ackLine, errorLine, stopped, ack, error, answer, reporting, parts, partsOctets}
-use Rattle.deliver_report.specs.Writing.{firstOctet, octetsIn, making}
+use Rattle.deliver_report.specs.Layout.{deliverReported, format}
+use Rattle.deliver_report.specs.Internal.{afterCause}
+use Rattle.deliver_report.specs.DeliverReport.{stopped, ack, error, parametersOf, deliverReporting, cleared, Typed}
+use Rattle.deliver_report.specs.Writing.{octetsIn, making}
 use Rattle.deliver_report.specs.declared.SmsDeliverReport.{SmsDeliverReport}
+use Rattle.deliver_report.proofs.RecordWritten.{by-fields}
+
+-- ---- a record's octets
+
+abbrev octetsOf : SmsDeliverReport → List ℕ
+octetsOf r = octetsIn (r .«tp_udhi») (r .«tp_failure_cause») (r .«tp_parameter_indicator») (parametersOf r)
+
+-- what lies after the length is not written
+of-cleared : (r : SmsDeliverReport) → Typed r → deliverReporting (cleared r) ≡ deliverReporting r
+unfolding deliverReporting
+of-cleared r d = rw (take-cleared 255 (r .«tp_user_data» .length) (r .«tp_user_data» .octets) d)
+
+-- equal records are written alike
+pub written-alike : (r q : SmsDeliverReport) → Typed r → Typed q → cleared r ≡ cleared q → deliverReporting r ≡ deliverReporting q
+written-alike r q f g e = sym (of-cleared r f) ∙ ap deliverReporting e ∙ of-cleared q g
+
+-- a record that was made of fields is cleared
+pub made-cleared : (udhi : Bool) (cause : OptionalOctet) (pi : ℕ) (p : Parameters) → cleared (deliverReported udhi cause pi p) ≡ deliverReported udhi cause pi p
+unfolding deliverReported
+made-cleared udhi cause pi p = rw (data-cleared (p .ud))
+
+-- ---- a record that was read: its octets, and how its checks fare
 
 abbrev Canonical : SmsDeliverReport → List Field → Type 0
-Canonical = Writes parts reporting partsOctets
+Canonical = Writes cleared deliverReporting octetsOf
 
--- a first octet of this kind in its canonical form
 abbrev bits : List ℕ
 bits = 6 ∷ []
 
-first-is : (x : ℕ) → messageType (kept bits x) ≡ 0 → kept bits x ≡ firstOctet (isSet 6 (kept bits x))
+first-is : (x : ℕ) → messageType (kept bits x) ≡ 0 → kept bits x ≡ flag (isSet 6 (kept bits x)) 64
 unfolding kept
 first-is x m = by (isSet 6 (kept bits x)) refl
   where
-    by : (b : Bool) → isSet 6 (kept bits x) ≡ b → kept bits x ≡ firstOctet b
+    by : (b : Bool) → isSet 6 (kept bits x) ≡ b → kept bits x ≡ flag b 64
     by true e = omega (arith, eqb-true (bit 6 (kept bits x)) 1 e, kept-bit bits refl 6 refl x, kept-type bits refl x)
     by false e = omega (arith, eqb-false (bit 6 (kept bits x)) 1 e, kept-bit bits refl 6 refl x, kept-type bits refl x)
 
--- ---- a record that was read
-
 module _ (udhi : Bool) (cause : OptionalOctet) (pi : ℕ) (p : Parameters) where
-  reporting-is : length (p .ud) ≤ 255 → reporting (reported udhi cause pi p) ≡ making udhi cause pi p
-  unfolding reported dataWith reporting making checked
-  reporting-is h = rw (take-pad 255 (p .ud), le-leb (length (p .ud)) 255 h)
+  abbrev r : SmsDeliverReport
+  r = deliverReported udhi cause pi p
 
-  parts-octets : partsOctets (parts (reported udhi cause pi p)) ≡ octetsIn udhi cause pi p
-  unfolding reported dataWith
-  parts-octets = rw (take-pad 255 (p .ud))
+  octets-held : octetsOf (cleared r) ≡ octetsIn udhi cause pi p
+  unfolding deliverReported
+  octets-held = ap octetsOf (made-cleared udhi cause pi p) ∙ rw (data-held (p .ud))
 
-  -- behind the fields of first octet and cause stand indicator and parameters
-  module _ (front cs : List Field) (j : joined front ≡ firstOctet udhi ∷ octetsHeld cause) (n : anyPastLimit front ≡ false) (h : Held pi p cs) where
-    octets-are : octetsIn udhi cause pi p ≡ joined (front ++ (standsAs indicator (pi ∷ []) ∷ cs))
+  its-making : length (p .ud) ≤ 255 → deliverReporting r ≡ making udhi cause pi p
+  unfolding deliverReported dataWith
+  its-making h = by-fields r h ∙ rw (data-held (p .ud))
+
+  -- indicator and parameters stand after the fields of first octet and cause
+  module _ (front cs : List Field) (j : joined front ≡ flag udhi 64 ∷ octetsHeld cause) (n : anyPastLimit front ≡ false) (h : Held pi p cs) where
+    abbrev fields : List Field
+    fields = front ++ (standsAs indicator (pi ∷ []) ∷ cs)
+
+    octets-are : octetsIn udhi cause pi p ≡ joined fields
     octets-are = rw (joined-append, j, ← h .octets)
 
-    limits-are : anyPastLimit (front ++ (standsAs indicator (pi ∷ []) ∷ cs)) ≡ (isSet 7 pi || anyPastLimit cs)
+    limits-are : anyPastLimit fields ≡ (isSet 7 pi || anyPastLimit cs)
     limits-are = rw (past-append, n)
 
-    written : Canonical (reported udhi cause pi p) (front ++ (standsAs indicator (pi ∷ []) ∷ cs))
+    written : Canonical r fields
     unfolding making
     written = record {
-      octets = parts-octets ∙ octets-are;
-      answer = rw (reporting-is (h .few), limits-are, ← octets-are) (answers (h .agrees) (h .limit) (octetsIn udhi cause pi p));
+      octets = octets-held ∙ octets-are;
+      answer = rw (its-making (h .few), limits-are, ← octets-are) (answers (h .agrees) (h .limit) (octetsIn udhi cause pi p));
     }
 
-rest-makes : (udhi : Bool) (cause : OptionalOctet) (front : List Field) → joined front ≡ firstOctet udhi ∷ octetsHeld cause → anyPastLimit front ≡ false → Makes (λ r cs. Canonical r (front ++ cs)) (rest udhi cause)
-rest-makes udhi cause front j n pi low =
+-- ---- the two layouts
+
+after-cause-makes : (udhi : Bool) (cause : OptionalOctet) (front : List Field) → joined front ≡ flag udhi 64 ∷ octetsHeld cause → anyPastLimit front ≡ false → Makes (λ r cs. Canonical r (front ++ cs)) (afterCause udhi cause)
+after-cause-makes udhi cause front j n pi low =
     makes-then (Held pi) _ (parameters pi) _ (parameters-make pi) λ p cs h. rw append-nil (written udhi cause pi p front cs j n h)
 
--- ---- the two lines
+ack-makes : Makes Canonical (format false)
+unfolding format
+ack-makes x low m = after-cause-makes _ Absent (standsAs (first bits) (kept bits x ∷ []) ∷ []) (ap (λ (n : ℕ). n ∷ []) (first-is x (eqb-true _ 0 m))) refl
 
-ack-makes : Makes Canonical ackLine
-unfolding ackLine
-ack-makes x low m = rest-makes _ Absent (standsAs (first bits) (kept bits x ∷ []) ∷ []) (ap (λ (n : ℕ). n ∷ []) (first-is x (eqb-true _ 0 m))) refl
-
-error-makes : Makes Canonical errorLine
-unfolding errorLine
+error-makes : Makes Canonical (format true)
+unfolding format
 error-makes x low m cause small =
-    rest-makes _ (Present cause) (standsAs (first bits) (kept bits x ∷ []) ∷ standsAs octet (cause ∷ []) ∷ []) (ap (λ (n : ℕ). n ∷ cause ∷ []) (first-is x (eqb-true _ 0 m))) refl
+    after-cause-makes _ (Present cause) (standsAs (first bits) (kept bits x ∷ []) ∷ standsAs octet (cause ∷ []) ∷ []) (ap (λ (n : ℕ). n ∷ cause ∷ []) (first-is x (eqb-true _ 0 m))) refl
 
 -- ---- demand 3
 
-pub ack-demand3 : Demand3 parts ack reporting false
-ack-demand3 = demand3 parts reporting partsOctets ackLine ack-makes
+pub ack-demand3 : Demand3 cleared ack deliverReporting false
+ack-demand3 = demand3 cleared deliverReporting octetsOf (format false) ack-makes
 
--- the stopped RP-ERROR stands as a string of the line, which gives its record
-stands-in-line : (readFrom errorLine (0x00 ∷ 0xff ∷ 0x00 ∷ []) 0 ≡ reached stopped 3) × (joined (fieldsOf errorLine (0x00 ∷ 0xff ∷ 0x00 ∷ [])) ≡ 0x00 ∷ 0xff ∷ 0x00 ∷ []) × (anyPastLimit (fieldsOf errorLine (0x00 ∷ 0xff ∷ 0x00 ∷ [])) ≡ false)
-unfolding errorLine readFrom reading after fieldsOf parameters kept indicatorSize
-stands-in-line = (refl, refl, refl)
+-- the octets of the stopped RP-ERROR
+abbrev stands : List ℕ
+stands = 0x00 ∷ 0xff ∷ 0x00 ∷ []
 
-are-octets : Octets (0x00 ∷ 0xff ∷ 0x00 ∷ [])
+-- they are a string of the layout, which gives its record
+stands-in-format : (readFrom (format true) stands 0 ≡ reached stopped 3) × (joined (fieldsOf (format true) stands) ≡ stands) × (anyPastLimit (fieldsOf (format true) stands) ≡ false)
+unfolding format readFrom reading after fieldsOf parameters kept indicatorSize
+stands-in-format = (refl, refl, refl)
+
+are-octets : Octets stands
 unfolding each
-are-octets = octets-tested (0x00 ∷ 0xff ∷ 0x00 ∷ []) refl
+are-octets = octets-tested stands refl
 
--- so it is beside the line's records, and is written
-stands-beside : Stopped parts reporting errorLine (0x00 ∷ 0xff ∷ 0x00 ∷ []) stopped false
-stands-beside = let (e, j, n) = stands-in-line in rw n at (stopped-in-line parts reporting partsOctets errorLine error-makes (0x00 ∷ 0xff ∷ 0x00 ∷ []) stopped are-octets e j)
+-- so it is beside the layout's records, and is written
+stands-beside : Stopped cleared deliverReporting (format true) stands stopped false
+stands-beside = let (e, j, n) = stands-in-format in rw n at (stopped-in-format cleared deliverReporting octetsOf (format true) error-makes stands stopped are-octets e j)
 
-pub error-demand3 : Demand3 parts error reporting false
-error-demand3 = demand3-stopping parts reporting partsOctets errorLine error-makes 0 (0x00 ∷ 0xff ∷ 0x00 ∷ []) stopped false stands-beside
+pub error-demand3 : Demand3 cleared error deliverReporting false
+error-demand3 = demand3-stopping cleared deliverReporting octetsOf (format true) error-makes 0 stands stopped false stands-beside
 
 -- ---- what the writer makes of a record that was read, whatever the buffer
 
-pub ack-answers : (s : List ℕ) → Octets s → (r : SmsDeliverReport) (n : ℕ) → read ack s ≡ reached r n → Answers (reporting r) (canonicalOf ack s) (unwritable ack false s)
-ack-answers = answers-plain parts reporting partsOctets ackLine ack-makes
+pub ack-answers : (s : List ℕ) → Octets s → (r : SmsDeliverReport) (n : ℕ) → read ack s ≡ reached r n → Answers (deliverReporting r) (canonicalOf ack s) (unwritable ack false s)
+ack-answers = answers-plain cleared deliverReporting octetsOf (format false) ack-makes
 
-pub error-answers : (s : List ℕ) → Octets s → (r : SmsDeliverReport) (n : ℕ) → read error s ≡ reached r n → Answers (reporting r) (canonicalOf error s) (unwritable error false s)
-error-answers = answers-stopping parts reporting partsOctets errorLine error-makes 0 (0x00 ∷ 0xff ∷ 0x00 ∷ []) stopped false stands-beside
-
--- its readers' answers
-pub told : Told answer (λ m. m .outcome) (λ m. m .message)
-unfolding answer
-told = record { when-done = λ r n. (refl, refl); when-halted = λ why. refl }
+pub error-answers : (s : List ℕ) → Octets s → (r : SmsDeliverReport) (n : ℕ) → read error s ≡ reached r n → Answers (deliverReporting r) (canonicalOf error s) (unwritable error false s)
+error-answers = answers-stopping cleared deliverReporting octetsOf (format true) error-makes 0 stands stopped false stands-beside

@@ -1,4 +1,4 @@
 pub mod CheckByCheck
-pub mod Reading
+pub mod FieldByField
 pub mod RecordWritten
 pub mod Demand

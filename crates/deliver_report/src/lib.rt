@@ -2,13 +2,14 @@
 pub mod writing;
 
 ghost use mathlib.Core.Path.{_≡_};
-ghost use mathlib.Core.Bool.{false};
 ghost use Prim.Native.Nat.{_-_, _≤_};
 ghost use lib.ListN.{length, take, drop};
+ghost use Rattle.octets.specs.Answers.{refuses, outcomeSays, writtenSays};
 ghost use Rattle.octets.specs.Lent.{lend};
-ghost use Rattle.layout.specs.Layout.{read, readFrom};
-ghost use Rattle.parameters.specs.Parameters.{noParameters};
-ghost use Rattle.deliver_report.specs.DeliverReport.{reported, stopped as stoppedReport, rest, ack, error, answer, reporting};
+ghost use Rattle.layout.specs.Layout.{read, readFrom, answer};
+ghost use Rattle.deliver_report.specs.Layout.{deliverReported};
+ghost use Rattle.deliver_report.specs.Internal.{afterCause};
+ghost use Rattle.deliver_report.specs.DeliverReport.{causeAlone, blank as blankReport, stopped as stoppedReport, ack, error, deliverReporting};
 use coding::UserData;
 use octets::Octet;
 use octets::Outcome;
@@ -42,7 +43,7 @@ pub struct DeliverReportRead {
 
 // A report with a cause or none, and nothing else.
 fn cause_alone(outcome: Outcome, cause: OptionalOctet) -> DeliverReportRead
-    ensures { λ r. ⌜ r ≡ record { outcome = outcome; message = reported false cause 0 noParameters } ⌝ }
+    ensures { λ r. ⌜ r ≡ record { outcome = outcome; message = causeAlone cause } ⌝ }
 {
     DeliverReportRead {
         outcome,
@@ -58,10 +59,11 @@ fn cause_alone(outcome: Outcome, cause: OptionalOctet) -> DeliverReportRead
     }
 }
 
-fn refused(r: Refusal) -> DeliverReportRead
-    ensures { λ u. ⌜ u ≡ record { outcome = Outcome.Refused r; message = reported false OptionalOctet.Absent 0 noParameters } ⌝ }
+// A refusal, with the blank report.
+fn refused(why: Refusal) -> DeliverReportRead
+    ensures { λ r. ⌜ r ≡ record { outcome = Outcome.Refused why; message = blankReport } ⌝ }
 {
-    cause_alone(Outcome::Refused(r), OptionalOctet::Absent)
+    cause_alone(Outcome::Refused(why), OptionalOctet::Absent)
 }
 
 // A report that is read no further: its cause is unspecified.
@@ -72,13 +74,6 @@ fn stopped() -> DeliverReportRead
         Outcome::Done,
         OptionalOctet::Present(FAILURE_CAUSE_UNSPECIFIED),
     )
-}
-
-// The octets end inside a field.
-fn ended() -> DeliverReportRead
-    ensures { λ u. ⌜ u ≡ record { outcome = Outcome.Refused Refusal.OctetsEnd; message = reported false OptionalOctet.Absent 0 noParameters } ⌝ }
-{
-    refused(Refusal::OctetsEnd)
 }
 
 // The report of fields that are there: UDHI, cause, indicator, PID, DCS, UDL, and the n octets of user data before `end`.
@@ -94,7 +89,7 @@ fn report(
     end: usize,
 ) -> DeliverReportRead
     requires { ⌜ (n ≤ end) × (end ≤ length (now «data»)) × (n ≤ 255) ⌝ }
-    ensures { λ r. ⌜ r ≡ record { outcome = Outcome.Done; message = reported udhi cause indicator (record { pid = pid; dcs = dcs; udl = udl; ud = take n (drop (end - n) (now («data» .entry))) }) } ⌝ }
+    ensures { λ r. ⌜ r ≡ record { outcome = Outcome.Done; message = deliverReported udhi cause indicator (record { pid = pid; dcs = dcs; udl = udl; ud = take n (drop (end - n) (now («data» .entry))) }) } ⌝ }
 {
     let start = end - n;
     DeliverReportRead {
@@ -112,67 +107,69 @@ fn report(
 }
 
 // What follows first octet and cause.
-fn decode_rest(data: &[u8], place: Place, udhi: bool, cause: OptionalOctet) -> DeliverReportRead
-    ensures { λ r. ⌜ r ≡ answer (readFrom (rest udhi cause) (now («data» .entry)) (place .at)) ⌝ }
+fn after_cause(data: &[u8], place: Place, udhi: bool, cause: OptionalOctet) -> DeliverReportRead
+    ensures { λ r. ⌜ (outcomeSays (r .outcome), r .message) ≡ answer blankReport (readFrom (afterCause udhi cause) (now («data» .entry)) (place .at)) ⌝ }
 {
-    let Octet::Read(indicator, next) = parameters::reading::read_indicator(data, place) else {
-        return ended();
+    let Octet::Read(indicator, place2) = parameters::reading::read_indicator(data, place) else {
+        return refused(Refusal::OctetsEnd);
     };
-    match parameters::reading::read_parameters(data, next, indicator) {
-        ParametersRead::Refused(r) => refused(r),
-        ParametersRead::Read(pid, dcs, udl, size, behind) => {
-            report(udhi, cause, indicator, data, pid, dcs, udl, size, behind.at)
-        }
-    }
+    let ParametersRead::Read(pid, dcs, udl, n, end) = parameters::reading::read_parameters(
+        data,
+        place2,
+        indicator,
+    ) else {
+        return refused(Refusal::OctetsEnd);
+    };
+    report(udhi, cause, indicator, data, pid, dcs, udl, n, end.at)
 }
 
 impl SmsDeliverReport {
     // The layout carried in an RP-ACK (no TP-Failure-Cause).
     pub fn decode_for_rp_ack(data: &[u8]) -> DeliverReportRead
-        ensures { λ r. ⌜ r ≡ answer (read ack (now («data» .entry))) ⌝ }
+        ensures { λ r. ⌜ (outcomeSays (r .outcome), r .message) ≡ answer blankReport (read ack (now («data» .entry))) ⌝ }
     {
         let start = Place { at: 0 };
         let Octet::Read(first, place) = start.octet(data) else {
-            return ended();
+            return refused(Refusal::OctetsEnd);
         };
         if first % 4 != MTI_DELIVER {
             return refused(Refusal::WrongMessageType);
         }
-        decode_rest(data, place, first / 64 % 2 == 1, OptionalOctet::Absent)
+        after_cause(data, place, first / 64 % 2 == 1, OptionalOctet::Absent)
     }
 
     // The layout carried in an RP-ERROR (TP-Failure-Cause present). Where an unused bit of the first octet is set the
     // rest is not examined, and the cause reads as "Unspecified error cause".
     pub fn decode_for_rp_error(data: &[u8]) -> DeliverReportRead
-        ensures { λ r. ⌜ r ≡ answer (read error (now («data» .entry))) ⌝ }
+        ensures { λ r. ⌜ (outcomeSays (r .outcome), r .message) ≡ answer blankReport (read error (now («data» .entry))) ⌝ }
     {
         let start = Place { at: 0 };
-        let Octet::Read(first_byte, place) = start.octet(data) else {
-            return ended();
+        let Octet::Read(first, place) = start.octet(data) else {
+            return refused(Refusal::OctetsEnd);
         };
-        if first_byte % 4 != MTI_DELIVER {
+        if first % 4 != MTI_DELIVER {
             return refused(Refusal::WrongMessageType);
         }
-        if first_byte & REPORT_UNUSED_BITS != 0 {
+        if first & REPORT_UNUSED_BITS != 0 {
             return stopped();
         }
         let Octet::Read(cause, next) = place.octet(data) else {
-            return ended();
+            return refused(Refusal::OctetsEnd);
         };
-        decode_rest(
+        after_cause(
             data,
             next,
-            first_byte / 64 % 2 == 1,
+            first / 64 % 2 == 1,
             OptionalOctet::Present(cause),
         )
     }
 
     // Writes the report to the start of a lent output.
     pub fn encode(self, out: &mut [u8]) -> Written
-        ensures { λ r. ⌜ (r, now (out .exit)) ≡ lend Written.Refused (reporting self) (now (out .entry)) ⌝ }
+        ensures { λ r. ⌜ (writtenSays r, now (out .exit)) ≡ lend refuses (deliverReporting self) (now (out .entry)) ⌝ }
     {
-        let length = self.tp_user_data.length;
-        if length > 255 {
+        let n = self.tp_user_data.length;
+        if 255 < n {
             return Written::Refused(Refusal::LengthTooLarge);
         }
         let octets = self.tp_user_data.octets;
@@ -180,14 +177,14 @@ impl SmsDeliverReport {
         let pid = self.tp_pid;
         let dcs = self.tp_dcs;
         let udl = self.tp_user_data_length;
-        writing::encode_parts(
+        writing::encode_fields(
             self.tp_udhi,
             cause,
             self.tp_parameter_indicator,
             pid,
             dcs,
             udl,
-            &octets[..length],
+            &octets[..n],
             out,
         )
     }

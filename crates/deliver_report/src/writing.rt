@@ -1,25 +1,20 @@
-// SMS-DELIVER-REPORT (TS 23.040 §9.2.2.1a), written from its parts.
+// SMS-DELIVER-REPORT (TS 23.040 §9.2.2.1a), written from its fields' values.
 ghost use mathlib.Core.Path.{_≡_};
 ghost use Prim.Native.Nat.{_+_, _≤_};
 ghost use lib.ListN.{length};
+ghost use Rattle.octets.specs.Answers.{refuses, writtenSays};
 ghost use Rattle.octets.specs.Lent.{Wrote, lend};
 ghost use mathlib.Core.List.{_∷_, _++_};
 ghost use Rattle.parameters.specs.Optional.{held, octetsHeld};
 ghost use Rattle.parameters.specs.Parameters.{parametersOctets};
-ghost use Rattle.deliver_report.specs.Writing.{firstOctet, making};
+ghost use Rattle.deliver_report.specs.Writing.{making};
 use octets::Checked;
 use octets::Refusal;
 use octets::Written;
 use parameters::OptionalOctet;
 
-fn first_octet(udhi: bool) -> u8
-    ensures { λ r. ⌜ r ≡ firstOctet udhi ⌝ }
-{
-    if udhi { 64 } else { 0 }
-}
-
-// Writes parts that were checked; how many octets they take.
-fn put_parts(
+// Writes values that were checked; how many octets they take.
+fn put_fields(
     first: u8,
     cause: OptionalOctet,
     indicator: u8,
@@ -30,7 +25,7 @@ fn put_parts(
     out: &mut [u8],
 ) -> usize
     requires { ⌜ 2 + held cause + (held pid + held dcs + held udl + length (now «data»)) ≤ length (now out) ⌝ }
-    ensures { λ r. ⌜ Wrote 0 (first ∷ (octetsHeld cause ++ (indicator ∷ parametersOctets (record { pid = pid; dcs = dcs; udl = udl; ud = now («data» .entry) })))) (now (out .entry)) r (now (out .exit)) ⌝ }
+    ensures { λ r. ⌜ Wrote 0 (first ∷ octetsHeld cause ++ indicator ∷ parametersOctets (record { pid = pid; dcs = dcs; udl = udl; ud = now («data» .entry) })) (now (out .entry)) r (now (out .exit)) ⌝ }
 {
     let p1 = octets::put_octet(out, 0, first);
     let p2 = parameters::put_optional(out, p1, cause);
@@ -38,8 +33,8 @@ fn put_parts(
     parameters::writing::put_parameters(out, p3, pid, dcs, udl, data)
 }
 
-// Writes the parts to the start of a lent output: checks in order, then the size, then the octets.
-pub fn encode_parts(
+// Writes the values to the start of a lent output: checks in order, then the size, then the octets.
+pub fn encode_fields(
     udhi: bool,
     cause: OptionalOctet,
     indicator: u8,
@@ -49,8 +44,7 @@ pub fn encode_parts(
     data: &[u8],
     out: &mut [u8],
 ) -> Written
-    requires { ⌜ length (now «data») ≤ 255 ⌝ }
-    ensures { λ r. ⌜ (r, now (out .exit)) ≡ lend Written.Refused (making udhi cause indicator (record { pid = pid; dcs = dcs; udl = udl; ud = now («data» .entry) })) (now (out .entry)) ⌝ }
+    ensures { λ r. ⌜ (writtenSays r, now (out .exit)) ≡ lend refuses (making udhi cause indicator (record { pid = pid; dcs = dcs; udl = udl; ud = now («data» .entry) })) (now (out .entry)) ⌝ }
 {
     if let Checked::Against(r) = parameters::writing::check_parameter_indicator(
         indicator,
@@ -67,8 +61,8 @@ pub fn encode_parts(
     if out.len() < 2 + parameters::octets_held(cause) + size {
         return Written::Refused(Refusal::OutputTooShort);
     }
-    Written::Done(put_parts(
-        first_octet(udhi),
+    Written::Done(put_fields(
+        octets::flag(udhi, 64),
         cause,
         indicator,
         pid,

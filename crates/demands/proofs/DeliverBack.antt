@@ -174,7 +174,7 @@ module _ {octets : List ℕ} {answer : Said ℕ} (r : SmsDeliver) (e : deliverin
         delivered (record { first = f; oa = oa; pid = r .«tp_pid»; dcs = r .«tp_dcs»; scts = scts; udl = r .«tp_user_data_length»; ud = dataOf d }),
         1 + length oa + 1 + 1 + length scts + 1 + length (dataOf d),
         ap (read deliver) (sym (p .is))
-        ∙ written-read f (t .whole) (t .mti-is) oa (p .address .whole) (p .address .again) (r .«tp_pid») (r .«tp_dcs») scts (sym (time-size (digitsOf stamp) (p .time-is))) (r .«tp_user_data_length») (dataOf d) (sym (p .size-is)),
+            ∙ written-read f (t .whole) (t .mti-is) oa (p .address .whole) (p .address .again) (r .«tp_pid») (r .«tp_dcs») scts (sym (time-size (digitsOf stamp) (p .time-is))) (r .«tp_user_data_length») (dataOf d) (sym (p .size-is)),
         made-cleared _ ∙ same-record r f t (p .mti-is) oa scts (p .address .back ∙ address-held a la) (time-back stamp (p .time-is) lt) (data-back d ld),
       )
 

@@ -10,10 +10,9 @@ use borrow.Author.Tests.{eq-eqb, ne-eqb, eqb-true, lt-ltb}
 use lib.Dec.{eqb}
 use lib.ListN.{length, getD, drop, length-drop}
 use lib.Seq.{getD-drop}
+use Rattle.octets.specs.Answers.{gives, fine}
 use Rattle.octets.specs.Checks.{_unless_, found}
 use Rattle.octets.specs.Places.{octetAt}
-use Rattle.octets.specs.declared.Octet.{Octet}
-use Rattle.octets.specs.declared.Checked.{Checked}
 use Rattle.octets.specs.declared.Refusal.the-variants.{IndicatorDisagrees, IndicatorExtended, UserDataWithoutLength}
 use Rattle.octets.proofs.Checks.{holds}
 use Rattle.coding.specs.Coding.{codingOf, dataOctets, checkedData}
@@ -25,20 +24,15 @@ use Rattle.parameters.specs.Optional.{octetsHeld, held, orZero}
 use Rattle.parameters.specs.Parameters.{Parameters, parametersOctets}
 use Rattle.parameters.specs.declared.OptionalOctet.{OptionalOctet}
 use Rattle.parameters.specs.declared.OptionalOctet.the-variants.{Absent, Present}
+use Rattle.parameters.proofs.Checking.{data-few}
 use Rattle.parameters.proofs.Laws.{one-at-most}
 use Rattle.parameters.specs.Checking.{indicatorChecks, dataChecks}
-use Rattle.parameters.specs.Line.{announced, dataFor, parameters}
+use Rattle.parameters.specs.Layout.{announced, dataFor, parameters}
 use Rattle.parameters.proofs.Made.{three-bits}
 
--- user data that pass have at most 140 octets
-data-limit : (dcs udl : OptionalOctet) (n : ℕ) → found (dataChecks dcs udl n) ≡ Checked.Fine → n ≤ 140
-unfolding dataChecks checkedData
-data-limit dcs Absent n h = omega (arith, eqb-true n 0 (holds UserDataWithoutLength (eqb n 0) [] h .0))
-data-limit dcs (Present udl) n h = data-passed (orZero dcs) udl n h .1
-
--- and parameters at most 143
-pub parameters-limit : (p : Parameters) → found (dataChecks (p .dcs) (p .udl) (length (p .ud))) ≡ Checked.Fine → held (p .pid) + held (p .dcs) + held (p .udl) + length (p .ud) ≤ 143
-parameters-limit p h = omega (arith, one-at-most (p .pid), one-at-most (p .dcs), one-at-most (p .udl), data-limit (p .dcs) (p .udl) (length (p .ud)) h)
+-- parameters that pass have at most 143 octets
+pub parameters-limit : (p : Parameters) → found (dataChecks (p .dcs) (p .udl) (length (p .ud))) ≡ fine → held (p .pid) + held (p .dcs) + held (p .udl) + length (p .ud) ≤ 143
+parameters-limit p h = omega (arith, one-at-most (p .pid), one-at-most (p .dcs), one-at-most (p .udl), data-few (p .dcs) (p .udl) (length (p .ud)) h)
 
 -- three bits are told by their number
 three : {a b c x y z : ℕ} → a ≤ 1 → b ≤ 1 → c ≤ 1 → x ≤ 1 → y ≤ 1 → z ≤ 1 → a + 2 * b + 4 * c ≡ x + 2 * y + 4 * z → (a ≡ x) × (b ≡ y) × (c ≡ z)
@@ -50,13 +44,13 @@ module _ {R : Type 0} (xs : List ℕ) (at : ℕ) where
   announced-back Absent b pi next h = rw (ne-eqb (bit b pi) 1 (λ e. omega arith), add-zero)
   announced-back (Present x) b pi next h = rw (eq-eqb (bit b pi) 1 (sym h)) (field-read octet (λ f. next (Present (leading f))) (x ∷ []) xs at refl)
 
-  data-back : (dcs udl : OptionalOctet) (ud : List ℕ) (next : List ℕ → Format R) → found (dataChecks dcs udl (length ud)) ≡ Checked.Fine → reading (dataFor dcs udl then next) (ud ++ xs) at ≡ reading (next ud) xs (at + length ud)
+  data-back : (dcs udl : OptionalOctet) (ud : List ℕ) (next : List ℕ → Format R) → found (dataChecks dcs udl (length ud)) ≡ fine → reading (dataFor dcs udl then next) (ud ++ xs) at ≡ reading (next ud) xs (at + length ud)
   unfolding reading dataChecks checkedData
   data-back dcs Absent [] next h = rw add-zero
   data-back dcs Absent (x ∷ ud) next h = absurd (omega (arith, eqb-true (length (x ∷ ud)) 0 (holds UserDataWithoutLength (eqb (length (x ∷ ud)) 0) [] h .0)))
   data-back dcs (Present udl) ud next h = field-read (userData (dataOctets (codingOf (orZero dcs)) udl)) next ud xs at (sym (data-passed (orZero dcs) udl (length ud) h .0))
 
-module _ (pi : ℕ) (p : Parameters) (more : List ℕ) (at : ℕ) (i : found (indicatorChecks pi (p .pid) (p .dcs) (p .udl)) ≡ Checked.Fine) (d : found (dataChecks (p .dcs) (p .udl) (length (p .ud))) ≡ Checked.Fine) where
+module _ (pi : ℕ) (p : Parameters) (more : List ℕ) (at : ℕ) (i : found (indicatorChecks pi (p .pid) (p .dcs) (p .udl)) ≡ fine) (d : found (dataChecks (p .dcs) (p .udl) (length (p .ud))) ≡ fine) where
   both : (eqb (pi % 8) (held (p .pid) + 2 * held (p .dcs) + 4 * held (p .udl)) ≡ true) × (not (isSet 7 pi) ≡ true)
   unfolding indicatorChecks
   both =
@@ -86,7 +80,7 @@ module _ (s : List ℕ) (at : ℕ) {x : ℕ} {t : List ℕ} (e : drop at s ≡ x
   inside : at < length s
   inside = omega (arith, length-drop at s, ap length e)
 
-  pub octet-here : octetAt s (record { at = at }) ≡ Octet.Read x (record { at = at + 1 })
+  pub octet-here : octetAt s (record { at = at }) ≡ gives (x, record { at = at + 1 })
   unfolding octetAt
   octet-here =
       let g : getD s at 0 ≡ x = ap (λ (n : ℕ). getD s n 0) (sym (add-zero at)) ∙ sym (getD-drop at s 0 0) ∙ ap (λ (l : List ℕ). getD l 0 0) e in
@@ -96,7 +90,7 @@ module _ (s : List ℕ) (at : ℕ) {x : ℕ} {t : List ℕ} (e : drop at s ≡ x
   unfolding indicatorSize
   indicator-here next f = field-here indicator next s at (x ∷ []) t e (rw f)
 
-module _ {R : Type 0} (pi : ℕ) (p : Parameters) (i : found (indicatorChecks pi (p .pid) (p .dcs) (p .udl)) ≡ Checked.Fine) (d : found (dataChecks (p .dcs) (p .udl) (length (p .ud))) ≡ Checked.Fine) where
+module _ {R : Type 0} (pi : ℕ) (p : Parameters) (i : found (indicatorChecks pi (p .pid) (p .dcs) (p .udl)) ≡ fine) (d : found (dataChecks (p .dcs) (p .udl) (length (p .ud))) ≡ fine) where
   pub parameters-here : (s : List ℕ) (at : ℕ) → drop at s ≡ parametersOctets p → (next : Parameters → Format R)
       → readFrom (parameters pi then next) s at ≡ readFrom (next p) s (at + held (p .pid) + held (p .dcs) + held (p .udl) + length (p .ud))
   unfolding readFrom

@@ -1,19 +1,23 @@
 -- What the checks of indicator and parameters find.
 -- Assumes nothing.
-use Prim.Native.Nat.{ℕ}
+use Prim.Native.Nat.{ℕ, _≤_}
 use mathlib.Core.Path.{_≡_, refl, _∙_}
 use mathlib.Core.Bool.{Bool, true, false, not, _||_}
-use mathlib.Core.List.{List, _++_}
-use borrow.Author.Tests.{eq-eqb, leb-true, leb-false, le-ltb, lt-ltb}
-use lib.Dec.{leb, ltb}
+use mathlib.Core.List.{List, [], _++_}
+use native.Mathlib.Omega.{arith}
+use borrow.Author.Tests.{eq-eqb, eqb-true, leb-true, leb-false, le-ltb, lt-ltb}
+use lib.Dec.{eqb, leb, ltb}
 use lib.ListN.{length}
 use Rattle.octets.specs.Answers.{Said, refuses, fine}
 use Rattle.octets.specs.Choice.{if_then_else_}
 use Rattle.octets.specs.Checks.{Check, checked, found}
-use Rattle.octets.specs.declared.Refusal.the-variants.{IndicatorExtended, UserDataTooLong}
-use Rattle.octets.proofs.Checks.{passed, against, all-passed, one-against}
+use Rattle.octets.specs.declared.Refusal.the-variants.{IndicatorExtended, UserDataTooLong, UserDataWithoutLength}
+use Rattle.octets.proofs.Checks.{passed, against, all-passed, one-against, holds}
+use Rattle.coding.specs.Coding.{checkedData}
+use Rattle.coding.proofs.Laws.{data-passed}
 use Rattle.layout.specs.Layout.{isSet}
 use Rattle.layout.proofs.Demand.{Answers}
+use Rattle.parameters.specs.Optional.{orZero}
 use Rattle.parameters.specs.Parameters.{Parameters}
 use Rattle.parameters.specs.declared.OptionalOctet.{OptionalOctet}
 use Rattle.parameters.specs.declared.OptionalOctet.the-variants.{Absent, Present}
@@ -28,6 +32,12 @@ data-found : (dcs udl : OptionalOctet) {n : ℕ} → n ≡ dataCount dcs udl →
 unfolding dataChecks
 data-found dcs Absent e = rw e
 data-found dcs (Present udl) {n} e = rw (eq-eqb n _ e)
+
+-- data that pass have at most 140 octets
+pub data-few : (dcs udl : OptionalOctet) (n : ℕ) → found (dataChecks dcs udl n) ≡ fine → n ≤ 140
+unfolding dataChecks checkedData
+data-few dcs Absent n e = omega (arith, eqb-true n 0 (holds UserDataWithoutLength (eqb n 0) [] e .0))
+data-few dcs (Present udl) n e = data-passed (orZero dcs) udl n e .1
 
 -- ---- parameters that go with their indicator pass the checks, but for bit 7 and more than 140 octets
 

@@ -6,7 +6,7 @@ use mathlib.Core.List.{List}
 use lib.Dec.{eqb}
 use lib.ListN.{take, drop}
 use Rattle.octets.specs.Each.{Octets}
-use Rattle.octets.specs.declared.Outcome.{Outcome}
+use Rattle.octets.specs.Answers.{Said, refuses, fine}
 use Rattle.octets.specs.declared.Refusal.{Refusal}
 use Rattle.octets.proofs.Laws.{part-is}
 use Rattle.coding.specs.Coding.{dataWith}
@@ -15,26 +15,29 @@ use Rattle.time.specs.Time.{timeIn}
 use Rattle.time.specs.declared.Time.{Time}
 use Rattle.address.specs.Address.{addressIn, addressSize}
 use Rattle.address.specs.declared.SMSAddress.{SMSAddress}
-use Rattle.layout.specs.Layout.{done, read, readFrom}
+use Rattle.layout.specs.Layout.{done, read, readFrom, answer}
 use Rattle.layout.proofs.Fields.{address-there}
 use Rattle.layout.proofs.FirstOctet.{kept-bit}
 use Rattle.layout.proofs.Steps.{done-reached, then-goes-on, then-ends}
-use Rattle.status_report.specs.Line.{bits, line as fields, fieldsAt, told, Inside}
+use Rattle.status_report.specs.Layout.{bits, fields}
+use Rattle.status_report.specs.Internal.{fieldsAt, foundSays, Inside}
 use Rattle.status_report.specs.declared.reading.StatusReportFields.{StatusReportFields}
 use Rattle.status_report.specs.declared.reading.StatusReportFound.{StatusReportFound}
 use Rattle.status_report.specs.declared.SmsStatusReport.{SmsStatusReport}
-use Rattle.status_report.specs.declared.StatusReportRead.{StatusReportRead}
-use Rattle.status_report.specs.StatusReport.{reported, line, statusReport, answer, unread}
+use Rattle.status_report.specs.StatusReport.{statusReported, format, statusReport, blank}
+
+-- ---- the answer
 
 -- what fields that were found, or a refusal, come to
-pub answer-refused : (s : List ℕ) (why : Refusal) → told s (StatusReportFound.Refused why) ≡ readFrom fields s 0 → unread why ≡ answer (read statusReport s)
-unfolding answer read line
-answer-refused s why e = rw (then-ends s fields 0 (sym e) (λ x. done (reported x)))
+pub answer-refused : (s : List ℕ) (why : Refusal) (r : SmsStatusReport) → foundSays s (StatusReportFound.Refused why) ≡ readFrom fields s 0 → r ≡ blank
+    → _≡_ {A = Said Unit × SmsStatusReport} (refuses why, r) (answer blank (read statusReport s))
+unfolding read format
+answer-refused s why r e is = rw (then-ends s fields 0 (sym e) (λ x. done (statusReported x)), is)
 
-pub answer-done : (s : List ℕ) (f : StatusReportFields) (r : SmsStatusReport) → told s (StatusReportFound.Whole f) ≡ readFrom fields s 0 → r ≡ reported (fieldsAt s f)
-    → _≡_ {A = StatusReportRead} (record { outcome = Outcome.Done; message = r }) (answer (read statusReport s))
-unfolding answer read line
-answer-done s f r e is = rw (then-goes-on s fields 0 (sym e) (λ x. done (reported x)), done-reached, is)
+pub answer-done : (s : List ℕ) (f : StatusReportFields) (r : SmsStatusReport) → foundSays s (StatusReportFound.Whole f) ≡ readFrom fields s 0 → r ≡ statusReported (fieldsAt s f)
+    → _≡_ {A = Said Unit × SmsStatusReport} (fine, r) (answer blank (read statusReport s))
+unfolding read format
+answer-done s f r e is = rw (then-goes-on s fields 0 (sym e) (λ x. done (statusReported x)), done-reached, is)
 
 -- ---- the record
 
@@ -57,8 +60,8 @@ pub message-is : (s : List ℕ) → Octets s → (f : StatusReportFields) → In
       «tp_user_data_length» = f .udl;
       «tp_user_data» = d;
     })
-    (reported (fieldsAt s f))
-unfolding reported fieldsAt
+    (statusReported (fieldsAt s f))
+unfolding statusReported fieldsAt
 message-is s o f inside a ea t et u eu d ed =
     rw (
       kept-bit bits refl 6 refl (f .first),

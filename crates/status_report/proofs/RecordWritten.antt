@@ -1,6 +1,6 @@
--- What the writer makes of a record: its lengths, then its parts.
+-- What the writer makes of a record: its lengths, then its fields.
 -- Assumes nothing.
-use Prim.Native.Nat.{_≤_}
+use Prim.Native.Nat.{ℕ, _≤_}
 use mathlib.Core.Path.{_≡_}
 use mathlib.Core.Bool.{true, false}
 use borrow.Author.Tests.{le-ltb, ltb-false}
@@ -9,26 +9,39 @@ use lib.ListN.{length}
 use Rattle.octets.specs.Lent.{refused}
 use Rattle.octets.specs.declared.Refusal.the-variants.{LengthTooLarge}
 use Rattle.octets.proofs.Choice.{or-false}
+use Rattle.coding.specs.Coding.{dataOf}
 use Rattle.time.specs.Time.{digitsOf}
 use Rattle.address.specs.Address.{textHeld}
-use Rattle.status_report.specs.StatusReport.{firstOf, tooLong, parametersOf, reporting}
-use Rattle.status_report.specs.Writing.{making}
+use Rattle.status_report.specs.StatusReport.{firstOf, tooLong, statusReporting}
+use Rattle.status_report.specs.Internal.{making}
 use Rattle.status_report.specs.declared.SmsStatusReport.{SmsStatusReport}
 
--- ---- a record: its lengths, then its parts
-
 module _ (r : SmsStatusReport) where
-  pub too-long : tooLong r ≡ true → reporting r ≡ refused LengthTooLarge
-  unfolding reporting
+  pub too-long : tooLong r ≡ true → statusReporting r ≡ refused LengthTooLarge
+  unfolding statusReporting
   too-long e = rw e
 
   pub fits : r .«tp_recipient_address» .«address_length» ≤ 290 → r .«tp_service_centre_timestamp» .length ≤ 14 → r .«tp_discharge_time» .length ≤ 14 → r .«tp_user_data» .length ≤ 255 → tooLong r ≡ false
   fits a t d u = rw (le-ltb 290 _ a, le-ltb 14 (r .«tp_service_centre_timestamp» .length) t, le-ltb 14 (r .«tp_discharge_time» .length) d, le-ltb 255 _ u)
 
   module _ (e : tooLong r ≡ false) where
-    pub by-parts : reporting r ≡ making (firstOf r) (r .«tp_mr») (r .«tp_recipient_address» .ton) (r .«tp_recipient_address» .npi) (textHeld (r .«tp_recipient_address»)) (digitsOf (r .«tp_service_centre_timestamp»)) (digitsOf (r .«tp_discharge_time»)) (r .«tp_status») (r .«tp_parameter_indicator») (parametersOf r)
-    unfolding reporting
-    by-parts = rw e
+    -- by the values of its fields
+    pub by-fields : {first : ℕ} → first ≡ firstOf r
+        → statusReporting r ≡ making
+        (record {
+          first = first;
+          mr = r .«tp_mr»;
+          ton = r .«tp_recipient_address» .ton;
+          npi = r .«tp_recipient_address» .npi;
+          status = r .«tp_status»;
+          indicator = r .«tp_parameter_indicator»;
+          pid = r .«tp_pid»;
+          dcs = r .«tp_dcs»;
+          udl = r .«tp_user_data_length»;
+        })
+        (textHeld (r .«tp_recipient_address»)) (digitsOf (r .«tp_service_centre_timestamp»)) (digitsOf (r .«tp_discharge_time»)) (dataOf (r .«tp_user_data»))
+    unfolding statusReporting making
+    by-fields f = rw (e, f)
 
     pub all-fit : (r .«tp_recipient_address» .«address_length» ≤ 290) × (r .«tp_service_centre_timestamp» .length ≤ 14) × (r .«tp_discharge_time» .length ≤ 14) × (r .«tp_user_data» .length ≤ 255)
     all-fit =

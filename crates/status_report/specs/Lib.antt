@@ -1,3 +1,3 @@
-pub mod Writing
-pub mod Line
+pub mod Layout
 pub mod StatusReport
+pub mod Internal

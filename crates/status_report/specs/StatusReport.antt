@@ -1,32 +1,35 @@
--- SMS-STATUS-REPORT (TS 23.040 §9.2.2.3): the record of its line's fields, its reader's answer, and what its writer makes.
+-- SMS-STATUS-REPORT (TS 23.040 §9.2.2.3): the record that its fields make, what its writer makes of a record, and what is no part of one.
 use Prim.Native.Nat.{ℕ, _+_}
 use mathlib.Core.Bool.{Bool, false, _||_}
-use mathlib.Core.List.{List, [], _∷_}
-use lib.Dec.{ltb}
+use mathlib.Core.List.{List, [], _∷_, _++_}
+use lib.Dec.{eqb, ltb}
 use lib.ListN.{length}
+use Rattle.octets.specs.Answers.{Said}
+use Rattle.octets.specs.Checks.{Check, _unless_, checked}
 use Rattle.octets.specs.Choice.{if_then_else_, flag}
 use Rattle.octets.specs.Lent.{Making, refused}
-use Rattle.octets.specs.declared.Outcome.{Outcome}
-use Rattle.octets.specs.declared.Refusal.{Refusal}
-use Rattle.octets.specs.declared.Refusal.the-variants.{LengthTooLarge}
-use Rattle.octets.specs.declared.Written.{Written}
-use Rattle.coding.specs.Coding.{dataWith, dataOf}
-use Rattle.time.specs.Time.{timeIn, digitsOf, capitals}
-use Rattle.address.specs.Address.{addressIn, addressWith, textHeld}
-use Rattle.layout.specs.Layout.{isSet, Format, done, _then_, Reached, reached, halted, Layout, plain}
-use Rattle.parameters.specs.Parameters.{Parameters}
+use Rattle.octets.specs.declared.Refusal.the-variants.{LengthTooLarge, NotATime, ParametersWithoutIndicator}
+use Rattle.coding.specs.Coding.{dataWith, dataOf, clearedData, TypedData}
+use Rattle.coding.specs.declared.UserData.{UserData}
+use Rattle.time.specs.Time.{isTime, timeOctets, timeIn, digitsOf, clearedTime, capitalTime, TypedTime}
+use Rattle.time.specs.declared.Time.{Time}
+use Rattle.address.specs.Address.{addressIn, addressWith, textHeld, clearedAddress, TypedAddress}
+use Rattle.address.specs.Writing.{addressOctets, octetsOr, addressChecks}
+use Rattle.address.specs.declared.SMSAddress.{SMSAddress}
+use Rattle.layout.specs.Layout.{Format, Layout, plain, done, _then_, isSet}
+use Rattle.parameters.specs.Checking.{indicatorChecks, dataChecks}
+use Rattle.parameters.specs.Optional.{octetsHeld}
+use Rattle.parameters.specs.Parameters.{Parameters, parametersOctets}
 use Rattle.parameters.specs.declared.OptionalOctet.{OptionalOctet}
 use Rattle.parameters.specs.declared.OptionalOctet.the-variants.{Absent, Present}
-use Rattle.status_report.specs.Line.{Fields, line as fields}
-use Rattle.status_report.specs.Writing.{making}
+use Rattle.status_report.specs.Layout.{Fields, fields}
 use Rattle.status_report.specs.declared.SmsStatusReport.{SmsStatusReport}
-use Rattle.status_report.specs.declared.StatusReportRead.{StatusReportRead}
 
 -- ---- reading
 
--- the record that the fields make
-unfoldable pub reported : Fields → SmsStatusReport
-reported x = record {
+-- the record that the fields make. An address is made from its canonical octets, since these are what a layout gives: they are read as the field itself is (law `canonical-reads` of crate address)
+unfoldable pub statusReported : Fields → SmsStatusReport
+statusReported x = record {
   «tp_udhi» = isSet 6 (x .first);
   «tp_srq» = isSet 5 (x .first);
   «tp_lp» = isSet 3 (x .first);
@@ -43,12 +46,12 @@ reported x = record {
   «tp_user_data» = dataWith (x .held .ud);
 }
 
--- the line of fields (status_report/specs/Line.antt), and the record
-unfoldable pub line : Format SmsStatusReport
-line = fields then λ x. done (reported x)
+-- the layout of fields, and the record
+unfoldable pub format : Format SmsStatusReport
+format = fields then λ x. done (statusReported x)
 
 abbrev pub statusReport : Layout SmsStatusReport
-statusReport = plain line
+statusReport = plain format
 
 -- the blank record
 unfoldable pub blank : SmsStatusReport
@@ -69,19 +72,14 @@ blank = record {
   «tp_user_data» = dataWith [];
 }
 
-unfoldable pub unread : Refusal → StatusReportRead
-unread r = record { outcome = Outcome.Refused r; message = blank }
-
--- what the reader answers
-unfoldable pub answer : Reached SmsStatusReport → StatusReportRead
-answer (reached r n) = record { outcome = Outcome.Done; message = r }
-answer (halted why) = unread why
-
 -- ---- writing
 
--- MTI 2; UDHI bit 6, SRQ 5, LP 3, MMS 2
+-- the first octet: MTI 2; UDHI bit 6, SRQ 5, LP 3, MMS 2
+abbrev pub firstWith : Bool → Bool → Bool → Bool → ℕ
+firstWith udhi srq lp mms = 2 + flag udhi 64 + flag srq 32 + flag lp 8 + flag mms 4
+
 abbrev pub firstOf : SmsStatusReport → ℕ
-firstOf r = 2 + flag (r .«tp_udhi») 64 + flag (r .«tp_srq») 32 + flag (r .«tp_lp») 8 + flag (r .«tp_mms») 4
+firstOf r = firstWith (r .«tp_udhi») (r .«tp_srq») (r .«tp_lp») (r .«tp_mms»)
 
 -- a length of the record passes its array
 abbrev pub tooLong : SmsStatusReport → Bool
@@ -92,74 +90,58 @@ tooLong r =
 abbrev pub parametersOf : SmsStatusReport → Parameters
 parametersOf r = record { pid = r .«tp_pid»; dcs = r .«tp_dcs»; udl = r .«tp_user_data_length»; ud = dataOf (r .«tp_user_data») }
 
+-- the octets of a record, in the layout's order
+abbrev pub octetsOf : SmsStatusReport → List ℕ
+octetsOf r =
+    let recipient = r .«tp_recipient_address» in
+    firstOf r ∷ r .«tp_mr» ∷ (octetsOr [] (addressOctets (recipient .ton) (recipient .npi) (textHeld recipient)) ++ (timeOctets (digitsOf (r .«tp_service_centre_timestamp»))
+    ++ (timeOctets (digitsOf (r .«tp_discharge_time»)) ++ (r .«tp_status» ∷ (octetsHeld (r .«tp_parameter_indicator») ++ parametersOctets (parametersOf r))))))
+
+-- with an indicator 13, 14, 7, 8, 15; without one 16: neither parameters nor user data are held
+unfoldable pub optionalChecks : OptionalOctet → Parameters → List Check
+optionalChecks (Present i) p = indicatorChecks i (p .pid) (p .dcs) (p .udl) ++ dataChecks (p .dcs) (p .udl) (length (p .ud))
+optionalChecks Absent p = (ParametersWithoutIndicator unless eqb (length (parametersOctets p)) 0) ∷ []
+
 -- what the writer makes of a record
-unfoldable pub reporting : SmsStatusReport → Making Written
-reporting r =
+unfoldable pub statusReporting : SmsStatusReport → Making (Said ℕ)
+statusReporting r =
+    let recipient = r .«tp_recipient_address» in
     if tooLong r then refused LengthTooLarge
     else
-    making (firstOf r) (r .«tp_mr») (r .«tp_recipient_address» .ton) (r .«tp_recipient_address» .npi) (textHeld (r .«tp_recipient_address»)) (digitsOf (r .«tp_service_centre_timestamp»)) (digitsOf (r .«tp_discharge_time»))
-    (r .«tp_status») (r .«tp_parameter_indicator») (parametersOf r)
+    checked
+    (addressChecks (recipient .ton) (recipient .npi) (textHeld recipient) ++ (NotATime unless isTime (digitsOf (r .«tp_service_centre_timestamp»))) ∷ (NotATime unless isTime (digitsOf (r .«tp_discharge_time»)))
+    ∷ optionalChecks (r .«tp_parameter_indicator») (parametersOf r))
+    (octetsOf r)
 
--- ---- the parts of a record: what lies behind a length is none
+-- ---- what is no part of a record
 
-pub record Parts : Type 0 where
-  pub udhi : Bool
-  pub srq : Bool
-  pub lp : Bool
-  pub mms : Bool
-  pub mr : ℕ
-  pub ton : ℕ
-  pub npi : ℕ
-  pub textLength : ℕ
-  pub text : List ℕ
-  pub timeLength : ℕ
-  pub digits : List ℕ
-  pub dischargeLength : ℕ
-  pub discharge : List ℕ
-  pub status : ℕ
-  pub indicator : OptionalOctet
-  pub parameters : Parameters
-  pub dataLength : ℕ
-
-abbrev pub parts : SmsStatusReport → Parts
-parts r = record {
-  udhi = r .«tp_udhi»;
-  srq = r .«tp_srq»;
-  lp = r .«tp_lp»;
-  mms = r .«tp_mms»;
-  mr = r .«tp_mr»;
-  ton = r .«tp_recipient_address» .ton;
-  npi = r .«tp_recipient_address» .npi;
-  textLength = r .«tp_recipient_address» .«address_length»;
-  text = textHeld (r .«tp_recipient_address»);
-  timeLength = r .«tp_service_centre_timestamp» .length;
-  digits = digitsOf (r .«tp_service_centre_timestamp»);
-  dischargeLength = r .«tp_discharge_time» .length;
-  discharge = digitsOf (r .«tp_discharge_time»);
-  status = r .«tp_status»;
-  indicator = r .«tp_parameter_indicator»;
-  parameters = parametersOf r;
-  dataLength = r .«tp_user_data» .length;
+-- the same record with address, times and user data changed
+abbrev pub changed : (SMSAddress → SMSAddress) → (Time → Time) → (UserData → UserData) → SmsStatusReport → SmsStatusReport
+changed address time userData r = record {
+  «tp_udhi» = r .«tp_udhi»;
+  «tp_srq» = r .«tp_srq»;
+  «tp_lp» = r .«tp_lp»;
+  «tp_mms» = r .«tp_mms»;
+  «tp_mr» = r .«tp_mr»;
+  «tp_recipient_address» = address (r .«tp_recipient_address»);
+  «tp_service_centre_timestamp» = time (r .«tp_service_centre_timestamp»);
+  «tp_discharge_time» = time (r .«tp_discharge_time»);
+  «tp_status» = r .«tp_status»;
+  «tp_parameter_indicator» = r .«tp_parameter_indicator»;
+  «tp_pid» = r .«tp_pid»;
+  «tp_dcs» = r .«tp_dcs»;
+  «tp_user_data_length» = r .«tp_user_data_length»;
+  «tp_user_data» = userData (r .«tp_user_data»);
 }
 
--- the parts that are read of what was written: the same, with the letters of both times capital (document 01, demand 2)
-abbrev pub capitalised : Parts → Parts
-capitalised p = record {
-  udhi = p .udhi;
-  srq = p .srq;
-  lp = p .lp;
-  mms = p .mms;
-  mr = p .mr;
-  ton = p .ton;
-  npi = p .npi;
-  textLength = p .textLength;
-  text = p .text;
-  timeLength = p .timeLength;
-  digits = capitals (p .digits);
-  dischargeLength = p .dischargeLength;
-  discharge = capitals (p .discharge);
-  status = p .status;
-  indicator = p .indicator;
-  parameters = p .parameters;
-  dataLength = p .dataLength;
-}
+-- what lies after a length set to zero: records are equal where these are. Parameters and user data without indicator are parts of a record still: 16 looks at them
+abbrev pub cleared : SmsStatusReport → SmsStatusReport
+cleared = changed clearedAddress clearedTime clearedData
+
+-- the letters of both times capital
+abbrev pub capitalised : SmsStatusReport → SmsStatusReport
+capitalised = changed (λ a. a) capitalTime (λ d. d)
+
+-- the arrays have the lengths of their types
+abbrev pub Typed : SmsStatusReport → Type 0
+Typed r = TypedAddress (r .«tp_recipient_address») × TypedTime (r .«tp_service_centre_timestamp») × TypedTime (r .«tp_discharge_time») × TypedData (r .«tp_user_data»)

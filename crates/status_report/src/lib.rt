@@ -3,15 +3,15 @@ pub mod reading;
 pub mod writing;
 
 ghost use mathlib.Core.Path.{_≡_};
-ghost use Prim.Native.Nat.{_+_};
-ghost use Rattle.octets.specs.Choice.{flag};
+ghost use Rattle.octets.specs.Answers.{refuses, outcomeSays, writtenSays};
 ghost use Rattle.octets.specs.Lent.{lend};
-ghost use Rattle.layout.specs.Layout.{read};
-ghost use Rattle.status_report.specs.Line.{fieldsAt, Inside};
-ghost use Rattle.status_report.specs.StatusReport.{reported, statusReport, blank as blankMessage, answer, unread, reporting};
+ghost use Rattle.layout.specs.Layout.{read, answer};
+ghost use Rattle.status_report.specs.Internal.{fieldsAt, Inside};
+ghost use Rattle.status_report.specs.StatusReport.{statusReported, statusReport, blank as blankMessage, firstWith, statusReporting};
 use crate::reading::MTI_STATUS_REPORT;
 use crate::reading::StatusReportFields;
 use crate::reading::StatusReportFound;
+use crate::writing::StatusReportValues;
 use address::SMSAddress;
 use coding::UserData;
 use octets::Outcome;
@@ -65,19 +65,10 @@ fn blank() -> SmsStatusReport
     }
 }
 
-fn refused(r: Refusal) -> StatusReportRead
-    ensures { λ u. ⌜ u ≡ unread r ⌝ }
-{
-    StatusReportRead {
-        outcome: Outcome::Refused(r),
-        message: blank(),
-    }
-}
-
 // The message of fields that are there.
 fn message(data: &[u8], f: StatusReportFields) -> SmsStatusReport
     requires { ⌜ Inside (now «data») (StatusReportFound.Whole f) ⌝ }
-    ensures { λ r. ⌜ r ≡ reported (fieldsAt (now («data» .entry)) f) ⌝ }
+    ensures { λ r. ⌜ r ≡ statusReported (fieldsAt (now («data» .entry)) f) ⌝ }
 {
     let start = f.data;
     let end = start + f.octets;
@@ -110,7 +101,7 @@ fn message(data: &[u8], f: StatusReportFields) -> SmsStatusReport
 
 // The first octet: TP-MTI and the flags.
 fn first_octet(udhi: bool, srq: bool, lp: bool, mms: bool) -> u8
-    ensures { λ r. ⌜ r ≡ 2 + flag udhi 64 + flag srq 32 + flag lp 8 + flag mms 4 ⌝ }
+    ensures { λ r. ⌜ r ≡ firstWith udhi srq lp mms ⌝ }
 {
     MTI_STATUS_REPORT
         + octets::flag(udhi, 64)
@@ -122,7 +113,7 @@ fn first_octet(udhi: bool, srq: bool, lp: bool, mms: bool) -> u8
 impl SmsStatusReport {
     // Writes the message to the start of a lent output.
     pub fn encode(self, out: &mut [u8]) -> Written
-        ensures { λ r. ⌜ (r, now (out .exit)) ≡ lend Written.Refused (reporting self) (now (out .entry)) ⌝ }
+        ensures { λ r. ⌜ (writtenSays r, now (out .exit)) ≡ lend refuses (statusReporting self) (now (out .entry)) ⌝ }
     {
         let n = self.tp_recipient_address.address_length;
         let m = self.tp_service_centre_timestamp.length;
@@ -140,19 +131,22 @@ impl SmsStatusReport {
         let pid = self.tp_pid;
         let dcs = self.tp_dcs;
         let udl = self.tp_user_data_length;
-        writing::encode_parts(
+        let values = StatusReportValues {
             first,
-            self.tp_mr,
-            self.tp_recipient_address.ton,
-            self.tp_recipient_address.npi,
-            &text[..n],
-            &digits[..m],
-            &digits2[..l],
-            self.tp_status,
+            mr: self.tp_mr,
+            ton: self.tp_recipient_address.ton,
+            npi: self.tp_recipient_address.npi,
+            status: self.tp_status,
             indicator,
             pid,
             dcs,
             udl,
+        };
+        writing::encode_fields(
+            values,
+            &text[..n],
+            &digits[..m],
+            &digits2[..l],
             &octets[..k],
             out,
         )
@@ -160,10 +154,13 @@ impl SmsStatusReport {
 
     // Reads a message.
     pub fn decode(data: &[u8]) -> StatusReportRead
-        ensures { λ r. ⌜ r ≡ answer (read statusReport (now («data» .entry))) ⌝ }
+        ensures { λ r. ⌜ (outcomeSays (r .outcome), r .message) ≡ answer blankMessage (read statusReport (now («data» .entry))) ⌝ }
     {
         match reading::fields_of(data) {
-            StatusReportFound::Refused(r) => refused(r),
+            StatusReportFound::Refused(r) => StatusReportRead {
+                outcome: Outcome::Refused(r),
+                message: blank(),
+            },
             StatusReportFound::Whole(f) => StatusReportRead {
                 outcome: Outcome::Done,
                 message: message(data, f),

@@ -4,7 +4,8 @@ ghost use Prim.Native.Nat.{_+_, _≤_};
 ghost use lib.ListN.{length, take, drop};
 ghost use Rattle.layout.specs.Layout.{readFrom, kept, cut, address as addressKind};
 ghost use Rattle.address.specs.Address.{addressSize, canonicalAddress};
-ghost use Rattle.status_report.specs.Line.{bits, line, behindAddress, behindStatus, fieldsWith, told, Inside};
+ghost use Rattle.status_report.specs.Layout.{bits, fields};
+ghost use Rattle.status_report.specs.Internal.{fieldsWith, afterStatus, afterAddress, foundSays, Inside};
 use octets::Octet;
 use octets::Place;
 use octets::Refusal;
@@ -37,7 +38,7 @@ pub enum StatusReportFound {
 }
 
 // What follows TP-Status: the end, or indicator and parameters.
-fn behind_status(
+fn after_status(
     data: &[u8],
     first: u8,
     mr: u8,
@@ -48,7 +49,7 @@ fn behind_status(
     place: Place,
 ) -> StatusReportFound
     requires { ⌜ (address + addressSize (drop address (now «data»)) ≤ length (now «data»)) × (timestamp + 7 ≤ length (now «data»)) × (discharge + 7 ≤ length (now «data»)) × (place .at ≤ length (now «data»)) ⌝ }
-    ensures { λ r. ⌜ (told (now («data» .entry)) r ≡ readFrom (behindStatus (fieldsWith (kept bits first) mr (canonicalAddress (cut addressKind (drop address (now («data» .entry))))) (take 7 (drop timestamp (now («data» .entry)))) (take 7 (drop discharge (now («data» .entry)))) status)) (now («data» .entry)) (place .at)) × Inside (now («data» .entry)) r ⌝ }
+    ensures { λ r. ⌜ (foundSays (now («data» .entry)) r ≡ readFrom (afterStatus (fieldsWith (kept bits first) mr (canonicalAddress (cut addressKind (drop address (now («data» .entry))))) (take 7 (drop timestamp (now («data» .entry)))) (take 7 (drop discharge (now («data» .entry)))) status)) (now («data» .entry)) (place .at)) × Inside (now («data» .entry)) r ⌝ }
 {
     let at = place.at;
     if at >= data.len() {
@@ -71,31 +72,33 @@ fn behind_status(
     let Octet::Read(indicator, next) = parameters::reading::read_indicator(data, place) else {
         return StatusReportFound::Refused(Refusal::OctetsEnd);
     };
-    match parameters::reading::read_parameters(data, next, indicator) {
-        ParametersRead::Refused(r) => StatusReportFound::Refused(r),
-        ParametersRead::Read(pid, dcs, udl, size, behind) => {
-            StatusReportFound::Whole(StatusReportFields {
-                first,
-                mr,
-                address,
-                timestamp,
-                discharge,
-                status,
-                indicator: OptionalOctet::Present(indicator),
-                pid,
-                dcs,
-                udl,
-                data: behind.at - size,
-                octets: size,
-            })
-        }
-    }
+    let ParametersRead::Read(pid, dcs, udl, size, after) = parameters::reading::read_parameters(
+        data,
+        next,
+        indicator,
+    ) else {
+        return StatusReportFound::Refused(Refusal::OctetsEnd);
+    };
+    StatusReportFound::Whole(StatusReportFields {
+        first,
+        mr,
+        address,
+        timestamp,
+        discharge,
+        status,
+        indicator: OptionalOctet::Present(indicator),
+        pid,
+        dcs,
+        udl,
+        data: after.at - size,
+        octets: size,
+    })
 }
 
 // What follows the address.
-fn behind_address(data: &[u8], first: u8, mr: u8, address: usize, place: Place) -> StatusReportFound
+fn after_address(data: &[u8], first: u8, mr: u8, address: usize, place: Place) -> StatusReportFound
     requires { ⌜ (address + addressSize (drop address (now «data»)) ≤ length (now «data»)) × (place .at ≤ length (now «data»)) ⌝ }
-    ensures { λ r. ⌜ (told (now («data» .entry)) r ≡ readFrom (behindAddress (kept bits first) mr (canonicalAddress (cut addressKind (drop address (now («data» .entry)))))) (now («data» .entry)) (place .at)) × Inside (now («data» .entry)) r ⌝ }
+    ensures { λ r. ⌜ (foundSays (now («data» .entry)) r ≡ readFrom (afterAddress (kept bits first) mr (canonicalAddress (cut addressKind (drop address (now («data» .entry)))))) (now («data» .entry)) (place .at)) × Inside (now («data» .entry)) r ⌝ }
 {
     let Span::There(timestamp, place2) = place.span(data, 7) else {
         return StatusReportFound::Refused(Refusal::OctetsEnd);
@@ -106,7 +109,7 @@ fn behind_address(data: &[u8], first: u8, mr: u8, address: usize, place: Place) 
     let Octet::Read(status, place4) = place3.octet(data) else {
         return StatusReportFound::Refused(Refusal::OctetsEnd);
     };
-    behind_status(
+    after_status(
         data,
         first,
         mr,
@@ -120,7 +123,7 @@ fn behind_address(data: &[u8], first: u8, mr: u8, address: usize, place: Place) 
 
 // The fields of a message.
 pub fn fields_of(data: &[u8]) -> StatusReportFound
-    ensures { λ r. ⌜ (told (now («data» .entry)) r ≡ readFrom line (now («data» .entry)) 0) × Inside (now («data» .entry)) r ⌝ }
+    ensures { λ r. ⌜ (foundSays (now («data» .entry)) r ≡ readFrom fields (now («data» .entry)) 0) × Inside (now («data» .entry)) r ⌝ }
 {
     let start = Place { at: 0 };
     let Octet::Read(first, place) = start.octet(data) else {
@@ -135,5 +138,5 @@ pub fn fields_of(data: &[u8]) -> StatusReportFound
     let Span::There(address, place3) = address::address_span(data, place2) else {
         return StatusReportFound::Refused(Refusal::OctetsEnd);
     };
-    behind_address(data, first, mr, address, place3)
+    after_address(data, first, mr, address, place3)
 }

@@ -1,7 +1,7 @@
 -- The answer by the fields that were found, and the record of fields that are there.
 -- Assumes nothing.
 use Prim.Native.Nat.{ℕ, _+_, _-_, _/_, _%_, _≤_}
-use mathlib.Core.Path.{_≡_, refl, sym}
+use mathlib.Core.Path.{_≡_, sym}
 use mathlib.Core.Bool.{true}
 use mathlib.Core.List.{List}
 use native.Mathlib.Omega.{arith}
@@ -35,14 +35,14 @@ use Rattle.submit.specs.Submit.{readable, textWith, submitted, format, s
 
 -- what fields that were found, or a refusal, come to
 pub answer-refused : (s : List ℕ) (why : Refusal) (r : SmsSubmit) → foundSays s (SubmitFound.Refused why) ≡ readFrom fields s 0 → r ≡ blank
-    → _≡_ {A = Said Unit × SmsSubmit} (refuses why, r) (answer blank (read submit s)) × (0 ≡ octetsTaken (read submit s))
+    → _≡_ {A = (Said Unit × SmsSubmit) × ℕ} ((refuses why, r), 0) (answer blank (read submit s), octetsTaken (read submit s))
 unfolding read format
-answer-refused s why r e is = rw (then-ends s fields 0 (sym e) (λ x. done (submitted x)), is) (refl, refl)
+answer-refused s why r e is = rw (then-ends s fields 0 (sym e) (λ x. done (submitted x)), is)
 
 pub answer-done : (s : List ℕ) (f : SubmitFields) (r : SmsSubmit) → foundSays s (SubmitFound.Whole f) ≡ readFrom fields s 0 → r ≡ submitted (fieldsAt s f)
-    → _≡_ {A = Said Unit × SmsSubmit} (fine, r) (answer blank (read submit s)) × (f .«data» + f .octets ≡ octetsTaken (read submit s))
+    → _≡_ {A = (Said Unit × SmsSubmit) × ℕ} ((fine, r), f .«data» + f .octets) (answer blank (read submit s), octetsTaken (read submit s))
 unfolding read format
-answer-done s f r e is = rw (then-goes-on s fields 0 (sym e) (λ x. done (submitted x)), done-reached, is) (refl, refl)
+answer-done s f r e is = rw (then-goes-on s fields 0 (sym e) (λ x. done (submitted x)), done-reached, is)
 
 -- ---- the record
 

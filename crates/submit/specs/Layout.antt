@@ -16,7 +16,7 @@ use Rattle.validity_period.specs.Validity.{periodSize}
 
 -- ---- the header of user data (§9.2.3.24)
 
--- the octets that a header takes: its first octet plus 1 (with no data that is more than there are); none without TP-UDHI
+-- the octets that a header takes: its first octet plus 1, and 1 where the data are empty and so don't hold it; none without TP-UDHI
 unfoldable pub headerSize : Bool → List ℕ → ℕ
 headerSize udhi ud = if udhi then headerOctets ud else 0
 

@@ -5,7 +5,7 @@ use mathlib.Core.Bool.{Bool, true, false, _&&_}
 use mathlib.Core.List.{List, [], _∷_, _++_}
 use lib.Dec.{eqb, leb}
 use lib.ListN.{length, take, drop}
-use Rattle.octets.specs.Answers.{Said}
+use Rattle.octets.specs.Answers.{Said, outcomeSays}
 use Rattle.octets.specs.Arrays.{pad, clearedArray}
 use Rattle.octets.specs.Checks.{_unless_, found, checked}
 use Rattle.octets.specs.Choice.{if_then_else_, flag, lengthIf}
@@ -27,6 +27,7 @@ use Rattle.validity_period.specs.Validity.{periodIn, ofFormat, formatOf, isAbso
 use Rattle.validity_period.specs.declared.ValidityPeriod.{ValidityPeriod}
 use Rattle.submit.specs.Layout.{Fields, formatIn, headerSize, inCount, fields}
 use Rattle.submit.specs.declared.SmsSubmit.{SmsSubmit}
+use Rattle.submit.specs.declared.SubmitRead.{SubmitRead}
 use Rattle.submit.specs.declared.SubmitText.{SubmitText}
 
 -- ---- reading
@@ -100,7 +101,11 @@ blank = record {
   «tp_user_data» = textWith [];
 }
 
--- how many octets were read, 0 on a refusal
+-- what an answer of the reader says: its outcome and the record, and beside them how many octets were read
+abbrev pub submitReadSays : SubmitRead → (Said Unit × SmsSubmit) × ℕ
+submitReadSays r = ((outcomeSays (r .outcome), r .message), r .«octets_read»)
+
+-- that number, 0 on a refusal
 abbrev pub octetsTaken : {R : Type 0} → Reached R → ℕ
 octetsTaken (reached r at) = at
 octetsTaken (halted why) = 0

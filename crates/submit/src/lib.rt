@@ -5,9 +5,9 @@ pub mod writing;
 ghost use mathlib.Core.Path.{_≡_};
 ghost use mathlib.Core.Bool.{true};
 ghost use mathlib.Core.List.{[], _++_};
-ghost use Prim.Native.Nat.{_+_, _-_, _*_, _/_, _≤_};
+ghost use Prim.Native.Nat.{_-_, _≤_};
 ghost use lib.ListN.{length, take, drop};
-ghost use Rattle.octets.specs.Answers.{refuses, outcomeSays, writtenSays};
+ghost use Rattle.octets.specs.Answers.{refuses, writtenSays};
 ghost use Rattle.octets.specs.Choice.{lengthIf};
 ghost use Rattle.octets.specs.Lent.{Wrote, lend};
 ghost use Rattle.coding.specs.Coding.{dataOctets};
@@ -16,7 +16,7 @@ ghost use Rattle.gsm7.specs.Reading.{textOf};
 ghost use Rattle.layout.specs.Layout.{read, answer};
 ghost use Rattle.submit.specs.Layout.{inCount};
 ghost use Rattle.submit.specs.Internal.{fieldsAt, Inside};
-ghost use Rattle.submit.specs.Submit.{submit, submitted, blank as blankMessage, octetsTaken, readable, textWith, submitting};
+ghost use Rattle.submit.specs.Submit.{submit, submitted, blank as blankMessage, octetsTaken, submitReadSays, readable, textWith, submitting};
 use crate::reading::MTI_SUBMIT;
 use crate::reading::SubmitFields;
 use crate::reading::SubmitFound;
@@ -97,19 +97,18 @@ fn blank() -> SmsSubmit
 
 // Stores a header of h octets and the text after it; their number of octets.
 fn put_with_header(septets: usize, h: usize, data: &[u8], text: &mut [u8; 510]) -> usize
-    requires { ⌜ (h ≤ length (now «data»)) × (headerSeptets h ≤ septets) × (septets ≤ 255) × (length (now «data») ≡ (septets * 7 + 7) / 8) × (length (now text) ≡ 510) ⌝ }
+    requires { ⌜ (h ≤ length (now «data»)) × (headerSeptets h ≤ septets) × (septets ≤ 255) × (length (now text) ≡ 510) ⌝ }
     ensures { λ r. ⌜ Wrote 0 (take h (now («data» .entry)) ++ textOf (septetsIn (drop h (now («data» .entry))) (fillBits h) (septets - headerSeptets h))) (now (text .entry)) r (now (text .exit)) ⌝ }
 {
     let in_header = septets::header_septets(h);
-    let unpacked = gsm7::decode::unpack_septets(
+    let at = octets::put_octets(text, 0, &data[..h]);
+    gsm7::decode::unpack_septets(
         &data[h..],
         in_header * 7 - h * 8,
         septets - in_header,
-    );
-    let at = octets::put_octets(text, 0, &data[..h]);
-    let shown = unpacked.text;
-    let n = unpacked.text_length;
-    octets::put_octets(text, at, &shown[..n])
+        text,
+        at,
+    )
 }
 
 // Stores the readable form of user data; its number of octets.
@@ -190,7 +189,7 @@ fn message(data: &[u8], f: SubmitFields) -> SmsSubmit
 
 // Reads a message.
 pub fn decode_sms_submit_tpdu(data: &[u8]) -> SubmitRead
-    ensures { λ r. ⌜ ((outcomeSays (r .outcome), r .message) ≡ answer blankMessage (read submit (now («data» .entry)))) × (r .«octets_read» ≡ octetsTaken (read submit (now («data» .entry)))) ⌝ }
+    ensures { λ r. ⌜ submitReadSays r ≡ (answer blankMessage (read submit (now («data» .entry))), octetsTaken (read submit (now («data» .entry)))) ⌝ }
 {
     match reading::fields_of(data) {
         SubmitFound::Refused(r) => SubmitRead {

@@ -1,4 +1,4 @@
--- How the writer of SMS-SUBMIT-REPORT ends.
+-- What the writer makes, check by check.
 -- Assumes nothing.
 use Prim.Native.Nat.{ℕ, _+_, _≤_, _<_}
 use mathlib.Core.Path.{_≡_, _∙_}
@@ -8,13 +8,11 @@ use native.Mathlib.Omega.{arith}
 use borrow.Author.Tests.{le-leb, lt-leb}
 use lib.Dec.{leb}
 use lib.ListN.{length, length-append}
+use Rattle.octets.specs.Answers.{Said, gives, refuses, fine}
 use Rattle.octets.specs.Checks.{Check, _unless_, found}
-use Rattle.octets.specs.Lent.{made, lend, Wrote}
-use Rattle.octets.specs.declared.Checked.{Checked}
+use Rattle.octets.specs.Lent.{Making, refused, made}
 use Rattle.octets.specs.declared.Refusal.{Refusal}
-use Rattle.octets.specs.declared.Refusal.the-variants.{UdhiTooLarge, NotATime, OutputTooShort}
-use Rattle.octets.specs.declared.Written.{Written}
-use Rattle.octets.proofs.Laws.{lent-refused, lent-short, lent-written}
+use Rattle.octets.specs.declared.Refusal.the-variants.{UdhiTooLarge, NotATime}
 use Rattle.octets.proofs.Checks.{passed, against, all-passed, one-against}
 use Rattle.time.specs.Time.{isTime}
 use Rattle.time.proofs.Laws.{time-size}
@@ -25,61 +23,53 @@ use Rattle.parameters.specs.Checking.{indicatorChecks, dataChecks}
 use Rattle.submit_report.specs.Writing.{octetsIn, making}
 
 module _ (udhi : ℕ) (cause : OptionalOctet) (pi : ℕ) (digits : List ℕ) (p : Parameters) where
-  -- how many octets the parts take
-  pub size-is : isTime digits ≡ true → length (octetsIn udhi cause pi digits p) ≡ 9 + held cause + (held (p .pid) + held (p .dcs) + held (p .udl) + length (p .ud))
-  size-is e = let seven = time-size digits e in simp length-append (omega arith)
+  abbrev all : Making (Said ℕ)
+  all = making udhi cause pi digits p
 
   abbrev octets : List ℕ
   octets = octetsIn udhi cause pi digits p
 
+  pub size-is : isTime digits ≡ true → length octets ≡ 9 + held cause + (held (p .pid) + held (p .dcs) + held (p .udl) + length (p .ud))
+  size-is e = let seven = time-size digits e in simp length-append (omega arith)
+
+  -- the indicator's checks, the user data's, and the order of all
   abbrev first : List Check
   first = indicatorChecks pi (p .pid) (p .dcs) (p .udl)
 
-  abbrev more : List Check
-  more = dataChecks (p .dcs) (p .udl) (length (p .ud))
+  abbrev last : List Check
+  last = dataChecks (p .dcs) (p .udl) (length (p .ud))
 
-  abbrev behind : List Check
-  behind = (NotATime unless isTime digits) ∷ more
+  abbrev timed : List Check
+  timed = (NotATime unless isTime digits) ∷ last
 
-  abbrev all : List Check
-  all = (UdhiTooLarge unless leb udhi 1) ∷ (first ++ behind)
+  abbrev checks : List Check
+  checks = (UdhiTooLarge unless leb udhi 1) ∷ first ++ timed
 
-  module _ (l : List ℕ) where
-    abbrev lent : Written × List ℕ
-    lent = lend Written.Refused (making udhi cause pi digits p) l
+  against-one : {why : Refusal} → found checks ≡ refuses why → all ≡ refused why
+  unfolding making
+  against-one e = one-against octets checks e
 
-    ends : (why : Refusal) → found all ≡ Checked.Against why → _≡_ {A = Written × List ℕ} (Written.Refused why, l) lent
-    unfolding making
-    ends why e = lent-refused Written.Refused l why (one-against octets all e)
+  pub udhi-large : 1 < udhi → all ≡ refused UdhiTooLarge
+  udhi-large h = against-one (rw (lt-leb udhi 1 h))
 
-    pub udhi-large : 1 < udhi → _≡_ {A = Written × List ℕ} (Written.Refused UdhiTooLarge, l) lent
-    udhi-large h = ends UdhiTooLarge (rw (lt-leb udhi 1 h))
+  module _ (u : udhi ≤ 1) where
+    by-indicator : found checks ≡ found (first ++ timed)
+    by-indicator = rw (le-leb udhi 1 u)
 
-    module _ (u : udhi ≤ 1) where
-      udhi-passed : found all ≡ found (first ++ behind)
-      udhi-passed = rw (le-leb udhi 1 u)
+    pub indicator-against : {why : Refusal} → found first ≡ refuses why → all ≡ refused why
+    indicator-against e = against-one (by-indicator ∙ against timed first e)
 
-      pub indicator-against : (why : Refusal) → found first ≡ Checked.Against why → _≡_ {A = Written × List ℕ} (Written.Refused why, l) lent
-      indicator-against why e = ends why (udhi-passed ∙ against behind first e)
+    module _ (i : found first ≡ fine) where
+      pub no-time : isTime digits ≡ false → all ≡ refused NotATime
+      no-time e = against-one (by-indicator ∙ passed timed first i ∙ rw e)
 
-      module _ (f : found first ≡ Checked.Fine) where
-        pub no-time : isTime digits ≡ false → _≡_ {A = Written × List ℕ} (Written.Refused NotATime, l) lent
-        no-time e = ends NotATime (udhi-passed ∙ passed behind first f ∙ rw e)
+      module _ (t : isTime digits ≡ true) where
+        by-data : found checks ≡ found last
+        by-data = by-indicator ∙ passed timed first i ∙ rw t
 
-        module _ (t : isTime digits ≡ true) where
-          time-passed : found all ≡ found more
-          time-passed = udhi-passed ∙ passed behind first f ∙ rw t
+        pub data-against : {why : Refusal} → found last ≡ refuses why → all ≡ refused why
+        data-against e = against-one (by-data ∙ e)
 
-          pub data-against : (why : Refusal) → found more ≡ Checked.Against why → _≡_ {A = Written × List ℕ} (Written.Refused why, l) lent
-          data-against why e = ends why (time-passed ∙ e)
-
-          module _ (g : found more ≡ Checked.Fine) where
-            fine : making udhi cause pi digits p ≡ made octets (Written.Done (length octets))
-            unfolding making
-            fine = all-passed octets all (time-passed ∙ g)
-
-            pub short : length l < length octets → _≡_ {A = Written × List ℕ} (Written.Refused OutputTooShort, l) lent
-            short h = lent-short Written.Refused l fine h
-
-            pub written : {n : ℕ} {l′ : List ℕ} → length octets ≤ length l → Wrote 0 octets l n l′ → _≡_ {A = Written × List ℕ} (Written.Done n, l′) lent
-            written h w = lent-written l fine h w
+        pub all-made : found last ≡ fine → all ≡ made octets (gives (length octets))
+        unfolding making
+        all-made d = all-passed octets checks (by-data ∙ d)

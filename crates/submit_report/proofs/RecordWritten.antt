@@ -1,42 +1,30 @@
--- What the writer makes of a record: its lengths, then its parts.
+-- What the writer makes of a record: its lengths, then its fields.
 -- Assumes nothing.
-use Prim.Native.Nat.{ℕ, _≤_, _<_}
+use Prim.Native.Nat.{_≤_}
 use mathlib.Core.Path.{_≡_}
-use mathlib.Core.List.{List}
-use borrow.Author.Tests.{le-leb, lt-leb}
-use lib.ListN.{length}
-use Rattle.octets.specs.Lent.{refused, lend}
+use mathlib.Core.Bool.{true, false}
+use borrow.Author.Tests.{le-ltb, ltb-false}
+use lib.Dec.{ltb}
+use Rattle.octets.specs.Lent.{refused}
 use Rattle.octets.specs.declared.Refusal.the-variants.{LengthTooLarge}
-use Rattle.octets.specs.declared.Written.{Written}
-use Rattle.octets.proofs.Laws.{lent-refused}
+use Rattle.octets.proofs.Choice.{or-false}
 use Rattle.time.specs.Time.{digitsOf}
-use Rattle.submit_report.specs.SubmitReport.{parametersOf, reporting}
+use Rattle.submit_report.specs.SubmitReport.{parametersOf, tooLong, submitReporting}
 use Rattle.submit_report.specs.Writing.{making}
 use Rattle.submit_report.specs.declared.SmsSubmitReport.{SmsSubmitReport}
 
--- ---- of a record
-
 module _ (r : SmsSubmitReport) where
-  data-long : 255 < r .«tp_user_data» .length → reporting r ≡ refused LengthTooLarge
-  unfolding reporting
-  data-long h = rw (lt-leb (r .«tp_user_data» .length) 255 h)
+  pub too-long : tooLong r ≡ true → submitReporting r ≡ refused LengthTooLarge
+  unfolding submitReporting
+  too-long e = rw e
 
-  time-long : r .«tp_user_data» .length ≤ 255 → 14 < r .«tp_service_centre_timestamp» .length → reporting r ≡ refused LengthTooLarge
-  unfolding reporting
-  time-long h g = rw (le-leb (r .«tp_user_data» .length) 255 h, lt-leb (r .«tp_service_centre_timestamp» .length) 14 g)
+  pub fits : r .«tp_service_centre_timestamp» .length ≤ 14 → r .«tp_user_data» .length ≤ 255 → tooLong r ≡ false
+  fits t u = rw (le-ltb 14 _ t, le-ltb 255 _ u)
 
-  pub by-parts : r .«tp_user_data» .length ≤ 255 → r .«tp_service_centre_timestamp» .length ≤ 14
-      → reporting r ≡ making (r .«tp_udhi») (r .«tp_failure_cause») (r .«tp_parameter_indicator») (digitsOf (r .«tp_service_centre_timestamp»)) (parametersOf r)
-  unfolding reporting
-  by-parts h g = rw (le-leb (r .«tp_user_data» .length) 255 h, le-leb (r .«tp_service_centre_timestamp» .length) 14 g)
+  module _ (e : tooLong r ≡ false) where
+    pub by-fields : submitReporting r ≡ making (r .«tp_udhi») (r .«tp_failure_cause») (r .«tp_parameter_indicator») (digitsOf (r .«tp_service_centre_timestamp»)) (parametersOf r)
+    unfolding submitReporting
+    by-fields = rw e
 
-  module _ (l : List ℕ) where
-    pub data-too-long : 255 < r .«tp_user_data» .length → _≡_ {A = Written × List ℕ} (Written.Refused LengthTooLarge, l) (lend Written.Refused (reporting r) l)
-    data-too-long h = lent-refused Written.Refused l LengthTooLarge (data-long h)
-
-    pub time-too-long : r .«tp_user_data» .length ≤ 255 → 14 < r .«tp_service_centre_timestamp» .length → _≡_ {A = Written × List ℕ} (Written.Refused LengthTooLarge, l) (lend Written.Refused (reporting r) l)
-    time-too-long h g = lent-refused Written.Refused l LengthTooLarge (time-long h g)
-
-    pub as-parts : r .«tp_user_data» .length ≤ 255 → r .«tp_service_centre_timestamp» .length ≤ 14
-        → lend Written.Refused (making (r .«tp_udhi») (r .«tp_failure_cause») (r .«tp_parameter_indicator») (digitsOf (r .«tp_service_centre_timestamp»)) (parametersOf r)) l ≡ lend Written.Refused (reporting r) l
-    as-parts h g = rw (by-parts h g)
+    pub all-fit : (r .«tp_service_centre_timestamp» .length ≤ 14) × (r .«tp_user_data» .length ≤ 255)
+    all-fit = let (t, u) = or-false (ltb 14 (r .«tp_service_centre_timestamp» .length)) _ e in (ltb-false _ _ t, ltb-false _ _ u)

@@ -4,9 +4,12 @@ pub mod writing;
 ghost use mathlib.Core.Path.{_≡_};
 ghost use Prim.Native.Nat.{_+_, _-_, _≤_};
 ghost use lib.ListN.{length, take, drop};
+ghost use Rattle.octets.specs.Answers.{refuses, outcomeSays, writtenSays};
 ghost use Rattle.octets.specs.Lent.{lend};
-ghost use Rattle.layout.specs.Layout.{read, readFrom};
-ghost use Rattle.submit_report.specs.SubmitReport.{reported, causeAlone, stopped as stoppedReport, rest, ack, error, answer, reporting};
+ghost use Rattle.layout.specs.Layout.{read, readFrom, answer};
+ghost use Rattle.submit_report.specs.Layout.{submitReported};
+ghost use Rattle.submit_report.specs.Internal.{afterCause};
+ghost use Rattle.submit_report.specs.SubmitReport.{causeAlone, blank as blankReport, stopped as stoppedReport, ack, error, submitReporting};
 use crate::writing::MTI_SUBMIT;
 use coding::UserData;
 use octets::Octet;
@@ -60,10 +63,11 @@ fn cause_alone(outcome: Outcome, cause: OptionalOctet) -> SubmitReportRead
     }
 }
 
-fn refused(r: Refusal) -> SubmitReportRead
-    ensures { λ u. ⌜ u ≡ record { outcome = Outcome.Refused r; message = causeAlone OptionalOctet.Absent } ⌝ }
+// A refusal, with the blank report.
+fn refused(why: Refusal) -> SubmitReportRead
+    ensures { λ r. ⌜ r ≡ record { outcome = Outcome.Refused why; message = blankReport } ⌝ }
 {
-    cause_alone(Outcome::Refused(r), OptionalOctet::Absent)
+    cause_alone(Outcome::Refused(why), OptionalOctet::Absent)
 }
 
 // A report that is read no further: its cause is unspecified.
@@ -74,13 +78,6 @@ fn stopped() -> SubmitReportRead
         Outcome::Done,
         OptionalOctet::Present(FAILURE_CAUSE_UNSPECIFIED),
     )
-}
-
-// The octets end inside a field.
-fn ended() -> SubmitReportRead
-    ensures { λ u. ⌜ u ≡ record { outcome = Outcome.Refused Refusal.OctetsEnd; message = causeAlone OptionalOctet.Absent } ⌝ }
-{
-    refused(Refusal::OctetsEnd)
 }
 
 // The report of fields that are there: UDHI, cause, indicator, the time, PID, DCS, UDL, and the n octets of user data before `end`.
@@ -97,7 +94,7 @@ fn report(
     end: usize,
 ) -> SubmitReportRead
     requires { ⌜ (scts + 7 ≤ length (now «data»)) × (n ≤ end) × (end ≤ length (now «data»)) × (n ≤ 255) ⌝ }
-    ensures { λ r. ⌜ r ≡ record { outcome = Outcome.Done; message = reported udhi cause indicator (take 7 (drop scts (now («data» .entry)))) (record { pid = pid; dcs = dcs; udl = udl; ud = take n (drop (end - n) (now («data» .entry))) }) } ⌝ }
+    ensures { λ r. ⌜ r ≡ record { outcome = Outcome.Done; message = submitReported udhi cause indicator (take 7 (drop scts (now («data» .entry)))) (record { pid = pid; dcs = dcs; udl = udl; ud = take n (drop (end - n) (now («data» .entry))) }) } ⌝ }
 {
     let start = end - n;
     SubmitReportRead {
@@ -116,57 +113,48 @@ fn report(
 }
 
 // What follows first octet and cause.
-fn decode_rest(data: &[u8], place: Place, udhi: u8, cause: OptionalOctet) -> SubmitReportRead
-    ensures { λ r. ⌜ r ≡ answer (readFrom (rest udhi cause) (now («data» .entry)) (place .at)) ⌝ }
+fn after_cause(data: &[u8], place: Place, udhi: u8, cause: OptionalOctet) -> SubmitReportRead
+    ensures { λ r. ⌜ (outcomeSays (r .outcome), r .message) ≡ answer blankReport (readFrom (afterCause udhi cause) (now («data» .entry)) (place .at)) ⌝ }
 {
-    let Octet::Read(indicator, next) = parameters::reading::read_indicator(data, place) else {
-        return ended();
+    let Octet::Read(indicator, place2) = parameters::reading::read_indicator(data, place) else {
+        return refused(Refusal::OctetsEnd);
     };
-    let Span::There(scts, behind_time) = next.span(data, 7) else {
-        return ended();
+    let Span::There(scts, place3) = place2.span(data, 7) else {
+        return refused(Refusal::OctetsEnd);
     };
-    match parameters::reading::read_parameters(data, behind_time, indicator) {
-        ParametersRead::Refused(r) => refused(r),
-        ParametersRead::Read(pid, dcs, udl, size, behind) => {
-            report(
-                udhi,
-                cause,
-                indicator,
-                data,
-                scts,
-                pid,
-                dcs,
-                udl,
-                size,
-                behind.at,
-            )
-        }
-    }
+    let ParametersRead::Read(pid, dcs, udl, n, end) = parameters::reading::read_parameters(
+        data,
+        place3,
+        indicator,
+    ) else {
+        return refused(Refusal::OctetsEnd);
+    };
+    report(udhi, cause, indicator, data, scts, pid, dcs, udl, n, end.at)
 }
 
 impl SmsSubmitReport {
     // The layout carried in an RP-ACK (no TP-Failure-Cause).
     pub fn decode_for_rp_ack(data: &[u8]) -> SubmitReportRead
-        ensures { λ r. ⌜ r ≡ answer (read ack (now («data» .entry))) ⌝ }
+        ensures { λ r. ⌜ (outcomeSays (r .outcome), r .message) ≡ answer blankReport (read ack (now («data» .entry))) ⌝ }
     {
         let start = Place { at: 0 };
         let Octet::Read(first, place) = start.octet(data) else {
-            return ended();
+            return refused(Refusal::OctetsEnd);
         };
         if first % 4 != MTI_SUBMIT {
             return refused(Refusal::WrongMessageType);
         }
-        decode_rest(data, place, first / 64 % 2, OptionalOctet::Absent)
+        after_cause(data, place, first / 64 % 2, OptionalOctet::Absent)
     }
 
     // The layout carried in an RP-ERROR (TP-Failure-Cause present). Where an unused bit of the first octet is set the
     // rest is not examined, and the cause reads as "Unspecified error cause".
     pub fn decode_for_rp_error(data: &[u8]) -> SubmitReportRead
-        ensures { λ r. ⌜ r ≡ answer (read error (now («data» .entry))) ⌝ }
+        ensures { λ r. ⌜ (outcomeSays (r .outcome), r .message) ≡ answer blankReport (read error (now («data» .entry))) ⌝ }
     {
         let start = Place { at: 0 };
         let Octet::Read(first, place) = start.octet(data) else {
-            return ended();
+            return refused(Refusal::OctetsEnd);
         };
         if first % 4 != MTI_SUBMIT {
             return refused(Refusal::WrongMessageType);
@@ -175,21 +163,18 @@ impl SmsSubmitReport {
             return stopped();
         }
         let Octet::Read(cause, next) = place.octet(data) else {
-            return ended();
+            return refused(Refusal::OctetsEnd);
         };
-        decode_rest(data, next, first / 64 % 2, OptionalOctet::Present(cause))
+        after_cause(data, next, first / 64 % 2, OptionalOctet::Present(cause))
     }
 
     // Writes the report to the start of a lent output.
     pub fn encode(self, out: &mut [u8]) -> Written
-        ensures { λ r. ⌜ (r, now (out .exit)) ≡ lend Written.Refused (reporting self) (now (out .entry)) ⌝ }
+        ensures { λ r. ⌜ (writtenSays r, now (out .exit)) ≡ lend refuses (submitReporting self) (now (out .entry)) ⌝ }
     {
-        let n = self.tp_user_data.length;
         let m = self.tp_service_centre_timestamp.length;
-        if n > 255 {
-            return Written::Refused(Refusal::LengthTooLarge);
-        }
-        if m > 14 {
+        let n = self.tp_user_data.length;
+        if (14 < m) | (255 < n) {
             return Written::Refused(Refusal::LengthTooLarge);
         }
         let digits = self.tp_service_centre_timestamp.digits;
@@ -198,7 +183,7 @@ impl SmsSubmitReport {
         let pid = self.tp_pid;
         let dcs = self.tp_dcs;
         let udl = self.tp_user_data_length;
-        writing::encode_parts(
+        writing::encode_fields(
             self.tp_udhi,
             cause,
             self.tp_parameter_indicator,

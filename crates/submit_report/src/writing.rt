@@ -1,8 +1,9 @@
-// SMS-SUBMIT-REPORT (TS 23.040 §9.2.2.2a), written from its parts.
+// SMS-SUBMIT-REPORT (TS 23.040 §9.2.2.2a), written from its fields' values.
 ghost use mathlib.Core.Path.{_≡_};
 ghost use mathlib.Core.Bool.{true};
 ghost use Prim.Native.Nat.{_+_, _*_, _≤_};
 ghost use lib.ListN.{length};
+ghost use Rattle.octets.specs.Answers.{refuses, writtenSays};
 ghost use Rattle.octets.specs.Lent.{Wrote, lend};
 ghost use mathlib.Core.List.{_∷_, _++_};
 ghost use Rattle.time.specs.Time.{isTime, timeOctets};
@@ -16,8 +17,8 @@ use parameters::OptionalOctet;
 
 pub const MTI_SUBMIT: u8 = 1;
 
-// Writes parts that were checked; how many octets they take.
-fn put_parts(
+// Writes values that were checked; how many octets they take.
+fn put_fields(
     first: u8,
     cause: OptionalOctet,
     indicator: u8,
@@ -29,7 +30,7 @@ fn put_parts(
     out: &mut [u8],
 ) -> usize
     requires { ⌜ (isTime (now digits) ≡ true) × (9 + held cause + (held pid + held dcs + held udl + length (now «data»)) ≤ length (now out)) ⌝ }
-    ensures { λ r. ⌜ Wrote 0 (first ∷ (octetsHeld cause ++ (indicator ∷ (timeOctets (now (digits .entry)) ++ parametersOctets (record { pid = pid; dcs = dcs; udl = udl; ud = now («data» .entry) }))))) (now (out .entry)) r (now (out .exit)) ⌝ }
+    ensures { λ r. ⌜ Wrote 0 (first ∷ octetsHeld cause ++ (indicator ∷ timeOctets (now (digits .entry)) ++ parametersOctets (record { pid = pid; dcs = dcs; udl = udl; ud = now («data» .entry) }))) (now (out .entry)) r (now (out .exit)) ⌝ }
 {
     let p1 = octets::put_octet(out, 0, first);
     let p2 = parameters::put_optional(out, p1, cause);
@@ -38,8 +39,8 @@ fn put_parts(
     parameters::writing::put_parameters(out, p4, pid, dcs, udl, data)
 }
 
-// Writes the parts to the start of a lent output: checks in order, then the size, then the octets.
-pub fn encode_parts(
+// Writes the values to the start of a lent output: checks in order, then the size, then the octets.
+pub fn encode_fields(
     udhi: u8,
     cause: OptionalOctet,
     indicator: u8,
@@ -50,8 +51,7 @@ pub fn encode_parts(
     data: &[u8],
     out: &mut [u8],
 ) -> Written
-    requires { ⌜ length (now «data») ≤ 255 ⌝ }
-    ensures { λ r. ⌜ (r, now (out .exit)) ≡ lend Written.Refused (making udhi cause indicator (now (digits .entry)) (record { pid = pid; dcs = dcs; udl = udl; ud = now («data» .entry) })) (now (out .entry)) ⌝ }
+    ensures { λ r. ⌜ (writtenSays r, now (out .exit)) ≡ lend refuses (making udhi cause indicator (now (digits .entry)) (record { pid = pid; dcs = dcs; udl = udl; ud = now («data» .entry) })) (now (out .entry)) ⌝ }
 {
     if udhi > 1 {
         return Written::Refused(Refusal::UdhiTooLarge);
@@ -74,7 +74,7 @@ pub fn encode_parts(
     if out.len() < 9 + parameters::octets_held(cause) + size {
         return Written::Refused(Refusal::OutputTooShort);
     }
-    Written::Done(put_parts(
+    Written::Done(put_fields(
         64 * udhi + MTI_SUBMIT,
         cause,
         indicator,

@@ -38,11 +38,11 @@ use denote.Triple.Walked.{says, Stays, stay-none, stay-none-slice, walkOf, goes-
 use denote.Exit.{yes}
 use denote.Triple.Clauses.{ensured}
 use Rattle.layout.specs.Layout.{answer}
-use Rattle.submit.specs.Submit.{submit, blank, octetsTaken}
+use Rattle.submit.specs.Submit.{submit, submitReadSays, blank, octetsTaken}
 use Rattle.submit.specs.declared.SubmitRead.{SubmitRead}
 use Rattle.submit.proofs.SubmitRead as S
 use Rattle.submit.proofs.SubmitRead.Laws as S′
-use Rattle.cursor.specs.From.{behindPlace, submitReadSays, submitFrom}
+use Rattle.cursor.specs.From.{behindPlace, submitFrom}
 use Rattle.cursor.proofs.Places.{from-there}
 use Rattle.cursor.specs.declared.Cursor.{Cursor}
 use Rattle.cursor.proofs.Cursor as T

@@ -1,15 +1,15 @@
--- `deliver_report::report` meets its contract: part by part.
+-- `deliver_report::report` meets its contract: field by field.
 -- Assumes nothing.
 use Prim.Native.Nat.{_-_}
 use mathlib.Core.Path.{_≡_}
 use native.Mathlib.Omega.{arith}
 use lib.ListN.{length-take}
-use Rattle.deliver_report.specs.DeliverReport.{reported}
+use Rattle.deliver_report.specs.Layout.{deliverReported}
 use Rattle.deliver_report.proofs.report.Statement.{statement}
 use Rattle.deliver_report.proofs.report.Tie as tie
 
 returns : tie.Need-returns
-unfolding reported
+unfolding deliverReported
 returns c =
     let a = c .before .before .before .args in
     let n : a .end - (a .end - a .n) ≡ a .n = omega (arith, c .before .before .before .pre .0) in

@@ -1,4 +1,4 @@
--- `status_report::blank` meets its contract: part by part.
+-- `status_report::blank` meets its contract: field by field.
 -- Assumes nothing.
 use Rattle.status_report.specs.StatusReport.{blank}
 use Rattle.status_report.proofs.blank.Statement.{statement}

@@ -11,7 +11,7 @@ returns c =
     let known = c .before .before .before .before .before .before in
     let entry = known .before in
     message-is (now (entry .args .«data»)) (λ i. known .shared-slice-known .given i .fits) (entry .args .f) (entry .pre)
-    _ (c .before .before .before .before .decode .ensures) _ (c .before .before .before .time-at .ensures) _ (c .before .before .time-at2 .ensures) _ (c .data-with .ensures)
+    _ (c .before .before .before .before .address-at .ensures) _ (c .before .before .before .time-at .ensures) _ (c .before .before .time-at2 .ensures) _ (c .data-with .ensures)
 
 pub message-spec : {M : Type 1} → statement M
 message-spec =

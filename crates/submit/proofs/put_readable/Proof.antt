@@ -3,7 +3,6 @@
 use native.Mathlib.Omega.{arith}
 use borrow.Author.Needs.{needs}
 use borrow.Author.Tests.{leb-true}
-use Rattle.coding.specs.Coding.{dataOctets}
 use Rattle.coding.proofs.Laws.{data-at-most}
 use Rattle.submit.specs.Layout.{inCount}
 use Rattle.submit.specs.Submit.{readable}
@@ -11,11 +10,11 @@ use Rattle.submit.proofs.put_readable.Statement.{statement}
 use Rattle.submit.proofs.put_readable.Tie as tie
 
 seven-bit : tie.Need-put-with-header-requires
-unfolding inCount dataOctets
+unfolding inCount
 seven-bit c κs =
     let s = c .before .before .before .before in
     let p = rw (c .before .enum-told .given .1) at (s .pre) in
-    (p .0, leb-true _ _ (p .1), omega arith, p .2, p .3)
+    (p .0, leb-true _ _ (p .1), omega arith, p .3)
 
 pub put-readable-spec : {M : Type 1} → statement M
 unfolding readable

@@ -1,15 +1,15 @@
--- `submit_report::report` meets its contract: part by part.
+-- `submit_report::report` meets its contract: field by field.
 -- Assumes nothing.
 use Prim.Native.Nat.{_-_}
 use mathlib.Core.Path.{_≡_}
 use native.Mathlib.Omega.{arith}
 use lib.ListN.{length-take}
-use Rattle.submit_report.specs.SubmitReport.{reported}
+use Rattle.submit_report.specs.Layout.{submitReported}
 use Rattle.submit_report.proofs.report.Statement.{statement}
 use Rattle.submit_report.proofs.report.Tie as tie
 
 returns : tie.Need-returns
-unfolding reported
+unfolding submitReported
 returns c =
     let a = c .before .before .before .before .args in
     let n : a .end - (a .end - a .n) ≡ a .n = omega (arith, c .before .before .before .before .pre .1) in

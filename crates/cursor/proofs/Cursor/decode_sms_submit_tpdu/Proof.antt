@@ -5,7 +5,8 @@ use contract.Running.{givenOf}
 use denote.Struct.Laws.{lawful}
 use Rattle.submit.proofs.SubmitRead.{the-row, the-type}
 use Rattle.submit.proofs.SubmitRead.Laws.{mir, the-laws}
-use Rattle.cursor.specs.From.{submitReadSays, submitFrom}
+use Rattle.submit.specs.Submit.{submitReadSays}
+use Rattle.cursor.specs.From.{submitFrom}
 use Rattle.cursor.proofs.from_place.submit_at.Symbol as callee
 use Rattle.cursor.proofs.from_place.submit_at.Met.{met}
 use Rattle.cursor.proofs.Through.{goes-through}

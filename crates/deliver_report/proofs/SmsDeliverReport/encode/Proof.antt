@@ -1,33 +1,31 @@
--- `SmsDeliverReport::encode` meets its contract: the length first, then the parts.
+-- `SmsDeliverReport::encode` meets its contract: the length is looked at first.
 -- Assumes nothing.
-use mathlib.Core.Path.{_≡_, sym, _∙_}
+use Prim.Native.Nat.{_≤_}
+use mathlib.Core.Path.{_≡_, sym}
 use native.Mathlib.Omega.{arith}
 use borrow.Author.Needs.{needs}
-use lib.ListN.{length, length-take}
+use lib.ListN.{length}
 use lib.Seq.{length-take-le}
-use Rattle.deliver_report.proofs.RecordWritten.{too-long, as-parts}
+use Rattle.octets.specs.Answers.{refuses}
+use Rattle.octets.proofs.Laws.{lent-refused}
+use Rattle.deliver_report.proofs.RecordWritten.{too-long, by-fields}
+use Rattle.deliver_report.proofs.writing.encode_fields.Reads as encode-fields-reads
+use Rattle.deliver_report.proofs.SmsDeliverReport.encode.Reads as reads
+use Rattle.deliver_report.proofs.SmsDeliverReport.encode.Lts as lts
 use Rattle.deliver_report.proofs.SmsDeliverReport.encode.Statement.{statement}
 use Rattle.deliver_report.proofs.SmsDeliverReport.encode.Tie as tie
 
-array-share-prefix-octets : tie.Need-array-share-prefix-octets
-array-share-prefix-octets c = let n : length (c .before .before .before .args .self .«tp_user_data» .octets) ≡ 255 = search needs in omega arith
-
-slice-aggregate-encode-parts : tie.Need-slice-aggregate-encode-parts
-slice-aggregate-encode-parts c =
-    let u = c .before .before .before .before .args .self .«tp_user_data» in
-    let n : length (u .octets) ≡ 255 = search needs in
-    sym (length-take-le (u .length) (u .octets) (omega arith))
-
-encode-parts-requires : tie.Need-encode-parts-requires
-encode-parts-requires c κs = simp length-take (omega arith)
+-- where the length doesn't pass the array
+data-fits : (c : lts.Else1 (encode-fields-reads.Asked, encode-fields-reads.Learnt) reads.Pre reads.Post) → let d = c .before .before .args .self .«tp_user_data» in d .length ≤ length (d .octets)
+data-fits c = let room : length (c .before .before .args .self .«tp_user_data» .octets) ≡ 255 = search needs depth 12 in omega arith
 
 pub encode-spec : {M : Type 1} → statement M
 encode-spec =
     tie.close
     (tie.spec
-    (λ c. too-long _ _ (c .if1 .taken))
-    array-share-prefix-octets
-    slice-aggregate-encode-parts
-    encode-parts-requires
+    (λ c. lent-refused refuses _ _ (too-long _ (c .if1 .taken)))
+    (λ c. data-fits (c .before))
+    (λ c. sym (length-take-le _ _ (data-fits (c .before .before))))
+    (λ c κs. tt)
     (λ c. search needs)
-    (λ c. c .before .before .encode-parts .ensures ∙ as-parts _ _ (c .before .before .before .before .before .before .if1 .left)))
+    (λ c. let e = c .before .before .before .before .before .before in rw (by-fields (e .before .before .args .self) (e .if1 .left)) (c .before .before .encode-fields .ensures)))

@@ -1,6 +1,5 @@
--- `status_report::SmsStatusReport::decode` meets its contract: it is the reader that the line describes.
+-- `status_report::SmsStatusReport::decode` meets its contract: it is the reader that the layout describes.
 -- Assumes nothing.
-use mathlib.Core.Path.{_∙_}
 use borrow.Author.Needs.{needs}
 use Rattle.status_report.proofs.RecordRead.{answer-refused, answer-done}
 use Rattle.status_report.proofs.SmsStatusReport.decode.Statement.{statement}
@@ -10,7 +9,7 @@ message-requires : tie.Need-message-requires
 message-requires c κs = rw (c .before .f .given .1) at (c .before .before .before .fields-of .ensures .1)
 
 returns : tie.Need-returns
-returns c = c .refused .ensures ∙ answer-refused _ _ (rw (c .before .before .r .given .1) at (c .before .before .before .before .fields-of .ensures .0))
+returns c = answer-refused _ _ _ (rw (c .before .before .r .given .1) at (c .before .before .before .before .fields-of .ensures .0)) (c .blank .ensures)
 
 returns-2 : tie.Need-returns-2
 returns-2 c = answer-done _ _ _ (rw (c .before .before .f .given .1) at (c .before .before .before .before .fields-of .ensures .0)) (c .message .ensures)

@@ -1,57 +1,42 @@
 -- `status_report::SmsStatusReport::encode` meets its contract: the lengths are looked at first.
 -- Assumes nothing.
 use Prim.Native.Nat.{_≤_}
-use mathlib.Core.Path.{_≡_, sym, _∙_}
+use mathlib.Core.Path.{sym}
 use native.Mathlib.Omega.{arith}
 use borrow.Author.Needs.{needs}
 use lib.ListN.{length, length-take}
 use lib.Seq.{length-take-le}
-use Rattle.octets.specs.declared.Written.{Written}
+use Rattle.octets.specs.Answers.{refuses}
 use Rattle.octets.proofs.Laws.{lent-refused}
-use Rattle.status_report.specs.declared.SmsStatusReport.{SmsStatusReport}
-use Rattle.status_report.proofs.RecordWritten.{too-long, by-parts, all-fit}
-use Rattle.status_report.proofs.SmsStatusReport.encode.Reads as reads
-use Rattle.status_report.proofs.SmsStatusReport.encode.Lts as lts
-use Rattle.status_report.proofs.first_octet.Reads as first-octet-reads
-use Rattle.status_report.proofs.writing.encode_parts.Reads as encode-parts-reads
+use Rattle.status_report.specs.StatusReport.{Typed}
+use Rattle.status_report.proofs.RecordWritten.{too-long, by-fields, all-fit}
 use Rattle.status_report.proofs.SmsStatusReport.encode.Statement.{statement}
 use Rattle.status_report.proofs.SmsStatusReport.encode.Tie as tie
 
--- where the lengths pass no array
-abbrev Fits : Type 0
-Fits = lts.Else1 (first-octet-reads.Asked, first-octet-reads.Learnt, encode-parts-reads.Asked, encode-parts-reads.Learnt) reads.Pre reads.Post
-
-module _ (c : Fits) where
-  abbrev message : SmsStatusReport
-  message = c .before .before .args .self
-
-  text-fits : message .«tp_recipient_address» .«address_length» ≤ length (message .«tp_recipient_address» .address)
-  text-fits = let room : length (message .«tp_recipient_address» .address) ≡ 290 = search needs depth 12 in omega (arith, all-fit message (c .if1 .left) .0)
-
-  timestamp-fits : message .«tp_service_centre_timestamp» .length ≤ length (message .«tp_service_centre_timestamp» .digits)
-  timestamp-fits = let room : length (message .«tp_service_centre_timestamp» .digits) ≡ 14 = search needs depth 12 in omega (arith, all-fit message (c .if1 .left) .1)
-
-  discharge-fits : message .«tp_discharge_time» .length ≤ length (message .«tp_discharge_time» .digits)
-  discharge-fits = let room : length (message .«tp_discharge_time» .digits) ≡ 14 = search needs depth 12 in omega (arith, all-fit message (c .if1 .left) .2)
-
-  data-fits : message .«tp_user_data» .length ≤ length (message .«tp_user_data» .octets)
-  data-fits = let room : length (message .«tp_user_data» .octets) ≡ 255 = search needs depth 12 in omega (arith, all-fit message (c .if1 .left) .3)
+-- no length passes its array
+fitting : (c : tie.Else1) → let r = c .before .before .args .self in
+    (r .«tp_recipient_address» .«address_length» ≤ length (r .«tp_recipient_address» .address)) × (r .«tp_service_centre_timestamp» .length ≤ length (r .«tp_service_centre_timestamp» .digits))
+    × (r .«tp_discharge_time» .length ≤ length (r .«tp_discharge_time» .digits)) × (r .«tp_user_data» .length ≤ length (r .«tp_user_data» .octets))
+fitting c =
+    let sized : Typed (c .before .before .args .self) = search needs depth 12 in
+    let (a, t, d, u) = all-fit (c .before .before .args .self) (c .if1 .left) in
+    (omega arith, omega arith, omega arith, omega arith)
 
 pub encode-spec : {M : Type 1} → statement M
 encode-spec =
     tie.close
     (tie.spec
-    (λ c. lent-refused Written.Refused _ _ (too-long _ (c .if1 .taken)))
+    (λ c. lent-refused refuses _ _ (too-long _ (c .if1 .taken)))
     (λ c κs. tt)
-    (λ c. text-fits (c .before .before .before .before .before))
-    (λ c. sym (length-take-le _ _ (text-fits (c .before .before .before .before .before .before))))
-    (λ c. timestamp-fits (c .before .before .before .before .before .before))
-    (λ c. sym (length-take-le _ _ (timestamp-fits (c .before .before .before .before .before .before .before))))
-    (λ c. discharge-fits (c .before .before .before .before .before .before .before))
-    (λ c. sym (length-take-le _ _ (discharge-fits (c .before .before .before .before .before .before .before .before))))
-    (λ c. data-fits (c .before .before .before .before .before .before .before .before))
-    (λ c. sym (length-take-le _ _ (data-fits (c .before .before .before .before .before .before .before .before .before))))
-    (λ c κs. let k = c .before .before .before .before .before .before .before .before .before .before in simp length-take (omega (arith, all-fit (message k) (k .if1 .left) .3)))
+    (λ c. fitting (c .before .before .before .before .before) .0)
+    (λ c. sym (length-take-le _ _ (fitting (c .before .before .before .before .before .before) .0)))
+    (λ c. fitting (c .before .before .before .before .before .before) .1)
+    (λ c. sym (length-take-le _ _ (fitting (c .before .before .before .before .before .before .before) .1)))
+    (λ c. fitting (c .before .before .before .before .before .before .before) .2)
+    (λ c. sym (length-take-le _ _ (fitting (c .before .before .before .before .before .before .before .before) .2)))
+    (λ c. fitting (c .before .before .before .before .before .before .before .before) .3)
+    (λ c. sym (length-take-le _ _ (fitting (c .before .before .before .before .before .before .before .before .before) .3)))
+    (λ c κs. let k = c .before .before .before .before .before .before .before .before .before .before in simp length-take (omega (arith, all-fit (k .before .before .args .self) (k .if1 .left) .3)))
     (λ c. search needs)
-    (λ c. let k = c .before .before .before .before .before .before .before .before .before .before .before .before .before in
-    rw (by-parts _ (k .if1 .left), ← c .before .before .before .before .before .before .before .before .before .before .before .before .first-octet .ensures) (c .before .before .encode-parts .ensures)))
+    (λ c. let f = c .before .before .before .before .before .before .before .before .before .before .before .before in
+    rw (by-fields (f .before .before .before .args .self) (f .before .if1 .left) (f .first-octet .ensures)) (c .before .before .encode-fields .ensures)))

@@ -1,7 +1,8 @@
 -- `status_report::writing::check_optional` meets its contract: with an indicator its checks, without one nothing may be held.
 -- Assumes nothing.
-use mathlib.Core.Path.{sym, _∙_}
+use mathlib.Core.Path.{sym, _∙_, ap}
 use borrow.Author.Needs.{needs}
+use Rattle.octets.specs.Answers.{checkedSays}
 use Rattle.status_report.proofs.CheckByCheck.{none-against, none-fine, indicator-against, indicator-fine}
 use Rattle.status_report.proofs.writing.check_optional.Statement.{statement}
 use Rattle.status_report.proofs.writing.check_optional.Tie as tie
@@ -13,10 +14,10 @@ returns-2 : tie.Need-returns-2
 returns-2 c = rw (c .before .before .enum-told .given .1) (none-fine _ (c .before .parameters-size .ensures) (c .if1 .left))
 
 returns-3 : tie.Need-returns-3
-returns-3 c = rw (c .before .before .before .before .before .indicator .given .1) (indicator-against _ _ (sym (c .before .before .before .check-parameter-indicator .ensures) ∙ c .before .r .given .1))
+returns-3 c = rw (c .before .before .before .before .before .indicator .given .1) (indicator-against _ _ (sym (c .before .before .before .check-parameter-indicator .ensures) ∙ ap checkedSays (c .before .r .given .1)))
 
 returns-4 : tie.Need-returns-4
-returns-4 c = c .check-data .ensures ∙ rw (c .before .before .before .before .before .indicator .given .1) (indicator-fine _ _ (sym (c .before .before .before .check-parameter-indicator .ensures) ∙ c .before .enum-told2 .given .1))
+returns-4 c = c .check-data .ensures ∙ rw (c .before .before .before .before .before .indicator .given .1) (indicator-fine _ _ (sym (c .before .before .before .check-parameter-indicator .ensures) ∙ ap checkedSays (c .before .enum-told2 .given .1)))
 
 pub check-optional-spec : {M : Type 1} → statement M
 check-optional-spec =

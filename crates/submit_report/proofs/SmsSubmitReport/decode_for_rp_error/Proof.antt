@@ -2,41 +2,42 @@
 -- Assumes nothing.
 use mathlib.Core.Path.{sym, ap, _∙_}
 use borrow.Author.Needs.{needs}
-use Rattle.submit_report.specs.SubmitReport.{answer}
-use Rattle.submit_report.proofs.Reading.{outcomes}
+use Rattle.octets.specs.Answers.{octetSays}
+use Rattle.submit_report.proofs.FieldByField.{outcomes}
 use Rattle.submit_report.proofs.SmsSubmitReport.decode_for_rp_error.Statement.{statement}
 use Rattle.submit_report.proofs.SmsSubmitReport.decode_for_rp_error.Tie as tie
 
 returns : tie.Need-returns
-unfolding answer
-returns c = c .ended .ensures ∙ ap answer (sym (outcomes _ .error-ends (sym (c .before .before .before .octet .ensures) ∙ c .before .enum-told .given .1)))
+returns c = rw (c .refused .ensures, outcomes _ .error-ends (sym (c .before .before .before .octet .ensures) ∙ ap octetSays (c .before .enum-told .given .1)))
 
 returns-2 : tie.Need-returns-2
-unfolding answer
 returns-2 c =
-    let k = c .before .before in
-    c .refused .ensures ∙ ap answer (sym (outcomes _ .error-differs (sym (k .before .before .before .octet .ensures) ∙ k .before .first .given .1) (c .before .if1 .taken)))
+    let f = c .before .before .before in
+    rw (c .refused2 .ensures, outcomes _ .error-differs (sym (f .before .before .octet .ensures) ∙ ap octetSays (f .first .given .1)) (c .before .if1 .taken))
 
 returns-3 : tie.Need-returns-3
-unfolding answer
 returns-3 c =
-    let k = c .before .before .before in
-    c .stopped .ensures ∙ ap answer (sym (outcomes _ .error-stops (sym (k .before .before .before .octet .ensures) ∙ k .before .first .given .1) (c .before .before .if1 .left) (c .before .if2 .taken)))
+    let i = c .before .before in
+    let f = i .before .before in
+    rw (c .stopped .ensures, outcomes _ .error-stops (sym (f .before .before .octet .ensures) ∙ ap octetSays (f .first .given .1)) (i .if1 .left) (c .before .if2 .taken))
 
 returns-4 : tie.Need-returns-4
-unfolding answer
 returns-4 c =
-    let z = c .before .before .before .before in
-    let k = z .before .before in
-    c .ended2 .ensures
-    ∙ ap answer (sym (outcomes _ .no-cause (sym (k .before .before .before .octet .ensures) ∙ k .before .first .given .1) (z .before .if1 .left) (z .if2 .left) (sym (c .before .before .before .octet2 .ensures) ∙ c .before .enum-told2 .given .1)))
+    let o = c .before .before .before in
+    let i = o .before .before in
+    let f = i .before .before in
+    rw (
+      c .refused3 .ensures,
+      outcomes _ .no-cause (sym (f .before .before .octet .ensures) ∙ ap octetSays (f .first .given .1)) (i .if1 .left) (o .before .if2 .left) (sym (o .octet2 .ensures) ∙ ap octetSays (c .before .enum-told2 .given .1)),
+    )
 
 returns-5 : tie.Need-returns-5
 returns-5 c =
-    let z = c .before .before .before .before .before in
-    let k = z .before .before in
-    c .decode-rest .ensures
-    ∙ ap answer (sym (outcomes _ .error-goes-on (sym (k .before .before .before .octet .ensures) ∙ k .before .first .given .1) (z .before .if1 .left) (z .if2 .left) (sym (c .before .before .before .before .octet2 .ensures) ∙ c .before .before .cause .given .1)))
+    let o = c .before .before .before .before in
+    let i = o .before .before in
+    let f = i .before .before in
+    rw (outcomes _ .error-goes-on (sym (f .before .before .octet .ensures) ∙ ap octetSays (f .first .given .1)) (i .if1 .left) (o .before .if2 .left) (sym (o .octet2 .ensures) ∙ ap octetSays (c .before .before .cause .given .1)))
+    (c .after-cause .ensures)
 
 pub decode-for-rp-error-spec : {M : Type 1} → statement M
 decode-for-rp-error-spec =

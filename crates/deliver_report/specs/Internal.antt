@@ -1,0 +1,11 @@
+-- What only functions of this crate say to each other: the rest of the layout from a field on.
+use mathlib.Core.Bool.{Bool}
+use Rattle.layout.specs.Layout.{indicator, leading, Format, field, done, _then_}
+use Rattle.parameters.specs.Layout.{parameters}
+use Rattle.parameters.specs.declared.OptionalOctet.{OptionalOctet}
+use Rattle.deliver_report.specs.Layout.{deliverReported}
+use Rattle.deliver_report.specs.declared.SmsDeliverReport.{SmsDeliverReport}
+
+-- after first octet and cause
+abbrev pub afterCause : Bool → OptionalOctet → Format SmsDeliverReport
+afterCause udhi cause = field indicator λ i. parameters (leading i) then λ p. done (deliverReported udhi cause (leading i) p)
