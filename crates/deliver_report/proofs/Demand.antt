@@ -7,7 +7,6 @@ use mathlib.Core.List.{List, [], _∷_, _++_, append-nil}
 use native.Mathlib.Omega.{arith}
 use borrow.Author.Tests.{eqb-true, eqb-false}
 use lib.ListN.{length}
-use Rattle.octets.specs.Checks.{checked}
 use Rattle.octets.specs.Choice.{flag}
 use Rattle.octets.specs.Each.{Octets, each}
 use Rattle.octets.proofs.Each.{octets-tested}

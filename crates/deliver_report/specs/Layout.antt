@@ -1,7 +1,7 @@
 -- SMS-DELIVER-REPORT (TS 23.040 §9.2.2.1a): the record that its fields make, and its layout.
 use Prim.Native.Nat.{ℕ}
 use mathlib.Core.Bool.{Bool}
-use mathlib.Core.List.{List, [], _∷_}
+use mathlib.Core.List.{[], _∷_}
 use Rattle.coding.specs.Coding.{dataWith}
 use Rattle.layout.specs.Layout.{indicator, isSet, leading, Format, field, done, _then_, message}
 use Rattle.parameters.specs.Layout.{announced, parameters}

@@ -4,10 +4,8 @@
 -- Demand 2: what a writer wrote is read back as the same record, time letters capital, by the reader of its outcome; SUBMIT's reader may answer 17 or 18, exactly where `headerAnswer` says so, and never without UDHI.
 -- Assumes nothing.
 use mathlib.Core.Bool.{true, false}
-use Rattle.octets.specs.Answers.{refuses, fine}
-use Rattle.octets.specs.Lent.{lend}
+use Rattle.octets.specs.Answers.{fine}
 use Rattle.layout.specs.Demand.{Demand2, Demand3, Answers2, Answers3}
-use Rattle.layout.specs.Layout.{read, answer}
 use Rattle.layout.proofs.Answered.{answers2, answers3}
 use Rattle.submit.specs.Submit as Submit
 use Rattle.submit.proofs.Demand.{submit-demand3}
@@ -54,3 +52,58 @@ of-deliver-report-error = deliver-error
 -- `SmsStatusReport::decode`
 pub of-status-report : Demand3 StatusReport.cleared StatusReport.statusReport StatusReport.statusReporting false
 of-status-report = status-report-demand3
+
+-- ---- demand 2, of the five writers
+
+pub submit-back : Demand2 Submit.Typed Submit.compared Submit.capitalised (λ r. Submit.submit) Submit.submitting Submit.headerAnswer (λ r. r .«tp_udhi»)
+submit-back = submit-demand2
+
+pub deliver-back : Demand2 Deliver.Typed Deliver.cleared Deliver.capitalised (λ r. Deliver.deliver) Deliver.delivering (λ r. fine) (λ r. false)
+deliver-back = deliver-demand2
+
+pub submit-report-back : Demand2 SubmitReport.Typed SubmitReport.cleared SubmitReport.capitalised (λ r. SubmitReport.outcomeOf (r .«tp_failure_cause»)) SubmitReport.submitReporting (λ r. fine) (λ r. false)
+submit-report-back = submit-report-demand2
+
+pub deliver-report-back : Demand2 DeliverReport.Typed DeliverReport.cleared DeliverReport.capitalised (λ r. DeliverReport.outcomeOf (r .«tp_failure_cause»)) DeliverReport.deliverReporting (λ r. fine) (λ r. false)
+deliver-report-back = deliver-report-demand2
+
+pub status-report-back : Demand2 StatusReport.Typed StatusReport.cleared StatusReport.capitalised (λ r. StatusReport.statusReport) StatusReport.statusReporting (λ r. fine) (λ r. false)
+status-report-back = status-report-demand2
+
+-- ---- both, of what the public functions answer
+
+pub submit-answers3 : Answers3 Submit.cleared Submit.blank Submit.submit Submit.submitting false
+submit-answers3 = answers3 _ _ _ _ _ of-submit
+
+pub deliver-answers3 : Answers3 Deliver.cleared Deliver.blank Deliver.deliver Deliver.delivering false
+deliver-answers3 = answers3 _ _ _ _ _ of-deliver
+
+pub submit-report-ack-answers3 : Answers3 SubmitReport.cleared SubmitReport.blank SubmitReport.ack SubmitReport.submitReporting false
+submit-report-ack-answers3 = answers3 _ _ _ _ _ of-submit-report-ack
+
+pub submit-report-error-answers3 : Answers3 SubmitReport.cleared SubmitReport.blank SubmitReport.error SubmitReport.submitReporting true
+submit-report-error-answers3 = answers3 _ _ _ _ _ of-submit-report-error
+
+pub deliver-report-ack-answers3 : Answers3 DeliverReport.cleared DeliverReport.blank DeliverReport.ack DeliverReport.deliverReporting false
+deliver-report-ack-answers3 = answers3 _ _ _ _ _ of-deliver-report-ack
+
+pub deliver-report-error-answers3 : Answers3 DeliverReport.cleared DeliverReport.blank DeliverReport.error DeliverReport.deliverReporting false
+deliver-report-error-answers3 = answers3 _ _ _ _ _ of-deliver-report-error
+
+pub status-report-answers3 : Answers3 StatusReport.cleared StatusReport.blank StatusReport.statusReport StatusReport.statusReporting false
+status-report-answers3 = answers3 _ _ _ _ _ of-status-report
+
+pub submit-answers2 : Answers2 Submit.Typed Submit.compared Submit.capitalised Submit.blank (λ r. Submit.submit) Submit.submitting Submit.headerAnswer
+submit-answers2 = answers2 _ _ _ _ _ _ _ _ submit-back submit-counts
+
+pub deliver-answers2 : Answers2 Deliver.Typed Deliver.cleared Deliver.capitalised Deliver.blank (λ r. Deliver.deliver) Deliver.delivering (λ r. fine)
+deliver-answers2 = answers2 _ _ _ _ _ _ _ _ deliver-back deliver-counts
+
+pub submit-report-answers2 : Answers2 SubmitReport.Typed SubmitReport.cleared SubmitReport.capitalised SubmitReport.blank (λ r. SubmitReport.outcomeOf (r .«tp_failure_cause»)) SubmitReport.submitReporting (λ r. fine)
+submit-report-answers2 = answers2 _ _ _ _ _ _ _ _ submit-report-back submit-report-counts
+
+pub deliver-report-answers2 : Answers2 DeliverReport.Typed DeliverReport.cleared DeliverReport.capitalised DeliverReport.blank (λ r. DeliverReport.outcomeOf (r .«tp_failure_cause»)) DeliverReport.deliverReporting (λ r. fine)
+deliver-report-answers2 = answers2 _ _ _ _ _ _ _ _ deliver-report-back deliver-report-counts
+
+pub status-report-answers2 : Answers2 StatusReport.Typed StatusReport.cleared StatusReport.capitalised StatusReport.blank (λ r. StatusReport.statusReport) StatusReport.statusReporting (λ r. fine)
+status-report-answers2 = answers2 _ _ _ _ _ _ _ _ status-report-back status-report-counts

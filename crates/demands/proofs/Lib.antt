@@ -8,5 +8,4 @@ pub mod StatusReportBack
 pub mod SubmitWritten
 pub mod SubmitBack
 pub mod SubmitLimits
-pub mod SubmitAlike
 pub mod Known

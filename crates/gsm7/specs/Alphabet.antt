@@ -61,6 +61,6 @@ unfoldable pub escaped : ℕ → ℕ
 escaped code = characterOr (character code) (rowWith (λ (e : Extension). e .code) code extension)
 
 -- 41 is A, 1B 65 is the euro sign, 1B 41 is A
-rows : (character 0x41 ≡ 0x41) × (escaped 0x65 ≡ 0x20ac) × (escaped 0x41 ≡ 0x41)
+known-characters : (character 0x41 ≡ 0x41) × (escaped 0x65 ≡ 0x20ac) × (escaped 0x41 ≡ 0x41)
 unfolding character escaped rowWith
-rows = (refl, refl, refl)
+known-characters = (refl, refl, refl)

@@ -1,4 +1,4 @@
--- What the codec's functions that write text say to each other. Only these use it, and nobody has to believe anything here.
+-- What functions of the codec say to each other of the text that they write: nobody has to believe anything here.
 use Prim.Native.Nat.{ℕ, _<_}
 use mathlib.Core.Path.{_≡_}
 use mathlib.Core.List.{List, [], _∷_}

@@ -27,7 +27,7 @@ packedSays p = (outcomeSays (p .outcome), p .octets, p .septets)
 unfoldable pub notPacked : Refusal → SaidCounts
 notPacked why = (refuses why, 0, 0)
 
--- octets that are packed, of n septets
+-- what is said of octets that are packed, for n septets
 abbrev pub packedAs : List ℕ → ℕ → SaidCounts
 packedAs octets n = (fine, length octets, n)
 
@@ -35,7 +35,7 @@ packedAs octets n = (fine, length octets, n)
 abbrev pub octetsAfter : List ℕ → List ℕ → List ℕ
 octetsAfter header ss = header ++ packedSeptets (fillBits (length header)) ss
 
--- the septets of a text packed after a header; 10, where the text has none, and 22, where they are too many
+-- the septets of a text packed after a header; 10 where the text has none, 22 where header and text take more than 255
 unfoldable pub packedAfter : List ℕ → Option (List ℕ) → Making SaidCounts
 packedAfter header none = refused NotInAlphabet
 packedAfter header (some ss) =

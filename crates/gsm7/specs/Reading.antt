@@ -9,7 +9,7 @@ use Rattle.octets.specs.Choice.{if_then_else_}
 use Rattle.octets.specs.Arrays.{pad}
 use Rattle.octets.specs.declared.Refusal.{Refusal}
 use Rattle.octets.specs.declared.Refusal.the-variants.{LengthTooLarge, TooFewOctets}
-use Rattle.septets.specs.Septets.{septetsIn, octetCount}
+use Rattle.septets.specs.Septets.{numberOf, lowestDigits, septetsIn, octetCount}
 use Rattle.gsm7.specs.declared.decode.Unpacked.{Unpacked}
 use Rattle.gsm7.specs.Alphabet.{character, escaped, rowWith}
 
@@ -48,7 +48,7 @@ textGiven text = (fine, pad 510 text, length text)
 unfoldable pub textRefused : Refusal → SaidText
 textRefused why = (refuses why, pad 510 [], 0)
 
--- what reading n septets after f fill bits gives
+-- what reading n septets after f fill bits gives; 1 where they are more than 255, 19 where the octets are too few for them
 unfoldable pub unpacked : List ℕ → ℕ → ℕ → SaidText
 unpacked os f n =
     if ltb 255 n then textRefused LengthTooLarge
@@ -56,6 +56,12 @@ unpacked os f n =
     else textGiven (textOf (septetsIn os f n))
 
 -- escape before escape and escape last are a space; the euro sign is E2 82 AC
-rows : (textOf (0x1b ∷ 0x1b ∷ 0x41 ∷ []) ≡ 0x20 ∷ 0x41 ∷ []) × (textOf (0x41 ∷ 0x1b ∷ []) ≡ 0x41 ∷ 0x20 ∷ []) × (textOf (0x1b ∷ 0x65 ∷ []) ≡ 0xe2 ∷ 0x82 ∷ 0xac ∷ [])
+known-texts : (textOf (0x1b ∷ 0x1b ∷ 0x41 ∷ []) ≡ 0x20 ∷ 0x41 ∷ []) × (textOf (0x41 ∷ 0x1b ∷ []) ≡ 0x41 ∷ 0x20 ∷ []) × (textOf (0x1b ∷ 0x65 ∷ []) ≡ 0xe2 ∷ 0x82 ∷ 0xac ∷ [])
 unfolding textOf afterEscape utf8 character escaped rowWith
-rows = (refl, refl, refl)
+known-texts = (refl, refl, refl)
+
+-- 9B 0D is escape and escape, 9B 20 escape and 41; 256 septets; one septet and no octet
+known-readings : (unpacked (0x9b ∷ 0x0d ∷ []) 0 2 ≡ textGiven (0x20 ∷ [])) × (unpacked (0x9b ∷ 0x20 ∷ []) 0 2 ≡ textGiven (0x41 ∷ []))
+    × (unpacked [] 0 256 ≡ textRefused LengthTooLarge) × (unpacked [] 0 1 ≡ textRefused TooFewOctets)
+unfolding numberOf lowestDigits septetsIn textOf afterEscape utf8 character escaped rowWith unpacked
+known-readings = (refl, refl, refl, refl)

@@ -77,7 +77,7 @@ abbrev pub septetsOf : List ℕ → Option (List ℕ)
 septetsOf text = scan text 0
 
 -- the euro sign; overlong "A", a cut character and ESC itself have no septets
-rows : (septetsOf (0xe2 ∷ 0x82 ∷ 0xac ∷ []) ≡ some (0x1b ∷ 0x65 ∷ [])) × (septetsOf (0xc1 ∷ 0x81 ∷ []) ≡ none) × (septetsOf (0xe2 ∷ 0x82 ∷ []) ≡ none)
+known-septets : (septetsOf (0xe2 ∷ 0x82 ∷ 0xac ∷ []) ≡ some (0x1b ∷ 0x65 ∷ [])) × (septetsOf (0xc1 ∷ 0x81 ∷ []) ≡ none) × (septetsOf (0xe2 ∷ 0x82 ∷ []) ≡ none)
     × (septetsOf (0x1b ∷ []) ≡ none)
 unfolding scan startingWith before firstCharacter twoOctets threeOctets same utf8 codeOf extendedCode indexOf rowWith
-rows = (refl, refl, refl, refl)
+known-septets = (refl, refl, refl, refl)

@@ -279,12 +279,12 @@ pub fn unpack_septets(data: &[u8], fill: usize, septets: usize, text: &mut [u8],
 }
 
 // The text of counted septets that are all there.
-fn whole_text(data: &[u8], fill: usize, septets: usize) -> Unpacked
-    requires { ⌜ (fill < 8) × (septets ≤ 255) ⌝ }
-    ensures { λ r. ⌜ unpackedSays r ≡ textGiven (textOf (septetsIn (now («data» .entry)) fill septets)) ⌝ }
+fn whole_text(data: &[u8], septets: usize) -> Unpacked
+    requires { ⌜ septets ≤ 255 ⌝ }
+    ensures { λ r. ⌜ unpackedSays r ≡ textGiven (textOf (septetsIn (now («data» .entry)) 0 septets)) ⌝ }
 {
     let mut text = [0u8; 510];
-    let text_length = unpack_septets(data, fill, septets, &mut text, 0);
+    let text_length = unpack_septets(data, 0, septets, &mut text, 0);
     Unpacked {
         outcome: Outcome::Done,
         text,
@@ -314,23 +314,15 @@ fn too_few_octets() -> Unpacked
     refused(Refusal::TooFewOctets)
 }
 
-// The text of the counted septets, from `fill` bits into the octets, if the octets are enough for them.
-pub fn read_septets(data: &[u8], fill: usize, septets: usize) -> Unpacked
-    requires { ⌜ fill < 8 ⌝ }
-    ensures { λ r. ⌜ unpackedSays r ≡ unpacked (now («data» .entry)) fill septets ⌝ }
-{
-    if 255 < septets {
-        return too_long();
-    }
-    if data.len() < (fill + septets * 7 + 7) / 8 {
-        return too_few_octets();
-    }
-    whole_text(data, fill, septets)
-}
-
 // The text of exactly `septets` septets.
 pub fn unpack_gsm7(data: &[u8], septets: usize) -> Unpacked
     ensures { λ r. ⌜ unpackedSays r ≡ unpacked (now («data» .entry)) 0 septets ⌝ }
 {
-    read_septets(data, 0, septets)
+    if 255 < septets {
+        return too_long();
+    }
+    if data.len() < (septets * 7 + 7) / 8 {
+        return too_few_octets();
+    }
+    whole_text(data, septets)
 }

@@ -1,12 +1,12 @@
 -- Unpacking what packing made gives the same septets, and digits and number are each other's inverse.
 -- Assumes nothing.
-use Prim.Native.Nat.{ℕ, zero, suc, _+_, _*_, _/_, _%_, _^_, _<_, _≤_}
-use mathlib.Core.Path.{_≡_, refl, sym, _∙_, ap, ap₂}
+use Prim.Native.Nat.{ℕ, zero, suc, _+_, _*_, _/_, _%_, _^_, _<_}
+use mathlib.Core.Path.{_≡_, refl, sym, ap₂}
 use mathlib.Core.List.{List, [], _∷_}
 use native.Mathlib.Nat.{mul-suc, mul-zero, mod-one, mod-eq-of-lt, lt-of-lt-of-le, mod-lt}
 use native.Mathlib.Omega.{arith}
 use lib.Arith.{digits-lt}
-use lib.ListN.{length, getD}
+use lib.ListN.{length}
 use lib.Pow.{pow-add, mod-pow-add, high, low, shl-lt, shl-shr, pow-mono, pow-pos}
 use Rattle.septets.specs.Septets.{numberOf, lowestDigits, Digits, septetsIn, packedSeptets, octetCount, headerSeptets, fillBits}
 use Rattle.septets.proofs.Number.{length-digits}

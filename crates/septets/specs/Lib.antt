@@ -1,1 +1,2 @@
 pub mod Septets
+pub mod Internal

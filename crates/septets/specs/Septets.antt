@@ -26,10 +26,6 @@ octetCount f n = (f + n * 7 + 7) / 8
 unfoldable pub septetsIn : List ℕ → ℕ → ℕ → List ℕ
 septetsIn os f n = lowestDigits 7 n (numberOf 8 os / 2 ^ f)
 
--- the septet at an index, after f fill bits
-unfoldable pub septetAt : List ℕ → ℕ → ℕ → ℕ
-septetAt os f index = numberOf 8 os / 2 ^ (f + index * 7) % 2 ^ 7
-
 -- the septets packed after f zero bits, with zero bits to the octet
 unfoldable pub packedSeptets : ℕ → List ℕ → List ℕ
 packedSeptets f ss = lowestDigits 8 (octetCount f (length ss)) (numberOf 7 ss * 2 ^ f)

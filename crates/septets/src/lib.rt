@@ -4,7 +4,8 @@ ghost use Prim.Native.Nat.{_+_, _*_, _/_, _%_, _^_, _<_, _≤_};
 ghost use mathlib.Core.List.{[], _∷_};
 ghost use lib.ListN.{length, getD};
 ghost use Rattle.octets.specs.Lent.{Wrote};
-ghost use Rattle.septets.specs.Septets.{Digits, septetAt, octetCount, packedSeptets, headerSeptets};
+ghost use Rattle.septets.specs.Internal.{septetAt};
+ghost use Rattle.septets.specs.Septets.{Digits, octetCount, packedSeptets, headerSeptets};
 
 // The octet at `at`, 0 past the end.
 pub fn octet_or_zero(octets: &[u8], at: usize) -> u16

@@ -181,6 +181,11 @@ changed r to digits enhanced raw headed header text = record {
   «tp_user_data» = text;
 }
 
+-- without header and text
+abbrev pub underived : SmsSubmit → SmsSubmit
+underived r =
+    changed r (r .«tp_destination_address») (r .«validity_period_digits») (r .«validity_period_octets») (r .«tp_user_data_raw») false (dataWith []) (textWith [])
+
 abbrev pub clearedText : SubmitText → SubmitText
 clearedText t = record { octets = clearedArray 510 (t .length) (t .octets); length = t .length }
 
@@ -193,11 +198,9 @@ cleared r =
     (clearedData (r .«tp_user_data_raw»)) (r .«has_user_data_header»)
     (if r .«has_user_data_header» then clearedData (r .«tp_user_data_header») else dataWith []) (clearedText (r .«tp_user_data»))
 
--- the same without header and text, which are derived from the data
+-- what demand 2 compares: not header and text, which are derived from the data
 abbrev pub compared : SmsSubmit → SmsSubmit
-compared r =
-    let c = cleared r in
-    changed c (c .«tp_destination_address») (c .«validity_period_digits») (c .«validity_period_octets») (c .«tp_user_data_raw») false (dataWith []) (textWith [])
+compared r = underived (cleared r)
 
 -- the time's letters capital
 abbrev pub capitalised : SmsSubmit → SmsSubmit

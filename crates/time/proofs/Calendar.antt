@@ -9,13 +9,14 @@ use native.Mathlib.Omega.{arith}
 use borrow.Author.Tests.{le-ltb, ltb-false}
 use lib.Dec.{ltb}
 use lib.IntN.{ℤ, pos, negsuc, natAbs}
-use Rattle.octets.specs.Answers.{Said, refuses, fine}
+use Rattle.octets.specs.Answers.{refuses, fine}
 use Rattle.octets.specs.Each.{each}
 use Rattle.octets.specs.declared.Refusal.the-variants.{CalendarOutOfRange, ZoneOutOfRange}
 use Rattle.octets.proofs.Choice.{leb-means, and-means, within-means}
 use Rattle.time.proofs.Laws.{octet-digits, pair-hex}
+use Rattle.time.specs.Internal.{decimalOctet}
 use Rattle.time.specs.Time.{isHex, timeDigits, isTime}
-use Rattle.time.specs.Timestamp.{SaidDigits, inCalendar, twoDigits, decimalOctet, zoneSign, timestamp}
+use Rattle.time.specs.Timestamp.{SaidDigits, inCalendar, twoDigits, zoneSign, timestamp}
 
 two : (value : ℕ) → value ≤ 99 → (octets : List ℕ) → timeDigits (decimalOctet value ∷ octets) ≡ twoDigits value ++ timeDigits octets
 two value h octets = octet-digits (value / 10) (value % 10) octets (omega arith)

@@ -1,5 +1,5 @@
 -- A time from its calendar values and zone (TS 23.040 §9.2.3.11): two decimal digits each, and the sign of the zone in its first digit.
-use Prim.Native.Nat.{ℕ, _+_, _*_, _/_, _%_}
+use Prim.Native.Nat.{ℕ, _+_, _/_, _%_}
 use mathlib.Core.Path.{_≡_, refl}
 use mathlib.Core.Bool.{Bool, not, _&&_}
 use mathlib.Core.List.{List, [], _∷_, _++_}
@@ -23,11 +23,7 @@ inCalendar year month day hour minute second = leb year 99 && within 1 12 month 
 abbrev pub twoDigits : ℕ → List ℕ
 twoDigits n = hexDigit (n / 10) ∷ hexDigit (n % 10) ∷ []
 
--- the octet that has them
-abbrev pub decimalOctet : ℕ → ℕ
-decimalOctet n = n / 10 + 16 * (n % 10)
-
--- the digits of a zone in quarter hours: a negative one has 8 added to its tens digit
+-- the sign of a zone, and its digits, in quarter hours: a negative one has 8 added to its tens digit
 abbrev pub zoneSign : ℤ → ℕ
 zoneSign zone = if ltZ zone (pos 0) then 8 else 0
 

@@ -4,8 +4,9 @@ ghost use mathlib.Core.List.{[], _∷_};
 ghost use Prim.Native.Nat.{_≤_};
 ghost use lib.IntN.{natAbs};
 ghost use Rattle.octets.specs.declared.Refusal.the-variants.{CalendarOutOfRange, ZoneOutOfRange};
+ghost use Rattle.time.specs.Internal.{decimalOctet};
 ghost use Rattle.time.specs.Time.{timeDigits};
-ghost use Rattle.time.specs.Timestamp.{inCalendar, decimalOctet, timestampSays, refusedDigits, zoneSign, timestamp};
+ghost use Rattle.time.specs.Timestamp.{inCalendar, timestampSays, refusedDigits, zoneSign, timestamp};
 use octets::Outcome;
 use octets::Refusal;
 

@@ -1,20 +1,17 @@
 -- What reading and packing with a header give, case by case.
 -- Assumes nothing.
 use Prim.Native.Nat.{ℕ, _-_, _*_, _<_, _≤_}
-use mathlib.Core.Path.{_≡_, refl, sym}
-use mathlib.Core.Bool.{Bool, true, false}
+use mathlib.Core.Path.{_≡_}
 use mathlib.Core.List.{List}
-use native.Mathlib.Omega.{arith}
 use native.Mathlib.Nat.{le-refl, zero-add}
-use borrow.Author.Tests.{lt-ltb, le-ltb, eq-eqb, ne-eqb, ltb-true, ltb-false}
-use lib.Dec.{ltb}
+use borrow.Author.Tests.{lt-ltb, le-ltb, eq-eqb, ne-eqb}
 use lib.ListN.{length, take, drop, replicate, length-drop}
 use lib.Seq.{take-all, length-take-le}
 use Rattle.octets.specs.Answers.{fine}
 use Rattle.octets.specs.Arrays.{pad}
 use Rattle.octets.specs.Lent.{refused, Wrote}
 use Rattle.octets.specs.declared.Refusal.the-variants.{LengthTooLarge, HeaderNotWhole, HeaderPassesCount, TooFewOctets}
-use Rattle.septets.specs.Septets.{septetsIn, octetCount, headerSeptets, fillBits}
+use Rattle.septets.specs.Septets.{septetsIn, octetCount, headerSeptets}
 use Rattle.gsm7.specs.Reading.{textOf}
 use Rattle.gsm7.specs.Packing.{packing}
 use Rattle.gsm7.proofs.DecodingLaws.{text-fits}

@@ -35,7 +35,7 @@ headerGiven header text = (fine, pad 255 header, length header, pad 510 text, le
 unfoldable pub headerRefused : Refusal → SaidHeader
 headerRefused why = (refuses why, pad 255 [], 0, pad 510 [], 0)
 
--- what reading user data of n septets gives: header, fill bits that are not looked at, text. (Empty data are no header: the length octet itself is missing.)
+-- what reading user data of n septets gives: the header, fill bits that are not looked at, and the text; 1 where n is more than 255, 17 where the header is not there whole (of empty data the length octet is missing), 18 where it takes more septets than n, 19 where the octets are too few for fill bits and text
 unfoldable pub unpackedWithHeader : List ℕ → ℕ → SaidHeader
 unpackedWithHeader os n =
     let h = headerOctets os in
@@ -45,11 +45,11 @@ unpackedWithHeader os n =
     else if ltb (length (drop h os)) (octetCount (fillBits h) (n - headerSeptets h)) then headerRefused TooFewOctets
     else headerGiven (take h os) (textOf (septetsIn (drop h os) (fillBits h) (n - headerSeptets h)))
 
--- what packing gives: the header must be as long as its first octet says
+-- what packing gives; 17 where the header is not as long as its first octet says
 unfoldable pub packingWithHeader : List ℕ → List ℕ → Making SaidCounts
 packingWithHeader header text = if eqb (length header) (headerOctets header) then packing header text else refused HeaderNotWhole
 
--- a header of 6 octets, and "A" after it; no octet; header 00, which takes 2 septets, with the fill bits there and not there; a header that is too short to be packed
+-- a header of 6 octets, and "A" after it; no octet; header 00, which takes 2 septets, with the octet of its fill bits and without; a header that is too short to be packed
 known-headers : (unpackedWithHeader (0x05 ∷ 0x00 ∷ 0x03 ∷ 0x01 ∷ 0x02 ∷ 0x01 ∷ 0x82 ∷ []) 8 ≡ headerGiven (0x05 ∷ 0x00 ∷ 0x03 ∷ 0x01 ∷ 0x02 ∷ 0x01 ∷ []) (0x41 ∷ []))
     × (unpackedWithHeader [] 2 ≡ headerRefused HeaderNotWhole) × (unpackedWithHeader (0x00 ∷ []) 1 ≡ headerRefused HeaderPassesCount) × (unpackedWithHeader (0x00 ∷ 0x00 ∷ []) 2 ≡ headerGiven (0x00 ∷ []) []) × (unpackedWithHeader (0x00 ∷ []) 2 ≡ headerRefused TooFewOctets)
     × (packingWithHeader (0x01 ∷ []) [] ≡ refused HeaderNotWhole)

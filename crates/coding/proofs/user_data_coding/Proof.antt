@@ -1,6 +1,6 @@
 -- `coding::user_data_coding` meets its contract: each arm's range of the high half decides the tests of the definition.
 -- Assumes nothing.
-use Prim.Native.Nat.{_<_, _/_, _%_}
+use Prim.Native.Nat.{_/_, _%_}
 use mathlib.Core.Path.{_≡_}
 use native.Mathlib.Omega.{arith}
 use borrow.Author.Tests.{le-leb, lt-leb, eq-eqb, ne-eqb}

@@ -1,10 +1,10 @@
 -- `septets::septet_at` meets its contract: seven bits lie in the octet of the first one and the next.
 -- Assumes nothing.
-use Prim.Native.Nat.{ℕ, _+_, _*_, _/_, _<_}
+use Prim.Native.Nat.{_+_, _*_, _<_}
 use mathlib.Core.Path.{_≡_, sym}
 use native.Mathlib.Omega.{arith}
 use denote.Ref.{now}
-use Rattle.septets.specs.Septets.{septetAt}
+use Rattle.septets.specs.Internal.{septetAt}
 use Rattle.septets.proofs.Number.{in-two}
 use Rattle.septets.proofs.septet_at.Statement.{statement}
 use Rattle.septets.proofs.septet_at.Tie as tie

@@ -8,8 +8,9 @@ use denote.Ref.{now}
 use lib.ListN.{length}
 use lib.Seq.{sets}
 use Rattle.octets.proofs.Laws.{Left, left-start, left-step, left-end, left-fits, kept-by}
-use Rattle.septets.specs.Septets.{septetsIn, septetAt}
-use Rattle.gsm7.specs.Alphabet.{character, escaped}
+use Rattle.septets.specs.Internal.{septetAt}
+use Rattle.septets.specs.Septets.{septetsIn}
+use Rattle.gsm7.specs.Alphabet.{character}
 use Rattle.gsm7.specs.Reading.{utf8, textOf}
 use Rattle.gsm7.proofs.Reading.{rest, rest-done, rest-plain, rest-escape, rest-last, rest-start, septet-small}
 use Rattle.gsm7.proofs.decode.unpack_septets.Statement.{statement}

@@ -1,6 +1,7 @@
 -- `gsm7::decode::whole_text` meets its contract: the text fits its array.
 -- Assumes nothing.
 use native.Mathlib.Nat.{zero-add}
+use native.Mathlib.Omega.{arith}
 use borrow.Author.Needs.{needs}
 use Rattle.gsm7.proofs.Reading.{text-stored}
 use Rattle.gsm7.proofs.DecodingLaws.{text-fits}
@@ -12,5 +13,5 @@ whole-text-spec =
     tie.close
     (tie.spec
     (λ c. search needs)
-    (λ c κs. let p = c .before .before .pre in (p .0, p .1, rw zero-add (text-fits _ _ _ (p .1))))
-    (λ c. text-stored _ (text-fits _ _ _ (c .before .before .before .before .pre .1)) (c .before .unpack-septets .ensures)))
+    (λ c κs. (omega arith, c .before .before .pre, rw zero-add (text-fits _ _ _ (c .before .before .pre))))
+    (λ c. text-stored _ (text-fits _ _ _ (c .before .before .before .before .pre)) (c .before .unpack-septets .ensures)))

@@ -1,6 +1,5 @@
 -- `gsm7::encode::add` meets its contract: a store past the array's end would change nothing.
 -- Assumes nothing.
-use Prim.Native.Nat.{_+_}
 use mathlib.Core.Path.{refl, sym}
 use native.Mathlib.Omega.{arith}
 use lib.Seq.{set-out}

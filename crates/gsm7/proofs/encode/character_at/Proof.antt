@@ -1,10 +1,8 @@
 -- `gsm7::encode::character_at` meets its contract, by the first octet.
 -- Assumes nothing.
 use native.Mathlib.Omega.{arith}
-use Prim.Native.Nat.{ℕ, _+_, _<_, _≤_}
-use mathlib.Core.Path.{_≡_, sym, _∙_}
+use mathlib.Core.Path.{_≡_, sym}
 use denote.Ref.{now}
-use lib.ListN.{getD}
 use Rattle.gsm7.proofs.FirstCharacter.{first-one, first-two, first-three}
 use Rattle.gsm7.proofs.encode.character_at.Statement.{statement}
 use Rattle.gsm7.proofs.encode.character_at.Tie as tie

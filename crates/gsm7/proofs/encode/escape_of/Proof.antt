@@ -5,7 +5,7 @@ use mathlib.Core.Path.{_≡_, refl, _∙_}
 use mathlib.Core.List.{[], _∷_}
 use mathlib.Core.Option.{none, some}
 use native.Mathlib.Omega.{arith}
-use lib.ListN.{getD, drop}
+use lib.ListN.{drop}
 use Rattle.octets.specs.Answers.{gives, refuses}
 use Rattle.octets.specs.declared.Refusal.the-variants.{NotInAlphabet}
 use Rattle.gsm7.specs.declared.decode.Extension.{Extension}

@@ -1,11 +1,11 @@
 -- `gsm7::encode::high_code_of` meets its contract: from 100 on the default alphabet has Greek letters only.
 -- Assumes nothing.
 use native.Mathlib.Omega.{arith}
-use Prim.Native.Nat.{ℕ, _+_, _-_}
-use mathlib.Core.Path.{_≡_, refl, ap, sym, _∙_}
+use Prim.Native.Nat.{_+_, _-_}
+use mathlib.Core.Path.{_≡_, ap, sym, _∙_}
 use borrow.Author.Tests.{lt-ltb, le-ltb}
 use Rattle.gsm7.specs.Writing.{codeOf}
-use Rattle.gsm7.proofs.ByCharacter.{greek, greek-right, below-greek, above-greek}
+use Rattle.gsm7.proofs.ByCharacter.{greek-right, below-greek, above-greek}
 use Rattle.gsm7.proofs.encode.high_code_of.Statement.{statement}
 use Rattle.gsm7.proofs.encode.high_code_of.Tie as tie
 

@@ -1,6 +1,6 @@
 -- `submit_report::writing::encode_fields` meets its contract: each answer is a case of what the writer makes.
 -- Assumes nothing.
-use Prim.Native.Nat.{_+_, _≤_}
+use Prim.Native.Nat.{_≤_}
 use mathlib.Core.Path.{_≡_, sym, _∙_, ap}
 use mathlib.Core.Bool.{true}
 use native.Mathlib.Omega.{arith}
@@ -8,13 +8,10 @@ use borrow.Author.Needs.{needs}
 use borrow.Author.Tests.{not-true, not-false}
 use denote.Ref.{now}
 use lib.ListN.{length}
-use Rattle.octets.specs.Answers.{gives, refuses, fine, checkedSays}
-use Rattle.octets.specs.Checks.{found}
+use Rattle.octets.specs.Answers.{gives, refuses, checkedSays}
 use Rattle.octets.specs.Lent.{made}
 use Rattle.octets.proofs.Laws.{lent-refused, lent-short, lent-written}
 use Rattle.time.specs.Time.{isTime}
-use Rattle.parameters.specs.Checking.{dataChecks}
-use Rattle.parameters.specs.Optional.{held}
 use Rattle.parameters.specs.Parameters.{Parameters}
 use Rattle.parameters.proofs.Checking.{data-few}
 use Rattle.parameters.proofs.Laws.{one-at-most}
