@@ -32,26 +32,26 @@ abbrev escaped : List ℕ
 escaped = 0x1b ∷ 0x65 ∷ []
 
 -- 160 septets are one message, 161 two; the euro sign is not parted, and 154 septets with it are one message
-rows : (concatenating 7 (letters 160) ≡ made (message [] (letters 160)) (fine, 141, 1))
+around-160 : (concatenating 7 (letters 160) ≡ made (message [] (letters 160)) (fine, 141, 1))
     × (concatenating 7 (letters 161) ≡ made (message (partHeader 7 2 1) (letters 153) ++ message (partHeader 7 2 2) (letters 8)) (fine, 156, 2))
     × (concatenating 7 (letters 152 ++ euro ++ letters 7) ≡ made (message (partHeader 7 2 1) (letters 152) ++ message (partHeader 7 2 2) (escaped ++ letters 7)) (fine, 156, 2))
     × (concatenating 7 (letters 152 ++ euro) ≡ made (message [] (letters 152 ++ escaped)) (fine, 136, 1))
     × (concatenating 7 [] ≡ made (0 ∷ []) (fine, 1, 1))
 unfolding numberOf lowestDigits packedSeptets rowWith indexOf utf8 extendedCode codeOf same twoOctets threeOctets firstCharacter before startingWith scan most cutInto numbered messagesOf concatenating
-rows = (refl, refl, refl, refl, refl)
+around-160 = (refl, refl, refl, refl, refl)
 
 -- the septets of each part, with an extension character at each place around the cut; and with one after the other
 sizes : List ℕ → List ℕ
 sizes text = map length (partsOf (codesOf text))
 
-cuts : (sizes (letters 150 ++ euro ++ letters 9) ≡ 153 ∷ 8 ∷ [])
+around-a-cut : (sizes (letters 150 ++ euro ++ letters 9) ≡ 153 ∷ 8 ∷ [])
     × (sizes (letters 151 ++ euro ++ letters 9) ≡ 153 ∷ 9 ∷ [])
     × (sizes (letters 152 ++ euro ++ letters 9) ≡ 152 ∷ 11 ∷ [])
     × (sizes (letters 153 ++ euro ++ letters 9) ≡ 153 ∷ 11 ∷ [])
     × (sizes (letters 151 ++ euro ++ euro ++ letters 9) ≡ 153 ∷ 11 ∷ [])
     × (sizes (letters 150 ++ euro ++ euro ++ letters 9) ≡ 152 ∷ 11 ∷ [])
 unfolding sizes rowWith indexOf utf8 extendedCode codeOf same twoOctets threeOctets firstCharacter before startingWith scan most cutInto
-cuts = (refl, refl, refl, refl, refl, refl)
+around-a-cut = (refl, refl, refl, refl, refl, refl)
 
 -- ---- 39,015 septets are 255 parts, one more is refused
 
