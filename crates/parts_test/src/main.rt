@@ -1,5 +1,5 @@
 // The longest text that is sent in parts, and a text that is one letter too long: a line of `tpdutool` has no room for
-// them. The answers are said, and the first seven octets of the first and the last part: TP-UDL and the header.
+// them. The answers are said, and what the first and the last part tell of themselves.
 use libc::STDOUT_FILENO;
 use tpdu::Outcome;
 
@@ -27,23 +27,20 @@ fn send(text: &[u8], out: &mut [u8]) {
     say_number(sent.octets, b" octets\n");
 }
 
-// Says the octets of a message up to the end of its header.
-fn say_start(message: &[u8]) {
-    let mut i = 0;
-    while i < message.len() {
-        let octet = message[i];
-        io::print_hex(STDOUT_FILENO, octet as u64, 2);
-        i += 1;
-    }
-    say(b"\n");
+// Says the number of a part, the total and TP-UDL.
+fn say_part(number: u8, total: u8, udl: u8) {
+    say(b"part ");
+    say_number(number as usize, b" of ");
+    say_number(total as usize, b", TP-UDL ");
+    say_number(udl as usize, b"\n");
 }
 
 fn main() {
     let text = [b'a'; 39016];
     let mut out = [0u8; 35955];
     send(&text[0..39015], &mut out);
-    say_start(&out[0..7]);
-    say_start(&out[35814..35821]);
-    send(&text[0..39015], &mut out[0..35954]);
-    send(&text, &mut out);
+    say_part(out[6], out[5], out[0]);
+    say_part(out[35820], out[35819], out[35814]);
+    send(&text[0..39015], &mut [0u8; 35954]);
+    send(&text, &mut [0u8; 35955]);
 }
