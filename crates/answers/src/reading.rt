@@ -16,7 +16,7 @@ use tpdu::UserData;
 use tpdu::ValidityPeriod;
 use wording::refusals::refusal_number;
 
-// The seven readers, and that a name is none of theirs.
+// The seven readers; `Unknown` for a name that is none of theirs.
 pub enum Reader {
     Deliver,
     Submit,

@@ -214,7 +214,8 @@ fn write(kind: usize, line: &[u8], lent: &mut Lent) -> Written {
         keys::SUBMIT => write_submit(line, lent),
         keys::SUBMIT_REPORT => write_submit_report(line, lent),
         keys::DELIVER_REPORT => write_deliver_report(line, lent),
-        _ => write_status_report(line, lent),
+        keys::STATUS_REPORT => write_status_report(line, lent),
+        _ => Written::Done(0),
     }
 }
 

@@ -3,6 +3,7 @@ use Prim.Native.Nat.{ℕ, _+_}
 use mathlib.Core.List.{List}
 use Rattle.octets.specs.Answers.{Said, gives, refuses}
 use Rattle.octets.specs.Refusals.{refusalNumber}
+use Rattle.gsm7.specs.Packing.{SaidCounts}
 
 -- of an outcome, with a count beside it
 abbrev pub numbered : Said Unit → ℕ → ℕ
@@ -17,3 +18,7 @@ countNumber (refuses why) = 256 + refusalNumber why
 -- of what a writer does with a lent buffer, and the buffer
 abbrev pub lentNumber : Said ℕ × List ℕ → ℕ × List ℕ
 lentNumber lent = (countNumber (lent .0), lent .1)
+
+-- of what a packer does, and the buffer
+abbrev pub packedNumber : SaidCounts × List ℕ → ℕ × List ℕ
+packedNumber lent = (numbered (lent .0 .0) (lent .0 .1), lent .1)

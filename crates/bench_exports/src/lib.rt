@@ -16,7 +16,7 @@ ghost use Rattle.deliver.specs.Deliver.{deliver, delivering, blank as blankDeli
 ghost use Rattle.status_report.specs.StatusReport.{statusReport, statusReporting, blank as blankStatusReport};
 ghost use Rattle.submit_report.specs.SubmitReport.{ack as submitReportAck, submitReporting, blank as blankSubmitReport};
 ghost use Rattle.deliver_report.specs.DeliverReport.{error as deliverReportError, deliverReporting, blank as blankDeliverReport};
-ghost use Rattle.bench_exports.specs.Numbers.{numbered, countNumber, lentNumber};
+ghost use Rattle.bench_exports.specs.Numbers.{numbered, countNumber, lentNumber, packedNumber};
 use tpdu::Outcome;
 use tpdu::SMSAddress;
 use tpdu::SmsDeliver;
@@ -145,7 +145,7 @@ pub extern "C" fn tpdu_rewrite_deliver_report(data: &[u8], out: &mut [u8]) -> us
 // The number of octets packed.
 #[no_mangle]
 pub extern "C" fn tpdu_pack(text: &[u8], out: &mut [u8]) -> usize
-    ensures { λ r. ⌜ (let lent = lend notPacked (packing [] (now (text .entry))) (now (out .entry)) in (r, now (out .exit)) ≡ (numbered (lent .0 .0) (lent .0 .1), lent .1)) ⌝ }
+    ensures { λ r. ⌜ (r, now (out .exit)) ≡ packedNumber (lend notPacked (packing [] (now (text .entry))) (now (out .entry))) ⌝ }
 {
     let p = tpdu::pack_gsm7(text, out);
     let outcome = p.outcome;

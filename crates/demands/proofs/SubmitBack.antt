@@ -9,7 +9,7 @@ use borrow.Author.Tests.{eqb-true, ltb-true, le-leb}
 use lib.Dec.{eqb, ltb}
 use lib.ListN.{length}
 use lib.Seq.{length-take-le}
-use Rattle.octets.specs.Answers.{Said, gives, refuses, fine}
+use Rattle.octets.specs.Answers.{Said, gives, refuses}
 use Rattle.octets.specs.Arrays.{pad}
 use Rattle.octets.specs.Choice.{if_then_else_, flag, lengthIf}
 use Rattle.octets.specs.Lent.{made}
@@ -29,13 +29,13 @@ use Rattle.address.specs.Writing.{addressOctets, octetsOr}
 use Rattle.address.specs.Address.{addressIn, clearedAddress, textHeld}
 use Rattle.address.proofs.Laws.{address-passed, address-held}
 use Rattle.layout.specs.Demand.{Demand2}
-use Rattle.layout.specs.Layout.{isSet, messageType, reached, halted, read}
+use Rattle.layout.specs.Layout.{isSet, messageType, read}
 use Rattle.validity_period.specs.Validity.{formatOf, periodIn, periodOctets, isAbsolute, timeHolds, periodSize, ofFormat}
 use Rattle.validity_period.specs.declared.ValidityPeriod.{ValidityPeriod}
 use Rattle.validity_period.proofs.Period.{period-size}
 use Rattle.submit.specs.declared.SmsSubmit.{SmsSubmit}
 use Rattle.submit.specs.Layout.{Fields, formatIn, headerSize, inCount}
-use Rattle.submit.specs.Submit.{submitted, submit, firstOf, octetsOf, submitting, headerAnswer, cleared, underived, compared, capitalised, Typed}
+use Rattle.submit.specs.Submit.{submitted, submit, firstOf, submitting, headerAnswer, underived, compared, capitalised, Typed}
 use Rattle.submit.proofs.CheckByCheck.{Passed, all-passed, all-fit}
 use Rattle.submit.proofs.Demand.{made-cleared}
 use Rattle.demands.proofs.SubmitWritten.{ends, written-read}

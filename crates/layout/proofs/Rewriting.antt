@@ -13,8 +13,8 @@ use Rattle.layout.specs.Layout.{Layout, Reached, reached, halted, read, 
 use Rattle.layout.proofs.Demand.{Answers}
 
 -- the answer of a reader's call, and what follows
-module _ {R : Type 0} (blank : R) (write : R → Making (Said ℕ)) (x : Reached R) (buffer : List ℕ) {o : Said Unit} {r : R} (d : _≡_ {A = Said Unit × R} (o, r) (answer blank x)) where
-  pub refused-whole : {why : Refusal} → o ≡ refuses why → _≡_ {A = Said ℕ × List ℕ} (refuses why, buffer) (lend refuses (rewriting write x) buffer)
+module _ {R : Type 0} (blank : R) (write : R → Making (Said ℕ)) (x : Reached R) (buffer : List ℕ) {a : Said Unit × R} (d : a ≡ answer blank x) where
+  pub refused-whole : {why : Refusal} → a .0 ≡ refuses why → _≡_ {A = Said ℕ × List ℕ} (refuses why, buffer) (lend refuses (rewriting write x) buffer)
   unfolding lend
   refused-whole {why} h = by x (sym (ap (λ z. z .0) d) ∙ h)
     where
@@ -22,7 +22,7 @@ module _ {R : Type 0} (blank : R) (write : R → Making (Said ℕ)) (x : Reached
       by (reached q n) e = let z : _≡_ {A = ℕ} 0 1 = cc in absurd (omega arith)
       by (halted w) e = let same : w ≡ why = cc in rw same
 
-  pub written-whole : {w : Said ℕ} {after : List ℕ} → o ≡ fine → _≡_ {A = Said ℕ × List ℕ} (w, after) (lend refuses (write r) buffer) → _≡_ {A = Said ℕ × List ℕ} (w, after) (lend refuses (rewriting write x) buffer)
+  pub written-whole : {w : Said ℕ} {after : List ℕ} → a .0 ≡ fine → _≡_ {A = Said ℕ × List ℕ} (w, after) (lend refuses (write (a .1)) buffer) → _≡_ {A = Said ℕ × List ℕ} (w, after) (lend refuses (rewriting write x) buffer)
   written-whole {w} {after} h e = by x (sym (ap (λ z. z .0) d) ∙ h) (e ∙ ap (λ z. lend refuses (write (z .1)) buffer) d)
     where
       by : (y : Reached R) → answer blank y .0 ≡ fine → _≡_ {A = Said ℕ × List ℕ} (w, after) (lend refuses (write (answer blank y .1)) buffer) → _≡_ {A = Said ℕ × List ℕ} (w, after) (lend refuses (rewriting write y) buffer)

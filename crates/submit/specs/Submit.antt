@@ -1,6 +1,6 @@
 -- SMS-SUBMIT (TS 23.040 §9.2.2.2): the record that its fields make, what its writer makes of a record, and what is no part of one.
 use Prim.Native.Nat.{ℕ, _+_, _-_, _*_}
-use mathlib.Core.Path.{_≡_}
+use mathlib.Core.Path.{_≡_, refl}
 use mathlib.Core.Bool.{Bool, true, false, _&&_}
 use mathlib.Core.List.{List, [], _∷_, _++_}
 use lib.Dec.{eqb, leb}
@@ -15,8 +15,9 @@ use Rattle.coding.specs.Coding.{codingOf, dataChecks, dataWith, dataOf, cleared
 use Rattle.coding.specs.declared.UserData.{UserData}
 use Rattle.coding.specs.declared.UserDataCoding.{UserDataCoding}
 use Rattle.coding.specs.declared.UserDataCoding.the-variants.{Gsm7Bit, EightBit, Ucs2, Compressed}
-use Rattle.septets.specs.Septets.{septetsIn, headerSeptets, fillBits}
-use Rattle.gsm7.specs.Reading.{textOf}
+use Rattle.septets.specs.Septets.{numberOf, lowestDigits, septetsIn, headerSeptets, fillBits}
+use Rattle.gsm7.specs.Alphabet.{character}
+use Rattle.gsm7.specs.Reading.{utf8, textOf, afterEscape}
 use Rattle.time.specs.Time.{timeIn, digitsOf, clearedTime, capitalTime, TypedTime}
 use Rattle.time.specs.declared.Time.{Time}
 use Rattle.address.specs.Address.{addressIn, addressWith, textHeld, clearedAddress, TypedAddress}
@@ -38,6 +39,12 @@ readable Gsm7Bit udl h ud = take h ud ++ textOf (septetsIn (drop h ud) (fillBits
 readable EightBit udl h ud = ud
 readable Ucs2 udl h ud = ud
 readable Compressed udl h ud = ud
+
+-- "A" alone, after the header 05 00 03 01 02 01, and as 8-bit data
+known-readable : (readable Gsm7Bit 1 0 (0x41 ∷ []) ≡ 0x41 ∷ []) × (readable Gsm7Bit 8 6 (0x05 ∷ 0x00 ∷ 0x03 ∷ 0x01 ∷ 0x02 ∷ 0x01 ∷ 0x82 ∷ []) ≡ 0x05 ∷ 0x00 ∷ 0x03 ∷ 0x01 ∷ 0x02 ∷ 0x01 ∷ 0x41 ∷ [])
+    × (readable EightBit 2 2 (0x01 ∷ 0x41 ∷ []) ≡ 0x01 ∷ 0x41 ∷ [])
+unfolding readable textOf afterEscape utf8 character septetsIn numberOf lowestDigits
+known-readable = (refl, refl, refl)
 
 unfoldable pub textWith : List ℕ → SubmitText
 textWith xs = record { octets = pad 510 xs; length = length xs }
@@ -127,7 +134,7 @@ abbrev pub lengthsFit : SmsSubmit → Bool
 lengthsFit r =
     leb (addressLength r) 290 && (leb (digitsLength r) 14 && (leb (r .«tp_user_data_raw» .length) 255 && (leb (headerLength r) 255 && leb (r .«tp_user_data» .length) 510)))
 
--- the first octet: RP bit 7, UDHI 6, SRR 5, VPF 4 and 3, RD 2, and MTI 1
+-- the first octet: MTI 1, RP bit 7, UDHI 6, SRR 5, VPF 4 and 3, RD 2
 abbrev pub firstOf : SmsSubmit → ℕ
 firstOf r = flag (r .«tp_rp») 128 + flag (r .«tp_udhi») 64 + flag (r .«tp_srr») 32 + flag (r .«tp_rd») 4 + 8 * r .«tp_vpf» + 1
 
@@ -138,7 +145,7 @@ octetsOf r =
     firstOf r ∷ r .«tp_mr» ∷ octetsOr [] (addressOctets (to .ton) (to .npi) (textHeld to)) ++ r .«tp_pid» ∷ r .«tp_dcs»
     ∷ periodOctets (r .«tp_validity_period») (digitsOf (r .«validity_period_digits»)) (r .«validity_period_octets») ++ r .«tp_user_data_length» ∷ dataOf (r .«tp_user_data_raw»)
 
--- what the writer makes of a record
+-- what the writer makes of a record: refusals 1, 3, 5 and 6, 7 and 8 of the data, 9 to 11 of the address, and 12
 unfoldable pub submitting : SmsSubmit → Making (Said ℕ)
 submitting r =
     let to = r .«tp_destination_address» in

@@ -66,9 +66,9 @@ abbrev stayed : Stays (this.ended .signature .params) (this.ended .kept)
 stayed = (stay-none-slice (0 ∷ []) tt (plain (λ _. u8)) yes, (stay-none (λ _. usize) yes, tt))
 
 -- a cursor made anew, moved, and read from: the SUBMIT behind so many octets
-found : (s : RefT (List ℕ)) (count : ℕ) (c d : Cursor) {t : SubmitRead} → (c .octets ≡ s) × (c .place ≡ 0) → (d .octets ≡ c .octets) × (d .place ≡ behindPlace (now (c .octets)) (c .place) count) → submitReadSays t ≡ submitFrom (now (d .octets)) (d .place)
+found : (s : RefT (List ℕ)) (count : ℕ) (c d : Cursor) (t : SubmitRead) → (c .octets ≡ s) × (c .place ≡ 0) → (d .octets ≡ c .octets) × (d .place ≡ behindPlace (now (c .octets)) (c .place) count) → submitReadSays t ≡ submitFrom (now (d .octets)) (d .place)
     → submitReadSays t ≡ submitFrom (now s) count
-found s count c d e f h =
+found s count c d t e f h =
     let o : d .octets ≡ s = f .0 ∙ e .0 in
     let p : d .place ≡ behindPlace (now s) 0 count = f .1 ∙ ap (λ (x : RefT (List ℕ)). behindPlace (now x) (c .place) count) (e .0) ∙ ap (λ (n : ℕ). behindPlace (now s) n count) (e .1) in
     h ∙ ap (λ (x : RefT (List ℕ)). submitFrom (now x) (d .place)) o ∙ ap (λ x. (answer blank x, octetsTaken x)) (from-there (now s) count p submit)
@@ -167,7 +167,7 @@ module _ {M : Type 1} (𝓤 : URA M) (H : Heap 𝓤) (A : Atoms 𝓤) (W : Given
         peeks ! S.the-row (Is S.the-row) (shows 𝓤 H A S.the-row) t (w ∷ []) (λ is″. land ! (from ! (stop !)) (init ! 11 refl (lawful S.the-type S′.the-laws 𝓤 H A W .typed t _ is″ .0)) $
         returns ! (look ! 11 refl) $ forget ! 3 refl $ forget ! 5 refl $ forget ! 7 refl $ forget ! 9 refl $ forget ! 11 refl $
         move ! (11 ∷ 12 ∷ []) $ free1 ! $ move ! (9 ∷ 10 ∷ []) $ free1 ! $ move ! (7 ∷ 8 ∷ []) $ free1 ! $ move ! (5 ∷ 6 ∷ []) $ free1 ! $ move ! (3 ∷ 4 ∷ []) $ free1 ! $ free0 ! $
-        by ! (exits t w (found s count c d e f h)))))))))))))))))))
+        by ! (exits t w (found s count c d t e f h)))))))))))))))))))
 
 pub submit-behind-spec : {M : Type 1} → statement M
 unfolding code.routine

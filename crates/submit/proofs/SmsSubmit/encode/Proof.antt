@@ -3,17 +3,15 @@
 use Prim.Native.Nat.{ℕ, _+_, _/_, _≤_}
 use mathlib.Core.Path.{_≡_, sym, ap, _∙_}
 use mathlib.Core.Bool.{true}
-use mathlib.Core.List.{[]}
 use native.Mathlib.Omega.{arith}
 use borrow.Author.Needs.{needs}
 use borrow.Author.Tests.{not-true, not-false}
-use denote.Ref.{now}
 use lib.Dec.{eqb}
-use lib.ListN.{length, take}
+use lib.ListN.{length}
 use lib.Seq.{length-take-le}
 use Rattle.octets.specs.Answers.{gives, refuses, fine, checkedSays}
 use Rattle.octets.specs.Choice.{lengthIf}
-use Rattle.octets.specs.Lent.{made, Wrote}
+use Rattle.octets.specs.Lent.{made}
 use Rattle.octets.proofs.Laws.{lent-refused, lent-short, lent-written}
 use Rattle.coding.specs.Coding.{dataOf}
 use Rattle.time.specs.Time.{digitsOf}
@@ -23,28 +21,12 @@ use Rattle.validity_period.specs.Validity.{formatOf, periodSize, timeHolds}
 use Rattle.submit.specs.declared.SmsSubmit.{SmsSubmit}
 use Rattle.submit.specs.Submit.{addressLength, digitsLength, headerLength, lengthsFit, octetsOf, submitting}
 use Rattle.submit.proofs.CheckByCheck.{checkedUd, checkedAddress, too-long, all-fit, another-type, another-format, no-destination, data-against, address-against, no-time, all-made, all-size, address-counted, time-counted, octets-counted}
-use Rattle.address.proofs.writing.check_address.Reads as check-address-reads
-use Rattle.coding.proofs.check_user_data.Reads as check-user-data-reads
-use Rattle.validity_period.proofs.ValidityPeriod.format.Reads as format-reads
-use Rattle.validity_period.proofs.check_period.Reads as check-period-reads
-use Rattle.validity_period.proofs.validity_octets.Reads as validity-octets-reads
-use Rattle.submit.proofs.length_if.Reads as length-if-reads
-use Rattle.submit.proofs.writing.flags.Reads as flags-reads
-use Rattle.submit.proofs.writing.put_fields.Reads as put-fields-reads
-use Rattle.submit.proofs.SmsSubmit.encode.Reads as reads
-use Rattle.submit.proofs.SmsSubmit.encode.Lts as lts
 use Rattle.submit.proofs.SmsSubmit.encode.Statement.{statement}
 use Rattle.submit.proofs.SmsSubmit.encode.Tie as tie
 
-abbrev calls : lts.Claims
-calls = (format-reads.Asked, format-reads.Learnt, length-if-reads.Asked, length-if-reads.Learnt, check-user-data-reads.Asked, check-user-data-reads.Learnt, check-address-reads.Asked, check-address-reads.Learnt, check-period-reads.Asked, check-period-reads.Learnt, validity-octets-reads.Asked, validity-octets-reads.Learnt, flags-reads.Asked, flags-reads.Learnt, put-fields-reads.Asked, put-fields-reads.Learnt)
-
 -- ---- the lengths that count
 
-abbrev Measured : Type 0
-Measured = lts.After-length-if3 calls reads.Pre reads.Post
-
-module _ (c : Measured) where
+module _ (c : tie.After-length-if3) where
   abbrev measured : SmsSubmit
   measured = c .before .before .before .before .before .args .self
 
@@ -58,16 +40,13 @@ module _ (c : Measured) where
   header-length = c .length-if3 .ensures
 
 -- the lengths of the record's arrays
-arrays : (c : lts.Start calls reads.Pre reads.Post) → let r = c .args .self in
+arrays : (c : tie.Start) → let r = c .args .self in
     (length (r .«tp_destination_address» .address) ≡ 290) × (length (r .«validity_period_digits» .digits) ≡ 14) × (length (r .«validity_period_octets») ≡ 7) × (length (r .«tp_user_data_raw» .octets) ≡ 255)
 arrays c = (search needs, search needs, search needs, search needs)
 
 -- ---- where they pass no array
 
-abbrev Fits : Type 0
-Fits = lts.Else1 calls reads.Pre reads.Post
-
-module _ (c : Fits) where
+module _ (c : tie.Else1) where
   abbrev message : SmsSubmit
   message = measured (c .before)
 
@@ -88,11 +67,8 @@ module _ (c : Fits) where
 
 -- ---- where type, format and destination are right
 
-abbrev Begun : Type 0
-Begun = lts.Else4 calls reads.Pre reads.Post
-
-module _ (c : Begun) where
-  abbrev fits : Fits
+module _ (c : tie.Else4) where
+  abbrev fits : tie.Else1
   fits = c .before .before .before .before .before .before .before .before .before .before .before .before .before
 
   mti-is : message fits .«tp_mti» ≡ 1
@@ -105,19 +81,16 @@ module _ (c : Begun) where
   there = not-false _ (c .if4 .left)
 
 -- what the checks of user data and address say of the record
-data-said : (c : lts.After-check-user-data calls reads.Pre reads.Post) → checkedUd (message (fits (c .before))) ≡ checkedSays (c .check-user-data .result)
+data-said : (c : tie.After-check-user-data) → checkedUd (message (fits (c .before))) ≡ checkedSays (c .check-user-data .result)
 data-said c = rw (data-size (fits (c .before))) (sym (c .check-user-data .ensures))
 
-address-said : (c : lts.After-check-address calls reads.Pre reads.Post) → checkedAddress (message (fits (c .before .before .before .before))) ≡ addressCheckSays (c .check-address .result)
+address-said : (c : tie.After-check-address) → checkedAddress (message (fits (c .before .before .before .before))) ≡ addressCheckSays (c .check-address .result)
 address-said c = let b = c .before .before .before .before in address-counted (message (fits b)) (there b) (address-length (fits b .before)) (sym (c .check-address .ensures))
 
 -- ---- where both have passed
 
-abbrev Passed : Type 0
-Passed = lts.After-known-told3 calls reads.Pre reads.Post
-
-module _ (c : Passed) where
-  abbrev begun : Begun
+module _ (c : tie.After-known-told3) where
+  abbrev begun : tie.Else4
   begun = c .before .before .before .before .before .before .before
 
   abbrev sent : SmsSubmit
@@ -141,7 +114,7 @@ module _ (c : Passed) where
     has-size = all-size sent (fit (fits begun)) (mti-is begun) (format-is begun) (there begun) data-fine address-fine t (arrays (fits begun .before .before .before .before .before .before) .2) ∙ rw (data-size (fits begun))
 
 -- the digits that count decide
-time-held : (c : lts.After-check-period calls reads.Pre reads.Post) → timeHolds (sent (c .before) .«tp_validity_period») (digitsOf (sent (c .before) .«validity_period_digits»)) ≡ c .check-period .result
+time-held : (c : tie.After-check-period) → timeHolds (sent (c .before) .«tp_validity_period») (digitsOf (sent (c .before) .«validity_period_digits»)) ≡ c .check-period .result
 time-held c = time-counted (sent (c .before)) (digits-length (fits (begun (c .before)) .before)) ∙ sym (c .check-period .ensures)
 
 returns-6 : tie.Need-returns-6
