@@ -1,4 +1,5 @@
-// The requests that name no kind of message: text packed and unpacked, addresses, codings, times and header elements.
+// The requests that name no kind of message: text packed, sent in parts and unpacked, addresses, codings, times and
+// header elements.
 use crate::elements;
 use crate::fields;
 use crate::fields::Lent;
@@ -24,18 +25,20 @@ const PACK: usize = 2;
 
 const PACK_HEADER: usize = 3;
 
-const ADDRESS: usize = 4;
+const PARTS: usize = 4;
 
-const CODING: usize = 5;
+const ADDRESS: usize = 5;
 
-const DIGITS: usize = 6;
+const CODING: usize = 6;
 
-const ELEMENTS: usize = 7;
+const DIGITS: usize = 7;
 
-const WRITE_ELEMENTS: usize = 8;
+const ELEMENTS: usize = 8;
+
+const WRITE_ELEMENTS: usize = 9;
 
 // How many there are; as a request's number it says that there is no such request.
-pub const REQUESTS: usize = 9;
+pub const REQUESTS: usize = 10;
 
 // The number of the request with a name.
 pub fn request_named(name: &[u8]) -> usize {
@@ -44,6 +47,7 @@ pub fn request_named(name: &[u8]) -> usize {
         unpack-header\n\
         pack\n\
         pack-header\n\
+        parts\n\
         address\n\
         coding\n\
         digits\n\
@@ -54,7 +58,7 @@ pub fn request_named(name: &[u8]) -> usize {
 
 // The reason against the line of a request; `request_line::values::has_form` says which form each letter stands for.
 pub fn against_request(request: usize, line: &[u8]) -> usize {
-    let forms = b"wco\nwco\nwo\nwoo\nwnno\nwx\nwnnnnnnz\nwo\nwe\n";
+    let forms = b"wco\nwco\nwo\nwoo\nwxo\nwnno\nwd\nwnnnnnnz\nwo\nwe\n";
     reasons::against_fields(entry(forms, request), line)
 }
 
@@ -83,13 +87,19 @@ fn unpack_header(octets: &[u8], septets: usize, show: bool, out: &mut Output, at
     unless_refused(out, at, p2, outcome, show)
 }
 
+// A number after its name, and octets that were written.
+fn number_and_octets(out: &mut Output, at: usize, name: &[u8], n: usize, octets: &[u8]) -> usize {
+    let p1 = output::put(out, at, name);
+    let p2 = output::put_decimal(out, p1, n as u64);
+    fields::octets(out, p2, b" octets=", octets)
+}
+
 // What a packer answered, and the octets that it wrote.
 fn packed(p: Packed, lent: &Lent, show: bool, out: &mut Output, at: usize) -> usize {
     let outcome = p.outcome;
-    let p1 = output::put(out, at, b"ok septets=");
-    let p2 = output::put_decimal(out, p1, p.septets as u64);
-    let p3 = fields::octets(out, p2, b" octets=", between(lent, 0, p.octets));
-    unless_refused(out, at, p3, outcome, show)
+    let octets = between(lent, 0, p.octets);
+    let next = number_and_octets(out, at, b"ok septets=", p.septets, octets);
+    unless_refused(out, at, next, outcome, show)
 }
 
 fn pack(octets: &[u8], show: bool, out: &mut Output, at: usize) -> usize {
@@ -104,6 +114,17 @@ fn pack_header(line: &[u8], octets: &[u8], show: bool, out: &mut Output, at: usi
     let mut lent = [0u8; 255];
     let p = tpdu::pack_gsm7_with_header(between(&header, 0, n), octets, &mut lent);
     packed(p, &lent, show, out, at)
+}
+
+// The messages of a text. A line holds at most 4,091 octets of text, which are at most 8,182 septets, in 54 parts.
+fn parts(line: &[u8], octets: &[u8], show: bool, out: &mut Output, at: usize) -> usize {
+    let reference = values::octet_of(field(line, 1));
+    let mut lent = [0u8; 8192];
+    let sent = tpdu::pack_gsm7_concatenated(octets, reference, &mut lent);
+    let outcome = sent.outcome;
+    let written = between(&lent, 0, sent.octets);
+    let next = number_and_octets(out, at, b"ok messages=", sent.messages, written);
+    unless_refused(out, at, next, outcome, show)
 }
 
 // ---- addresses, codings and times
@@ -171,6 +192,7 @@ pub fn answer(
         UNPACK_HEADER => unpack_header(octets, count(line), show, out, at),
         PACK => pack(octets, show, out, at),
         PACK_HEADER => pack_header(line, octets, show, out, at),
+        PARTS => parts(line, octets, show, out, at),
         ADDRESS => address(line, show, out, at),
         CODING => coding(line, out, at),
         DIGITS => digits(line, show, out, at),

@@ -67,7 +67,7 @@ settled codes count none = none
 settled codes count (some ss) = some (sets codes count ss, count + length ss)
 
 -- an entry has one septet or two
-entry-few : (e : Entry) → (1 ≤ length (septetsFor e)) × (length (septetsFor e) ≤ 2)
+pub entry-few : (e : Entry) → (1 ≤ length (septetsFor e)) × (length (septetsFor e) ≤ 2)
 entry-few (plain code h n) = omega arith
 entry-few (extended place h) = omega arith
 

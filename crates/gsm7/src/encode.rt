@@ -9,7 +9,7 @@ ghost use Rattle.gsm7.specs.Internal.{codeSays, scalarSays, Codes, Scann
 use crate::decode::GSM7_ESCAPE;
 
 // The code of each character below 100 that is in the default alphabet; FF for the others.
-const CODES: [u8; 256] = [
+pub const CODES: [u8; 256] = [
     0xFF,
     0xFF,
     0xFF,
@@ -398,7 +398,7 @@ fn three_octets(a: u16, b: u16, d: u16) -> Scalar
 }
 
 // The character that starts at `at`.
-fn character_at(text: &[u8], at: usize) -> Scalar
+pub fn character_at(text: &[u8], at: usize) -> Scalar
     requires { ⌜ at < length (now text) ⌝ }
     ensures { λ r. ⌜ scalarSays r ≡ firstCharacter (drop at (now (text .entry))) ⌝ }
 {
@@ -427,7 +427,7 @@ fn add(codes: &mut [u8; 255], count: usize, code: u8) -> usize
 }
 
 // Stores the septets of a character after `count` others; their number with these, `count` itself where it has none.
-fn add_character(table: &[u8; 256], codes: &mut [u8; 255], count: usize, c: u16) -> usize
+pub fn add_character(table: &[u8; 256], codes: &mut [u8; 255], count: usize, c: u16) -> usize
     requires { ⌜ Codes (now table) × (count + 2 < 2 ^ 64) × (length (now codes) ≡ 255) ⌝ }
     ensures { λ r. ⌜ Wrote count (stored (codeOf c)) (now (codes .entry)) r (now (codes .exit)) ⌝ }
 {

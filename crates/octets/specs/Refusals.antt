@@ -1,7 +1,7 @@
 -- The refusals, by the number that document 01 gives each ("Refused, by number"), and document 02 from 24 on.
 use Prim.Native.Nat.{ℕ}
 use Rattle.octets.specs.declared.Refusal.{Refusal}
-use Rattle.octets.specs.declared.Refusal.the-variants.{LengthTooLarge, OctetsEnd, WrongMessageType, UdhiTooLarge, ValidityFormatDisagrees, NoDestination, UserDataLengthDisagrees, UserDataTooLong, NumberTypeOrPlanTooLarge, NotInAlphabet, AddressTooLong, NotATime, IndicatorDisagrees, IndicatorExtended, UserDataWithoutLength, ParametersWithoutIndicator, HeaderNotWhole, HeaderPassesCount, TooFewOctets, CalendarOutOfRange, ZoneOutOfRange, TooManySeptets, OutputTooShort, ElementPassesHeader, ElementsTooLong}
+use Rattle.octets.specs.declared.Refusal.the-variants.{LengthTooLarge, OctetsEnd, WrongMessageType, UdhiTooLarge, ValidityFormatDisagrees, NoDestination, UserDataLengthDisagrees, UserDataTooLong, NumberTypeOrPlanTooLarge, NotInAlphabet, AddressTooLong, NotATime, IndicatorDisagrees, IndicatorExtended, UserDataWithoutLength, ParametersWithoutIndicator, HeaderNotWhole, HeaderPassesCount, TooFewOctets, CalendarOutOfRange, ZoneOutOfRange, TooManySeptets, OutputTooShort, ElementPassesHeader, ElementsTooLong, TooManyParts}
 
 abbrev pub refusalNumber : Refusal → ℕ
 -- a record's length field passes its array, or a text reader's count passes 255
@@ -54,3 +54,5 @@ refusalNumber OutputTooShort = 23
 refusalNumber ElementPassesHeader = 24
 -- elements to be written need more than 255 octets after the first
 refusalNumber ElementsTooLong = 25
+-- no cutting into at most 255 parts exists
+refusalNumber TooManyParts = 26

@@ -37,6 +37,7 @@ pub enum Refusal {
     OutputTooShort,
     ElementPassesHeader,
     ElementsTooLong,
+    TooManyParts,
 }
 
 impl Refusal {
@@ -70,6 +71,7 @@ impl Refusal {
             Refusal::OutputTooShort => 23,
             Refusal::ElementPassesHeader => 24,
             Refusal::ElementsTooLong => 25,
+            Refusal::TooManyParts => 26,
         }
     }
 }

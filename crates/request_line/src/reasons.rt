@@ -57,9 +57,8 @@ pub fn put_bad(out: &mut Output, at: usize, reason: usize) -> usize {
 // The reason against a field that has not its form.
 fn against_form(form: u8) -> usize {
     match form {
-        b'o' => OCTETS,
-        b'e' => OCTETS,
-        b'x' => CODING,
+        b'o' | b'x' | b'e' => OCTETS,
+        b'd' => CODING,
         _ => NUMBER,
     }
 }

@@ -115,8 +115,8 @@ fn is_period(value: &[u8]) -> bool {
 }
 
 // Whether a value has the form that a letter stands for: w a word, any; f a flag; n a number to 255; c a number of up
-// to nine digits; z a zone; x an octet; o octets; e header elements; t a time; p a validity period; - absent; N and X: n
-// and x, or absent.
+// to nine digits; z a zone; x an octet; d a coding, which is an octet too; o octets; e header elements; t a time; p a
+// validity period; - absent; N and X: n and x, or absent.
 pub fn has_form(form: u8, value: &[u8]) -> bool {
     match form {
         b'w' => true,
@@ -125,7 +125,7 @@ pub fn has_form(form: u8, value: &[u8]) -> bool {
         b'N' => decimal(value) < 256 || is_absent(value),
         b'c' => decimal(value) < NO_NUMBER,
         b'z' => is_zone(value),
-        b'x' => is_octet(value),
+        b'x' | b'd' => is_octet(value),
         b'X' => is_octet(value) || is_absent(value),
         b'o' => is_octets(value),
         b'e' => is_elements(value),

@@ -25,6 +25,7 @@ unpack COUNT HEX             the text of so many septets
 unpack-header COUNT HEX      the same after a header
 pack HEX                     the septets of a text, which is given as UTF-8
 pack-header HEX HEX          the same after a header
+parts REF HEX                a text as one message, or in parts with this reference
 address TON NPI HEX          the octets of an address
 coding DCS                   the coding of user data
 digits Y M D H M S Z         the digits of a time

@@ -11,6 +11,8 @@ pub use canonical::canonical_submit_report_error;
 pub use coding::UserData;
 pub use coding::UserDataCoding;
 pub use coding::user_data_coding;
+pub use concatenation::Concatenated;
+pub use concatenation::pack_gsm7_concatenated;
 pub use cursor::Cursor;
 pub use cursor::from_place::OctetRead;
 pub use cursor::submit_behind;

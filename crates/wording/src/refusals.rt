@@ -1,5 +1,5 @@
 // The refusals in words: the name of each, and what it means. In the lists a refusal stands at its number:
-// place 0 is empty, since no refusal has that number, and so are places 26 to 36, whose refusals are not here yet.
+// place 0 is empty, since no refusal has that number, and so are 27 to 36, whose refusals are not here yet.
 use output::Output;
 use text_fields::lists::entry;
 use tpdu::Outcome;
@@ -40,7 +40,7 @@ fn put_name(out: &mut Output, at: usize, refusal: u8) -> usize {
         OutputTooShort\n\
         ElementPassesHeader\n\
         ElementsTooLong\n\
-        \n\
+        TooManyParts\n\
         \n\
         \n\
         \n\
@@ -82,7 +82,7 @@ fn put_meaning(out: &mut Output, at: usize, refusal: u8) -> usize {
         A lent output is too short\n\
         An element passes the header's end, or a lone identifier octet is left\n\
         Elements to be written need more than 255 octets after the first\n\
-        \n\
+        No cutting of the text into at most 255 parts exists\n\
         \n\
         \n\
         \n\

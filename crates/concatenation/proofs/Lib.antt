@@ -1,0 +1,11 @@
+pub mod Escapes
+pub mod Taken
+pub mod InTurn
+pub mod Texts
+pub mod Laws
+pub mod Sizes
+pub mod ReadBack
+pub mod Known
+pub mod Storing
+pub mod Counting
+pub mod Putting
