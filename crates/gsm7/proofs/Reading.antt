@@ -14,7 +14,7 @@ use Rattle.octets.specs.Lent.{Wrote}
 use Rattle.octets.specs.declared.Refusal.the-variants.{LengthTooLarge, TooFewOctets}
 use Rattle.octets.specs.Answers.{fine}
 use Rattle.octets.proofs.Laws.{sets-zeros}
-use Rattle.septets.specs.Septets.{numberOf, lowestDigits, septetAt, septetsIn, octetCount}
+use Rattle.septets.specs.Septets.{numberOf, lowestDigits, septetFrom, septetAt, septetsIn, octetCount}
 use Rattle.septets.proofs.Number.{digits-step}
 use Rattle.gsm7.specs.Alphabet.{character, escaped}
 use Rattle.gsm7.specs.Reading.{utf8, textOf, afterEscape, SaidText, textGiven, textRefused, unpacked}
@@ -24,7 +24,7 @@ septetsFrom : List ℕ → ℕ → ℕ → ℕ → List ℕ
 septetsFrom os f k n = lowestDigits 7 n (numberOf 8 os / 2 ^ (f + k * 7))
 
 septets-step : (os : List ℕ) (f k n : ℕ) → septetsFrom os f k (suc n) ≡ septetAt os f k ∷ septetsFrom os f (suc k) n
-unfolding septetsFrom septetAt
+unfolding septetsFrom septetFrom
 septets-step os f k n =
     let e : f + k * 7 + 7 ≡ f + suc k * 7 = omega arith in
     rw (digits-step, e)
@@ -64,7 +64,7 @@ module _ (os : List ℕ) (f n i : ℕ) where
         rw (e, septets-step, septets-none, ← is, eq-eqb k 0x1b p)
 
 pub septet-small : (os : List ℕ) (f k : ℕ) → septetAt os f k < 128
-unfolding septetAt
+unfolding septetFrom
 septet-small os f k = omega arith
 
 -- the rest at the start is the whole

@@ -10,6 +10,7 @@ ghost use Rattle.septets.specs.Septets.{septetsIn};
 ghost use Rattle.gsm7.specs.Reading.{utf8, textOf, unpackedSays, textGiven, textRefused, unpacked};
 use octets::Outcome;
 use octets::Refusal;
+use septets::BitPlace;
 
 pub const GSM7_ESCAPE: u8 = 0x1B;
 
@@ -260,14 +261,20 @@ pub fn unpack_septets(data: &[u8], fill: usize, septets: usize, text: &mut [u8],
     let alphabet = ALPHABET;
     let mut end = at;
     let mut consumed = 0;
+    let mut place = BitPlace {
+        octet: 0,
+        shift: fill,
+    };
     while consumed < septets {
-        let code = septets::septet_at(data, fill, consumed);
+        let code = place.septet(data);
+        place = place.next();
         if code == GSM7_ESCAPE {
             if consumed + 1 == septets {
                 end = put(text, end, 0x20);
                 break;
             }
-            let next = septets::septet_at(data, fill, consumed + 1);
+            let next = place.septet(data);
+            place = place.next();
             end = put(text, end, escaped_character(&alphabet, next));
             consumed += 2;
         } else {

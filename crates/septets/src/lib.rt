@@ -4,7 +4,7 @@ ghost use Prim.Native.Nat.{_+_, _*_, _/_, _%_, _^_, _<_, _≤_};
 ghost use mathlib.Core.List.{[], _∷_};
 ghost use lib.ListN.{length, getD};
 ghost use Rattle.octets.specs.Lent.{Wrote};
-ghost use Rattle.septets.specs.Septets.{Digits, septetAt, octetCount, packedSeptets, headerSeptets};
+ghost use Rattle.septets.specs.Septets.{Digits, bitPlace, bitOf, septetFrom, octetCount, packedSeptets, headerSeptets};
 
 // The octet at `at`, 0 past the end.
 pub fn octet_or_zero(octets: &[u8], at: usize) -> u16
@@ -17,18 +17,42 @@ pub fn octet_or_zero(octets: &[u8], at: usize) -> u16
     }
 }
 
-// The septet at `index`, counting from `fill` bits into `octets`.
-pub fn septet_at(octets: &[u8], fill: usize, index: usize) -> u8
-    requires { ⌜ (fill < 8) × (index < 256) ⌝ }
-    ensures { λ r. ⌜ r ≡ septetAt (now (octets .entry)) fill index ⌝ }
-{
-    let bit = fill + index * 7;
-    let at = bit / 8;
-    let shift = bit % 8;
-    let low = octet_or_zero(octets, at);
-    let high = octet_or_zero(octets, at + 1);
-    let pair = high * 256 + low;
-    ((pair >> shift) % 128) as u8
+// A place in the bits of octets: the octet, and the bit in it.
+pub struct BitPlace {
+    pub octet: usize,
+    pub shift: usize,
+}
+
+impl BitPlace {
+    // The place seven bits on.
+    pub fn next(self) -> BitPlace
+        requires { ⌜ (self .octet ≤ 255) × (self .shift < 8) ⌝ }
+        ensures { λ r. ⌜ r ≡ bitPlace (bitOf self + 7) ⌝ }
+    {
+        let octet = self.octet;
+        let following = octet + 1;
+        let shift = self.shift;
+        if shift == 0 {
+            return BitPlace { octet, shift: 7 };
+        }
+        BitPlace {
+            octet: following,
+            shift: shift - 1,
+        }
+    }
+
+    // The septet that starts at the place.
+    pub fn septet(self, octets: &[u8]) -> u8
+        requires { ⌜ (self .octet ≤ 255) × (self .shift < 8) ⌝ }
+        ensures { λ r. ⌜ r ≡ septetFrom (now (octets .entry)) (bitOf self) ⌝ }
+    {
+        let at = self.octet;
+        let shift = self.shift;
+        let low = octet_or_zero(octets, at);
+        let high = octet_or_zero(octets, at + 1);
+        let pair = high * 256 + low;
+        ((pair >> shift) % 128) as u8
+    }
 }
 
 // The septets that a user-data header of so many octets takes, fill bits included (TS 23.040 §9.2.3.24).
