@@ -3,9 +3,9 @@
 use Prim.Native.Nat.{ℕ, zero, suc, _+_, _*_, _/_, _%_, _^_, _<_, _≤_, _-_}
 use mathlib.Core.Path.{_≡_, refl, sym, _∙_, ap}
 use mathlib.Core.List.{List, [], _∷_}
-use native.Mathlib.Nat.{zero-div, zero-mod, div-one, add-zero, mul-zero, mul-suc, add-comm, div-add-mod, mod-lt, mul-one, mul-assoc, sub-zero}
+use native.Mathlib.Nat.{mod-one, add-assoc, zero-div, zero-mod, div-one, add-zero, mul-zero, mul-suc, add-comm, div-add-mod, mod-lt, mul-one, mul-assoc, sub-zero}
 use native.Mathlib.Omega.{arith}
-use lib.ListN.{length, getD, drop}
+use lib.ListN.{length, getD, take, drop}
 use lib.Pow.{shl-shr, pow-add, field, mod-mod-pow, mod-pow-add, shr-shr, high, low, pow-pos}
 use lib.Seq.{getD-drop}
 use Rattle.septets.specs.Septets.{numberOf, lowestDigits, Digits}
@@ -34,6 +34,14 @@ module _ (w : ℕ) where
       let e : numberOf w ds / 2 ^ w ≡ numberOf w (drop 1 ds) = rw mul-one at (number-drop 1 ds h) in
       rw (mod-pow-add, number-one ds h, e, number-one (drop 1 ds) (digits-drop 1 ds h), getD-drop 1 ds 0 0)
 
+  -- the number of its n lowest digits
+  number-take : (n : ℕ) (ds : List ℕ) → Digits w ds → numberOf w (take n ds) ≡ numberOf w ds % 2 ^ (w * n)
+  unfolding numberOf
+  number-take zero ds h = rw mul-zero (sym (mod-one _))
+  number-take (suc n) [] h = sym (zero-mod _)
+  number-take (suc n) (d ∷ ds) h =
+      rw (mul-suc, mod-pow-add, low (numberOf w ds) w (h 0), high (numberOf w ds) w (h 0), ← number-take n ds (λ i. h (suc i)))
+
 -- bits s to s + v - 1 of a number depend on its u lowest, u at least s + v
 low-bits : (x s v u : ℕ) → v + s ≤ u → x / 2 ^ s % 2 ^ v ≡ x % 2 ^ u / 2 ^ s % 2 ^ v
 low-bits x s v u h =
@@ -52,6 +60,16 @@ in-two w v pos wide ds h b =
     from i s hs =
         rw
         (← shr-shr, number-drop w i ds h, low-bits (numberOf w (drop i ds)) s v (w + w) hs, number-two w (drop i ds) (digits-drop w i ds h), getD-drop i ds 1 0, getD-drop i ds 0 0, add-zero)
+
+-- v bits from bit b + k on lie in the n digits from that of bit b on
+pub in-window : (w v n : ℕ) → (ds : List ℕ) → Digits w ds → (b k : ℕ) → v + (b % w + k) ≤ w * n
+    → numberOf w ds / 2 ^ (b + k) % 2 ^ v ≡ numberOf w (take n (drop (b / w) ds)) / 2 ^ (b % w) / 2 ^ k % 2 ^ v
+in-window w v n ds h b k wide =
+    let i = b / w in
+    let s = b % w in
+    let e : w * i + (s + k) ≡ b + k = sym (add-assoc _ _ _) ∙ ap (λ (x : ℕ). x + k) (div-add-mod b w) in
+    ap (λ (x : ℕ). numberOf w ds / 2 ^ x % 2 ^ v) (sym e)
+    ∙ rw (← shr-shr, number-drop w i ds h, shr-shr, number-take w n (drop i ds) (digits-drop w i ds h)) (low-bits (numberOf w (drop i ds)) (s + k) v (w * n) wide)
 
 -- one digit more
 pub digits-step : (w n x k : ℕ) → lowestDigits w (suc n) (x / 2 ^ k) ≡ x / 2 ^ k % 2 ^ w ∷ lowestDigits w n (x / 2 ^ (k + w))

@@ -43,6 +43,15 @@ bitPlace bit = record { octet = bit / 8; shift = bit % 8 }
 abbrev pub bitOf : BitPlace → ℕ
 bitOf p = p .octet * 8 + p .shift
 
+-- the place k septets on, one after the other
+unfoldable pub placeAfter : BitPlace → ℕ → BitPlace
+placeAfter p zero = p
+placeAfter p (suc k) = bitPlace (bitOf (placeAfter p k) + 7)
+
+-- a septet of a window of bits
+abbrev pub inWindow : ℕ → ℕ → ℕ
+inWindow window index = window / 2 ^ (index * 7) % 2 ^ 7
+
 -- the septets packed after f zero bits, with zero bits to the octet
 unfoldable pub packedSeptets : ℕ → List ℕ → List ℕ
 packedSeptets f ss = lowestDigits 8 (octetCount f (length ss)) (numberOf 7 ss * 2 ^ f)

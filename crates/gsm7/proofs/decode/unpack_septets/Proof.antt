@@ -1,18 +1,23 @@
--- `gsm7::decode::unpack_septets` meets its contract: the text of the septets that are left, stored too, still gives the whole; and at each septet octet and shift are quotient and remainder of its bit place by 8.
+-- `gsm7::decode::unpack_septets` meets its contract: the text of the septets that are left, stored too, still gives the whole; and at each septet octet and shift are quotient and remainder of its bit place by 8, by the loop's invariant for the first septet of a step and by `places-here` for each one after it.
 -- Assumes nothing.
 use Prim.Native.Nat.{ℕ, _+_, _*_, _-_, _<_, _≤_}
 use mathlib.Core.Path.{_≡_, refl, sym, ap, _∙_}
+use mathlib.Core.Bool.{true}
 use mathlib.Core.List.{List, [], _++_, append-nil}
+use native.Mathlib.Nat.{add-zero}
 use native.Mathlib.Omega.{arith}
+use borrow.Author.Tests.{leb-true}
 use denote.Ref.{now}
 use lib.ListN.{length}
 use lib.Seq.{sets}
+use Rattle.octets.proofs.Choice.{and-true}
 use Rattle.octets.proofs.Laws.{Left, left-start, left-step, left-end, left-fits, kept-by}
-use Rattle.septets.specs.Septets.{septetsIn, septetAt, bitPlace}
-use Rattle.septets.proofs.BitPlaces.{place-is, septet-here, next-here, place-small}
+use Rattle.septets.specs.Septets.{septetsIn, septetAt, bitPlace, placeAfter, inWindow}
+use Rattle.septets.proofs.BitPlaces.{place-is, places-here, septet-after, next-here, place-small}
 use Rattle.gsm7.specs.Alphabet.{character, escaped}
+use Rattle.gsm7.specs.Internal.{fourPlain, fourCharacters}
 use Rattle.gsm7.specs.Reading.{utf8, textOf}
-use Rattle.gsm7.proofs.Reading.{rest, rest-done, rest-plain, rest-escape, rest-last, rest-start, septet-small}
+use Rattle.gsm7.proofs.Reading.{rest, rest-done, rest-plain, rest-four, rest-escape, rest-last, rest-start, septet-small}
 use Rattle.gsm7.proofs.decode.unpack_septets.Statement.{statement}
 use Rattle.gsm7.proofs.decode.unpack_septets.Tie as tie
 
@@ -33,94 +38,95 @@ small os f i e = rw e (septet-small os f i)
 abbrev from : tie.Start Inv-loop μ-loop → ℕ → List ℕ
 from s i = let a = s .args in rest (now (a .«data»)) (a .fill) (a .septets) i
 
--- a septet is read, and the place moved
-module _ (c : tie.After-next Inv-loop μ-loop) where
+-- the place of the first septet of a step is one that can be moved
+here-small : (c : tie.In-loop Inv-loop μ-loop) → let p = c .before .loop .place in (p .octet ≤ 255) × (p .shift < 8)
+here-small c = place-small _ _ (c .before .loop .inv .3) (c .before .before .before .before .pre .0) (omega arith)
+
+-- a window is read, and its first septet
+module _ (c : tie.After-septet-in Inv-loop μ-loop) where
   abbrev start : tie.Start Inv-loop μ-loop
   start = c .before .before .before .before .before .before
 
+  abbrev at-loop : tie.At-loop Inv-loop μ-loop
+  at-loop = c .before .before .before
+
   abbrev index : ℕ
-  index = c .before .before .before .loop .consumed
+  index = at-loop .loop .consumed
 
-  first : c .before .septet .result ≡ septetAt (now (start .args .«data»)) (start .args .fill) index
-  first = septet-here _ _ (c .before .before .before .loop .inv .3) _ (c .before .septet .ensures)
+  -- each septet of it is the one at its place
+  windowed : (k : ℕ) → k < 8 → inWindow (c .before .window .result) k ≡ septetAt (now (start .args .«data»)) (start .args .fill) (index + k)
+  windowed k h = septet-after _ _ (at-loop .loop .inv .3) _ k (c .before .window .ensures k h)
 
-  moved : c .next .result ≡ bitPlace (start .args .fill + (index + 1) * 7)
-  moved = next-here _ _ (c .before .before .before .loop .inv .3) (c .next .ensures)
+  first : c .septet-in .result ≡ septetAt (now (start .args .«data»)) (start .args .fill) index
+  first = c .septet-in .ensures ∙ rw add-zero at (windowed 0 (omega arith))
 
--- and the septet after it
-module _ (c : tie.After-next2 Inv-loop μ-loop) where
-  abbrev after-first : tie.After-next Inv-loop μ-loop
-  after-first = c .before .before .before .before
-
-  second : c .before .septet2 .result ≡ septetAt (now (start after-first .args .«data»)) (start after-first .args .fill) (index after-first + 1)
-  second = septet-here _ _ (moved after-first) _ (c .before .septet2 .ensures)
-
-  moved-twice : c .next2 .result ≡ bitPlace (start after-first .args .fill + (index after-first + 2) * 7)
-  moved-twice =
-      let e : start after-first .args .fill + (index after-first + 1 + 1) * 7 ≡ start after-first .args .fill + (index after-first + 2) * 7 = omega arith in
-      next-here _ _ (moved after-first) (c .next2 .ensures) ∙ ap bitPlace e
+  -- what is stored next fits
+  fits : (xs more : List ℕ) → from start index ≡ xs ++ more → at-loop .loop .end + length xs ≤ length (at-loop .loop .text)
+  fits xs more e = left-fits xs more (at-loop .loop .inv .2) e (omega (arith, at-loop .loop .inv .1, start .pre .2))
 
 -- what is left starts with the character of a septet
 plain-next : (c : tie.Else1 Inv-loop μ-loop)
-    → from (start (c .before)) (index (c .before)) ≡ utf8 (character (c .before .before .septet .result)) ++ from (start (c .before)) (index (c .before) + 1)
+    → let s = c .before in from (start s) (index s) ≡ utf8 (character (s .septet-in .result)) ++ from (start s) (index s + 1)
 plain-next c = rest-plain _ _ _ _ (first (c .before)) (c .before .before .before .loop-test .taken) (c .if1 .left)
 
+-- of four plain septets
+module _ (c : tie.Then3 Inv-loop μ-loop) where
+  abbrev four-read : tie.After-septet-in Inv-loop μ-loop
+  four-read = c .before .before .before .before
+
+  tested : (index four-read + 4 ≤ start four-read .args .septets) × (fourPlain (four-read .before .window .result) ≡ true)
+  tested = let t = and-true _ _ (c .if3 .taken) in (leb-true _ _ (t .0), sym (c .before .four-plain .ensures) ∙ t .1)
+
+  four-next : from (start four-read) (index four-read) ≡ fourCharacters (four-read .before .window .result) ++ from (start four-read) (index four-read + 4)
+  four-next = rest-four _ _ _ _ _ (windowed four-read) (tested .0) (tested .1)
+
 -- of an escape and its code
+second : (c : tie.After-septet-in2 Inv-loop μ-loop)
+    → let s = c .before .before .before in c .septet-in2 .result ≡ septetAt (now (start s .args .«data»)) (start s .args .fill) (index s + 1)
+second c = c .septet-in2 .ensures ∙ windowed (c .before .before .before) 1 (omega arith)
+
 escape-next : (c : tie.After-escaped-character Inv-loop μ-loop)
-    → let s = after-first (c .before .before .before) in from (start s) (index s) ≡ utf8 (c .escaped-character .result) ++ from (start s) (index s + 2)
+    → let s = c .before .before .before .before .before .before in from (start s) (index s) ≡ utf8 (c .escaped-character .result) ++ from (start s) (index s + 2)
 escape-next c =
     let n = c .before .before .before in
-    rest-escape _ _ _ _ (first (after-first n)) (omega (arith, n .before .before .if2 .left)) (n .before .before .before .if1 .taken) (second n) (c .escaped-character .ensures)
+    rest-escape _ _ _ _ (first (n .before .before .before)) (omega (arith, n .before .if2 .left)) (n .before .before .if1 .taken) (second n) (c .escaped-character .ensures)
 
 -- of an escape that is the last septet
 last-next : (c : tie.Then2 Inv-loop μ-loop) → let s = c .before .before in from (start s) (index s) ≡ utf8 0x20 ++ []
 last-next c = rest-last _ _ _ _ (first (c .before .before)) (c .if2 .taken) (c .before .if1 .taken) ∙ sym (append-nil _)
 
-septet-requires : tie.Need-septet-requires Inv-loop μ-loop
-septet-requires c κs = place-small _ _ (c .before .loop .inv .3) (c .before .before .before .before .pre .0) (omega arith)
-
-next-requires : tie.Need-next-requires Inv-loop μ-loop
-next-requires c κs = place-small _ _ (c .before .before .loop .inv .3) (c .before .before .before .before .before .pre .0) (omega arith)
-
-put-requires : tie.Need-put-requires Inv-loop μ-loop
-put-requires c κs =
-    let s = c .before .before .before in
-    let l = s .before .before .before .loop in
-    left-fits (utf8 0x20) [] (l .inv .2) (last-next (c .before)) (omega (arith, l .inv .1, start s .pre .2))
-
-septet-requires-2 : tie.Need-septet-requires-2 Inv-loop μ-loop
-septet-requires-2 c κs = let s = c .before .before in place-small _ _ (moved s) (start s .pre .0) (omega (arith, start s .pre .1, s .before .before .loop-test .taken))
+put-requires-3 : tie.Need-put-requires-3 Inv-loop μ-loop
+put-requires-3 c κs =
+    let e = c .before .before .before .before .before .before in
+    rw (c .default-character .ensures) (fits (e .before) (utf8 _) (from (start (e .before)) (index (e .before) + 1)) (plain-next e))
 
 next-requires-2 : tie.Need-next-requires-2 Inv-loop μ-loop
-next-requires-2 c κs = let s = c .before .before .before in place-small _ _ (moved s) (start s .pre .0) (omega (arith, start s .pre .1, s .before .before .loop-test .taken))
-
-put-requires-2 : tie.Need-put-requires-2 Inv-loop μ-loop
-put-requires-2 c κs =
-    let s = after-first (c .before .before .before) in
-    let l = s .before .before .before .loop in
-    left-fits (utf8 _) (from (start s) (index s + 2)) (l .inv .2) (escape-next c) (omega (arith, l .inv .1, start s .pre .2))
-
-put-requires-3 : tie.Need-put-requires-3 Inv-loop μ-loop
-unfolding character
-put-requires-3 c κs =
-    let s = c .before .before in
-    let l = s .before .before .before .loop in
-    left-fits (utf8 _) (from (start s) (index s + 1)) (l .inv .2) (plain-next (c .before)) (omega (arith, l .inv .1, start s .pre .2))
+next-requires-2 c κs =
+    let s = c .before .before .before .before .before .before .before .before .before .before in
+    place-small _ _ (next-here _ _ (at-loop s .loop .inv .3) (c .next .ensures)) (start s .pre .0) (omega (arith, start s .pre .1, s .before .before .loop-test .taken))
 
 loop-again : tie.Need-loop-again Inv-loop μ-loop
 loop-again c =
-    let n = c .before .before .before .before .before .before in
-    let l = after-first n .before .before .before .loop in
-    let w = c .before .before .put2 .ensures in
-    (omega (arith, n .before .before .if2 .left), kept-by w ∙ l .inv .1, left-step _ (l .inv .2) w (escape-next (c .before .before .before)), moved-twice n)
+    let e = c .before .before .before .before .before in
+    let s = e .before .before .before .before .before .before in
+    let w = c .before .before .before .before .put2 .ensures in
+    let l = at-loop s .loop in
+    let two : start s .args .fill + (index s + 1 + 1) * 7 ≡ start s .args .fill + (index s + 2) * 7 = omega arith in
+    (omega (arith, e .before .before .before .before .if2 .left), kept-by w ∙ l .inv .1, left-step _ (l .inv .2) w (escape-next e), next-here _ _ (next-here _ _ (l .inv .3) (c .before .next .ensures)) (c .next2 .ensures) ∙ ap bitPlace two)
 
 loop-again-2 : tie.Need-loop-again-2 Inv-loop μ-loop
-unfolding character
 loop-again-2 c =
-    let s = c .before .before .before .before .before in
-    let l = s .before .before .before .loop in
-    let w = c .before .before .put3 .ensures in
-    (omega arith, kept-by w ∙ l .inv .1, left-step _ (l .inv .2) w (plain-next (c .before .before .before .before)), moved s)
+    let t = c .before .before .before .before .before .before in
+    let w = c .before .before .before .put-four .ensures in
+    let l = at-loop (four-read t) .loop in
+    (tested t .0, kept-by w ∙ l .inv .1, left-step _ (l .inv .2) w (four-next t), c .after-four .ensures ∙ places-here _ _ (l .inv .3) 4)
+
+loop-again-3 : tie.Need-loop-again-3 Inv-loop μ-loop
+loop-again-3 c =
+    let e = c .before .before .before .before .before .before .before .before .before .before in
+    let w = rw (c .before .before .before .before .default-character .ensures) at (c .before .before .before .put3 .ensures) in
+    let l = at-loop (e .before) .loop in
+    (omega arith, kept-by w ∙ l .inv .1, left-step _ (l .inv .2) w (plain-next e), next-here _ _ (l .inv .3) (c .next3 .ensures))
 
 returns : tie.Need-returns Inv-loop μ-loop
 returns c =
@@ -130,8 +136,7 @@ returns c =
 returns-2 : tie.Need-returns-2 Inv-loop μ-loop
 returns-2 c =
     let t = c .before .before .before .before in
-    let l = t .before .before .before .before .before .loop in
-    let done = left-end (left-step [] (l .inv .2) (c .before .before .put .ensures) (last-next t)) refl in
+    let done = left-end (left-step [] (at-loop (t .before .before) .loop .inv .2) (c .before .before .put .ensures) (last-next t)) refl in
     record { place = done .0; list = done .1 }
 
 pub unpack-septets-spec : {M : Type 1} → statement M
@@ -141,25 +146,32 @@ unpack-septets-spec =
     Inv-loop
     μ-loop
     (λ c. (omega arith, refl, rw rest-start (left-start _ _ _), place-is _ _ _ (omega arith) (c .before .before .pre .0)))
-    septet-requires
-    next-requires
+    (λ c κs. here-small c)
+    (λ c κs. omega arith)
     (λ c. omega arith)
-    put-requires
-    septet-requires-2
-    next-requires-2
+    (λ c κs. fits (c .before .before .before) (utf8 0x20) [] (last-next (c .before)))
+    (λ c κs. omega arith)
     (λ c κs. (small _ _ _ (second (c .before .before)), refl))
-    put-requires-2
+    (λ c κs. let s = c .before .before .before .before .before .before in fits s (utf8 _) (from (start s) (index s + 2)) (escape-next c))
+    (λ c κs. here-small (c .before .before .before .before .before .before .before .before .before .before .before))
+    next-requires-2
     (λ c. omega arith)
     (λ c. omega arith)
     loop-again
     (λ c. omega arith)
+    (λ c κs. refl)
+    (λ c κs. let t = c .before .before in (refl, tested t .1, fits (four-read t) (fourCharacters _) (from (start (four-read t)) (index (four-read t) + 4)) (four-next t)))
+    (λ c κs. here-small (c .before .before .before .before .before .before .before .before .before .before .before))
     (λ c. omega arith)
-    (λ c. omega (arith, small _ _ _ (first (c .before .before))))
-    put-requires-3
-    (λ c. omega arith)
-    (λ c. omega arith)
+    (λ c. omega (arith, tested (c .before .before .before .before .before .before) .0))
     loop-again-2
+    (λ c κs. (small _ _ _ (first (c .before .before .before .before .before .before)), refl))
+    put-requires-3
+    (λ c κs. here-small (c .before .before .before .before .before .before .before .before .before .before .before .before))
+    (λ c. omega arith)
+    (λ c. omega arith)
+    loop-again-3
     (λ c. c .before .loop .inv .1)
     returns
-    (λ c. let t = c .before .before .before .before in kept-by (c .before .before .put .ensures) ∙ t .before .before .before .before .before .loop .inv .1)
+    (λ c. kept-by (c .before .before .put .ensures) ∙ at-loop (c .before .before .before .before .before .before) .loop .inv .1)
     returns-2)
