@@ -1,7 +1,7 @@
 -- The place of a bit: by quotient and remainder, and back; and the places of the septets from there on.
 -- Assumes nothing.
 use Prim.Native.Nat.{ℕ, zero, suc, _+_, _*_, _/_, _%_, _<_, _≤_}
-use mathlib.Core.Path.{_≡_, refl, ap, _∙_}
+use mathlib.Core.Path.{_≡_, ap, _∙_}
 use mathlib.Core.List.{List}
 use native.Mathlib.Omega.{arith}
 use Rattle.septets.specs.Septets.{bitPlace, bitOf, placeAfter, septetFrom, septetAt}

@@ -43,7 +43,7 @@ bitPlace bit = record { octet = bit / 8; shift = bit % 8 }
 abbrev pub bitOf : BitPlace → ℕ
 bitOf p = p .octet * 8 + p .shift
 
--- the place k septets on, one after the other
+-- the place k septets on: seven bits on, k times
 unfoldable pub placeAfter : BitPlace → ℕ → BitPlace
 placeAfter p zero = p
 placeAfter p (suc k) = bitPlace (bitOf (placeAfter p k) + 7)

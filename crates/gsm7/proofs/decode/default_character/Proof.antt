@@ -1,7 +1,6 @@
 -- `gsm7::decode::default_character` meets its contract.
 -- Assumes nothing.
 use native.Mathlib.Omega.{arith}
-use mathlib.Core.Path.{refl}
 use Rattle.gsm7.specs.Alphabet.{character}
 use Rattle.gsm7.proofs.decode.default_character.Statement.{statement}
 use Rattle.gsm7.proofs.decode.default_character.Tie as tie

@@ -1,6 +1,5 @@
 -- `gsm7::decode::is_plain` meets its contract: the tests are the definition's.
 -- Assumes nothing.
-use mathlib.Core.Path.{refl}
 use Rattle.gsm7.specs.Internal.{plain}
 use Rattle.gsm7.proofs.decode.is_plain.Statement.{statement}
 use Rattle.gsm7.proofs.decode.is_plain.Tie as tie

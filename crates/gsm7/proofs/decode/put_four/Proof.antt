@@ -7,7 +7,6 @@ use native.Mathlib.Numerals.{add-one, add-two, add-three}
 use native.Mathlib.Omega.{arith}
 use borrow.Author.Needs.{needs}
 use lib.ListN.{length-set}
-use Rattle.septets.specs.Septets.{inWindow}
 use Rattle.gsm7.specs.Alphabet.{character}
 use Rattle.gsm7.specs.Internal.{plain}
 use Rattle.gsm7.proofs.PlainSeptets.{plain-means, each-plain}

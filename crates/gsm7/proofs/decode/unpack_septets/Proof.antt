@@ -12,9 +12,9 @@ use lib.ListN.{length}
 use lib.Seq.{sets}
 use Rattle.octets.proofs.Choice.{and-true}
 use Rattle.octets.proofs.Laws.{Left, left-start, left-step, left-end, left-fits, kept-by}
-use Rattle.septets.specs.Septets.{septetsIn, septetAt, bitPlace, placeAfter, inWindow}
+use Rattle.septets.specs.Septets.{septetsIn, septetAt, bitPlace, inWindow}
 use Rattle.septets.proofs.BitPlaces.{place-is, places-here, septet-after, next-here, place-small}
-use Rattle.gsm7.specs.Alphabet.{character, escaped}
+use Rattle.gsm7.specs.Alphabet.{character}
 use Rattle.gsm7.specs.Internal.{fourPlain, fourCharacters}
 use Rattle.gsm7.specs.Reading.{utf8, textOf}
 use Rattle.gsm7.proofs.Reading.{rest, rest-done, rest-plain, rest-four, rest-escape, rest-last, rest-start, septet-small}

@@ -1,9 +1,9 @@
 -- `septets::BitPlace::after_four` meets its contract: four septets on is half an octet less than four octets on.
 -- Assumes nothing.
-use Prim.Native.Nat.{ℕ, suc, _+_, _*_, _<_}
-use mathlib.Core.Path.{_≡_, sym, ap, _∙_}
+use Prim.Native.Nat.{ℕ, _+_, _*_, _<_}
+use mathlib.Core.Path.{_≡_}
 use native.Mathlib.Omega.{arith}
-use Rattle.septets.specs.Septets.{bitPlace, bitOf, placeAfter}
+use Rattle.septets.specs.Septets.{bitOf, placeAfter}
 use Rattle.septets.specs.declared.BitPlace.{BitPlace}
 use Rattle.septets.proofs.BitPlaces.{place-is, bit-after}
 use Rattle.septets.proofs.BitPlace.after_four.Statement.{statement}

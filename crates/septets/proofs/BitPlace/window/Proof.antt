@@ -1,10 +1,10 @@
 -- `septets::BitPlace::window` meets its contract: eight septets lie in the octet of the first bit and the seven after it.
 -- Assumes nothing.
-use Prim.Native.Nat.{ℕ, _+_, _*_, _/_, _%_, _<_}
-use mathlib.Core.Path.{_≡_, sym, ap, _∙_}
+use Prim.Native.Nat.{_*_, _/_, _%_, _<_}
+use mathlib.Core.Path.{_≡_, sym}
 use native.Mathlib.Omega.{arith}
 use denote.Ref.{now}
-use Rattle.septets.specs.Septets.{septetFrom, bitOf, placeAfter}
+use Rattle.septets.specs.Septets.{septetFrom, bitOf}
 use Rattle.septets.proofs.Number.{in-window}
 use Rattle.septets.proofs.BitPlaces.{bit-after}
 use Rattle.septets.proofs.BitPlace.window.Statement.{statement}
