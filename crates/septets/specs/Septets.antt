@@ -69,6 +69,9 @@ hello : (packedSeptets 0 (0x68 ∷ 0x65 ∷ 0x6c ∷ 0x6c ∷ 0x6f ∷ []) ≡ 0
 unfolding numberOf lowestDigits packedSeptets septetsIn
 hello = (refl, refl)
 
--- the third septet after one fill bit starts at bit 15, the last of octet 1
-bit-15 : _≡_ {A = BitPlace} (bitPlace (1 + 2 * 7)) (record { octet = 1; shift = 7 })
-bit-15 = refl
+-- the third septet after one fill bit starts at bit 15, the last of octet 1; of a window of E8 32 the second septet is 65
+places : (_≡_ {A = BitPlace} (bitPlace (1 + 2 * 7)) (record { octet = 1; shift = 7 }))
+    × (_≡_ {A = BitPlace} (placeAfter (bitPlace 1) 2) (record { octet = 1; shift = 7 }))
+    × (inWindow (numberOf 8 (0xe8 ∷ 0x32 ∷ [])) 1 ≡ 0x65)
+unfolding placeAfter numberOf
+places = (refl, refl, refl)
