@@ -19,6 +19,6 @@ countNumber (refuses why) = 256 + refusalNumber why
 abbrev pub lentNumber : Said ℕ × List ℕ → ℕ × List ℕ
 lentNumber lent = (countNumber (lent .0), lent .1)
 
--- of what a packer does, and the buffer
+-- of what a packer does, in one message or in several, and the buffer
 abbrev pub packedNumber : SaidCounts × List ℕ → ℕ × List ℕ
 packedNumber lent = (numbered (lent .0 .0) (lent .0 .1), lent .1)

@@ -7,6 +7,7 @@ ghost use Rattle.octets.specs.Answers.{refuses, outcomeSays, writtenSays};
 ghost use Rattle.octets.specs.Lent.{lend};
 ghost use Rattle.gsm7.specs.Packing.{packing, notPacked};
 ghost use Rattle.gsm7.specs.Reading.{unpacked};
+ghost use Rattle.concatenation.specs.Messages.{concatenating, notSent};
 ghost use Rattle.time.specs.Timestamp.{timestamp};
 ghost use Rattle.address.specs.Address.{encoding};
 ghost use Rattle.layout.specs.Demand.{rewriting};
@@ -150,6 +151,16 @@ pub extern "C" fn tpdu_pack(text: &[u8], out: &mut [u8]) -> usize
     let p = tpdu::pack_gsm7(text, out);
     let outcome = p.outcome;
     taken(outcome, p.octets)
+}
+
+// The number of octets of a text's messages.
+#[no_mangle]
+pub extern "C" fn tpdu_concatenate(text: &[u8], reference: u8, out: &mut [u8]) -> usize
+    ensures { λ r. ⌜ (r, now (out .exit)) ≡ packedNumber (lend notSent (concatenating reference (now (text .entry))) (now (out .entry))) ⌝ }
+{
+    let c = tpdu::pack_gsm7_concatenated(text, reference, out);
+    let outcome = c.outcome;
+    taken(outcome, c.octets)
 }
 
 // The number of octets of text.

@@ -1,6 +1,7 @@
 pub mod Utf8
 pub mod Rows
 pub mod TableSizes
+pub mod PlainSeptets
 pub mod Reading
 pub mod DecodingLaws
 pub mod Tables

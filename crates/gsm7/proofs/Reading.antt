@@ -1,7 +1,8 @@
 -- The text of the septets that are left, one character at a time; and what reading gives, case by case.
 -- Assumes nothing.
 use Prim.Native.Nat.{ℕ, suc, _+_, _-_, _*_, _/_, _^_, _<_, _≤_}
-use mathlib.Core.Path.{_≡_, refl}
+use mathlib.Core.Path.{_≡_, refl, _∙_}
+use mathlib.Core.Bool.{true}
 use mathlib.Core.List.{List, [], _∷_, _++_}
 use native.Mathlib.Omega.{arith}
 use native.Mathlib.Nat.{sub-zero, add-zero, zero-add}
@@ -12,18 +13,20 @@ use Rattle.octets.specs.Lent.{Wrote}
 use Rattle.octets.specs.declared.Refusal.the-variants.{LengthTooLarge, TooFewOctets}
 use Rattle.octets.specs.Answers.{fine}
 use Rattle.octets.proofs.Laws.{sets-zeros}
-use Rattle.septets.specs.Internal.{septetAt}
-use Rattle.septets.specs.Septets.{numberOf, lowestDigits, septetsIn, octetCount}
+use Rattle.septets.specs.Septets.{numberOf, lowestDigits, septetFrom, septetAt, inWindow, septetsIn, octetCount}
 use Rattle.septets.proofs.Number.{digits-step}
 use Rattle.gsm7.specs.Alphabet.{character, escaped}
+use Rattle.gsm7.specs.Internal.{plain, fourPlain, fourCharacters}
 use Rattle.gsm7.specs.Reading.{utf8, textOf, afterEscape, SaidText, textGiven, textRefused, unpacked}
+use Rattle.gsm7.proofs.Utf8.{utf8-one}
+use Rattle.gsm7.proofs.PlainSeptets.{plain-means, each-plain}
 
 -- n septets, from septet k on
 septetsFrom : List ℕ → ℕ → ℕ → ℕ → List ℕ
 septetsFrom os f k n = lowestDigits 7 n (numberOf 8 os / 2 ^ (f + k * 7))
 
 septets-step : (os : List ℕ) (f k n : ℕ) → septetsFrom os f k (suc n) ≡ septetAt os f k ∷ septetsFrom os f (suc k) n
-unfolding septetsFrom septetAt
+unfolding septetsFrom septetFrom
 septets-step os f k n =
     let e : f + k * 7 + 7 ≡ f + suc k * 7 = omega arith in
     rw (digits-step, e)
@@ -62,8 +65,23 @@ module _ (os : List ℕ) (f n i : ℕ) where
         let e : n - i ≡ 1 = omega arith in
         rw (e, septets-step, septets-none, ← is, eq-eqb k 0x1b p)
 
+-- four plain characters more, where w is the window at i
+module _ (os : List ℕ) (f n : ℕ) where
+  rest-one : (i : ℕ) {k : ℕ} → k ≡ septetAt os f i → i < n → plain k ≡ true → rest os f n i ≡ character k ∷ rest os f n (i + 1)
+  rest-one i {k} is h p = let (other, small) = plain-means k p in rest-plain os f n i is h other ∙ rw (utf8-one (character k) small)
+
+  pub rest-four : (i w : ℕ) → ((k : ℕ) → k < 8 → inWindow w k ≡ septetAt os f (i + k)) → i + 4 ≤ n → fourPlain w ≡ true
+      → rest os f n i ≡ fourCharacters w ++ rest os f n (i + 4)
+  rest-four i w is h p =
+      let (a, b, c, d) = each-plain w p in
+      let e₂ : i + 1 + 1 ≡ i + 2 = omega arith in
+      let e₃ : i + 2 + 1 ≡ i + 3 = omega arith in
+      let e₄ : i + 3 + 1 ≡ i + 4 = omega arith in
+      rw
+      (rest-one i (rw add-zero at (is 0 (omega arith))) (omega arith) a, rest-one (i + 1) (is 1 (omega arith)) (omega arith) b, e₂, rest-one (i + 2) (is 2 (omega arith)) (omega arith) c, e₃, rest-one (i + 3) (is 3 (omega arith)) (omega arith) d, e₄)
+
 pub septet-small : (os : List ℕ) (f k : ℕ) → septetAt os f k < 128
-unfolding septetAt
+unfolding septetFrom
 septet-small os f k = omega arith
 
 -- the rest at the start is the whole

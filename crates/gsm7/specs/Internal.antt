@@ -1,21 +1,35 @@
--- What functions of the codec say to each other of the text that they write: nobody has to believe anything here.
+-- What the codec's functions that read and write text say to each other. Only these use it, and nobody has to believe anything here.
 use Prim.Native.Nat.{ℕ, _<_}
 use mathlib.Core.Path.{_≡_}
+use mathlib.Core.Bool.{Bool, not, _&&_}
 use mathlib.Core.List.{List, [], _∷_}
 use mathlib.Core.Option.{Option, none, some}
 use lib.Seq.{sets}
 use lib.ListN.{length, getD}
-use lib.Dec.{ltb}
+use lib.Dec.{eqb, ltb}
 use Rattle.octets.specs.Answers.{Said, gives, refuses}
 use Rattle.octets.specs.Choice.{if_then_else_}
 use Rattle.octets.specs.declared.Refusal.the-variants.{NotInAlphabet}
+use Rattle.septets.specs.Septets.{inWindow}
 use Rattle.gsm7.specs.declared.encode.Code.{Code}
 use Rattle.gsm7.specs.declared.encode.Code.the-variants.{Single, Escaped, Absent}
 use Rattle.gsm7.specs.declared.encode.Scalar.{Scalar}
 use Rattle.gsm7.specs.declared.encode.Scalar.the-variants.{Read, Broken}
 use Rattle.gsm7.specs.declared.encode.Scanned.{Scanned}
 use Rattle.gsm7.specs.declared.encode.Scanned.the-variants.{Counted, NotCoded}
+use Rattle.gsm7.specs.Alphabet.{character}
 use Rattle.gsm7.specs.Writing.{codeOf, extendedCode}
+
+-- a code that is no escape, and whose character takes one octet
+unfoldable pub plain : ℕ → Bool
+plain code = not (eqb code 0x1b) && ltb (character code) 0x80
+
+-- the first four septets of a window are plain, and their characters
+abbrev pub fourPlain : ℕ → Bool
+fourPlain w = plain (inWindow w 0) && plain (inWindow w 1) && plain (inWindow w 2) && plain (inWindow w 3)
+
+abbrev pub fourCharacters : ℕ → List ℕ
+fourCharacters w = character (inWindow w 0) ∷ character (inWindow w 1) ∷ character (inWindow w 2) ∷ character (inWindow w 3) ∷ []
 
 -- the code of a character: its septets; in neither table: 10
 abbrev pub codeSays : Code → Said (List ℕ)

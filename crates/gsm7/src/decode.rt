@@ -1,15 +1,18 @@
 // GSM 7-bit default alphabet text (TS 23.038 §6.2.1), read: the two tables, and the text of septets.
 ghost use mathlib.Core.Path.{_≡_};
 ghost use Prim.Native.Nat.{_+_, _%_, _<_, _≤_};
+ghost use mathlib.Core.Bool.{true};
 ghost use mathlib.Core.List.{[], _∷_};
 ghost use lib.ListN.{length, getD};
 ghost use Rattle.octets.specs.Lent.{Wrote};
-ghost use Rattle.gsm7.specs.Alphabet.{alphabet as defaultAlphabet, extension, row, escaped};
+ghost use Rattle.gsm7.specs.Alphabet.{alphabet as defaultAlphabet, extension, row, character, escaped};
 ghost use Rattle.octets.specs.declared.Refusal.the-variants.{LengthTooLarge, TooFewOctets};
-ghost use Rattle.septets.specs.Septets.{septetsIn};
+ghost use Rattle.septets.specs.Septets.{septetsIn, inWindow};
+ghost use Rattle.gsm7.specs.Internal.{plain, fourPlain, fourCharacters};
 ghost use Rattle.gsm7.specs.Reading.{utf8, textOf, unpackedSays, textGiven, textRefused, unpacked};
 use octets::Outcome;
 use octets::Refusal;
+use septets::BitPlace;
 
 pub const GSM7_ESCAPE: u8 = 0x1B;
 
@@ -210,6 +213,14 @@ pub fn extension_row(place: usize) -> Extension
     EXTENSION[place]
 }
 
+// The character of a code of the default alphabet.
+fn default_character(alphabet: &[u16; 128], code: u8) -> u16
+    requires { ⌜ (code < 128) × (now alphabet ≡ defaultAlphabet) ⌝ }
+    ensures { λ r. ⌜ r ≡ character code ⌝ }
+{
+    alphabet[code as usize]
+}
+
 // The character of a code that follows an escape.
 fn escaped_character(alphabet: &[u16; 128], code: u8) -> u16
     requires { ⌜ (code < 128) × (now alphabet ≡ defaultAlphabet) ⌝ }
@@ -223,7 +234,51 @@ fn escaped_character(alphabet: &[u16; 128], code: u8) -> u16
         }
         i += 1;
     }
-    alphabet[code as usize]
+    default_character(alphabet, code)
+}
+
+// The character of a septet of a window.
+fn character_in(alphabet: &[u16; 128], window: u64, index: usize) -> u16
+    requires { ⌜ (index < 8) × (now alphabet ≡ defaultAlphabet) ⌝ }
+    ensures { λ r. ⌜ r ≡ character (inWindow window index) ⌝ }
+{
+    default_character(alphabet, septets::septet_in(window, index))
+}
+
+// Whether a septet of a window is no escape, and its character takes one octet.
+fn is_plain(alphabet: &[u16; 128], window: u64, index: usize) -> bool
+    requires { ⌜ (index < 8) × (now alphabet ≡ defaultAlphabet) ⌝ }
+    ensures { λ r. ⌜ r ≡ plain (inWindow window index) ⌝ }
+{
+    (septets::septet_in(window, index) != GSM7_ESCAPE)
+        & (character_in(alphabet, window, index) < 0x80)
+}
+
+// Whether the first four septets of a window are so.
+fn four_plain(alphabet: &[u16; 128], window: u64) -> bool
+    requires { ⌜ now alphabet ≡ defaultAlphabet ⌝ }
+    ensures { λ r. ⌜ r ≡ fourPlain window ⌝ }
+{
+    is_plain(alphabet, window, 0)
+        & is_plain(alphabet, window, 1)
+        & is_plain(alphabet, window, 2)
+        & is_plain(alphabet, window, 3)
+}
+
+// Writes their characters at `at`; the place after them.
+fn put_four(alphabet: &[u16; 128], window: u64, text: &mut [u8], at: usize) -> usize
+    requires { ⌜ (now alphabet ≡ defaultAlphabet) × (fourPlain window ≡ true) × (at + 4 ≤ length (now text)) ⌝ }
+    ensures { λ r. ⌜ Wrote at (fourCharacters window) (now (text .entry)) r (now (text .exit)) ⌝ }
+{
+    let a = character_in(alphabet, window, 0);
+    let b = character_in(alphabet, window, 1);
+    let c = character_in(alphabet, window, 2);
+    let d = character_in(alphabet, window, 3);
+    text[at] = a as u8;
+    text[at + 1] = b as u8;
+    text[at + 2] = c as u8;
+    text[at + 3] = d as u8;
+    at + 4
 }
 
 // Writes an octet at `at` and the last octet of a character's UTF-8 after it; the place after them.
@@ -260,18 +315,29 @@ pub fn unpack_septets(data: &[u8], fill: usize, septets: usize, text: &mut [u8],
     let alphabet = ALPHABET;
     let mut end = at;
     let mut consumed = 0;
+    let mut place = BitPlace {
+        octet: 0,
+        shift: fill,
+    };
     while consumed < septets {
-        let code = septets::septet_at(data, fill, consumed);
+        let window = place.window(data);
+        let code = septets::septet_in(window, 0);
         if code == GSM7_ESCAPE {
             if consumed + 1 == septets {
                 end = put(text, end, 0x20);
                 break;
             }
-            let next = septets::septet_at(data, fill, consumed + 1);
+            let next = septets::septet_in(window, 1);
             end = put(text, end, escaped_character(&alphabet, next));
+            place = place.next().next();
             consumed += 2;
+        } else if (consumed + 4 <= septets) & four_plain(&alphabet, window) {
+            end = put_four(&alphabet, window, text, end);
+            place = place.after_four();
+            consumed += 4;
         } else {
-            end = put(text, end, alphabet[code as usize]);
+            end = put(text, end, default_character(&alphabet, code));
+            place = place.next();
             consumed += 1;
         }
     }

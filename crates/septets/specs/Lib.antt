@@ -1,2 +1,1 @@
 pub mod Septets
-pub mod Internal

@@ -3,6 +3,7 @@ use Prim.Native.Nat.{ℕ, zero, suc, _+_, _-_, _*_, _/_, _%_, _^_, _<_}
 use mathlib.Core.Path.{_≡_, refl}
 use mathlib.Core.List.{List, [], _∷_}
 use lib.ListN.{length, getD}
+use Rattle.septets.specs.declared.BitPlace.{BitPlace}
 
 -- the number with these digits of w bits, lowest first
 unfoldable pub numberOf : ℕ → List ℕ → ℕ
@@ -26,6 +27,31 @@ octetCount f n = (f + n * 7 + 7) / 8
 unfoldable pub septetsIn : List ℕ → ℕ → ℕ → List ℕ
 septetsIn os f n = lowestDigits 7 n (numberOf 8 os / 2 ^ f)
 
+-- the septet from a bit on
+unfoldable pub septetFrom : List ℕ → ℕ → ℕ
+septetFrom os bit = numberOf 8 os / 2 ^ bit % 2 ^ 7
+
+-- the septet at an index, after f fill bits
+abbrev pub septetAt : List ℕ → ℕ → ℕ → ℕ
+septetAt os f index = septetFrom os (f + index * 7)
+
+-- the place of a bit: the quotient by 8 is the octet, the remainder the bit in it
+abbrev pub bitPlace : ℕ → BitPlace
+bitPlace bit = record { octet = bit / 8; shift = bit % 8 }
+
+-- the bit at a place
+abbrev pub bitOf : BitPlace → ℕ
+bitOf p = p .octet * 8 + p .shift
+
+-- the place k septets on: seven bits on, k times
+unfoldable pub placeAfter : BitPlace → ℕ → BitPlace
+placeAfter p zero = p
+placeAfter p (suc k) = bitPlace (bitOf (placeAfter p k) + 7)
+
+-- a septet of a window of bits
+abbrev pub inWindow : ℕ → ℕ → ℕ
+inWindow window index = window / 2 ^ (index * 7) % 2 ^ 7
+
 -- the septets packed after f zero bits, with zero bits to the octet
 unfoldable pub packedSeptets : ℕ → List ℕ → List ℕ
 packedSeptets f ss = lowestDigits 8 (octetCount f (length ss)) (numberOf 7 ss * 2 ^ f)
@@ -42,3 +68,10 @@ hello : (packedSeptets 0 (0x68 ∷ 0x65 ∷ 0x6c ∷ 0x6c ∷ 0x6f ∷ []) ≡ 0
     × (septetsIn (0xe8 ∷ 0x32 ∷ 0x9b ∷ 0xfd ∷ 0x06 ∷ []) 0 5 ≡ 0x68 ∷ 0x65 ∷ 0x6c ∷ 0x6c ∷ 0x6f ∷ [])
 unfolding numberOf lowestDigits packedSeptets septetsIn
 hello = (refl, refl)
+
+-- the third septet after one fill bit starts at bit 15, the last of octet 1; of a window of E8 32 the second septet is 65
+places : (_≡_ {A = BitPlace} (bitPlace (1 + 2 * 7)) (record { octet = 1; shift = 7 }))
+    × (_≡_ {A = BitPlace} (placeAfter (bitPlace 1) 2) (record { octet = 1; shift = 7 }))
+    × (inWindow (numberOf 8 (0xe8 ∷ 0x32 ∷ [])) 1 ≡ 0x65)
+unfolding placeAfter numberOf
+places = (refl, refl, refl)

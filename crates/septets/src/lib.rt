@@ -1,11 +1,10 @@
 // Septets in octets (TS 23.038 §6.1.2.1.1).
 ghost use mathlib.Core.Path.{_≡_};
-ghost use Prim.Native.Nat.{_+_, _*_, _/_, _%_, _^_, _<_, _≤_};
+ghost use Prim.Native.Nat.{ℕ, _+_, _*_, _/_, _%_, _^_, _<_, _≤_};
 ghost use mathlib.Core.List.{[], _∷_};
-ghost use lib.ListN.{length, getD};
+ghost use lib.ListN.{length, getD, take, drop};
 ghost use Rattle.octets.specs.Lent.{Wrote};
-ghost use Rattle.septets.specs.Internal.{septetAt};
-ghost use Rattle.septets.specs.Septets.{Digits, octetCount, packedSeptets, headerSeptets};
+ghost use Rattle.septets.specs.Septets.{numberOf, Digits, bitPlace, bitOf, placeAfter, septetFrom, inWindow, octetCount, packedSeptets, headerSeptets};
 
 // The octet at `at`, 0 past the end.
 pub fn octet_or_zero(octets: &[u8], at: usize) -> u16
@@ -18,18 +17,103 @@ pub fn octet_or_zero(octets: &[u8], at: usize) -> u16
     }
 }
 
-// The septet at `index`, counting from `fill` bits into `octets`.
-pub fn septet_at(octets: &[u8], fill: usize, index: usize) -> u8
-    requires { ⌜ (fill < 8) × (index < 256) ⌝ }
-    ensures { λ r. ⌜ r ≡ septetAt (now (octets .entry)) fill index ⌝ }
+// A place in the bits of octets: the octet, and the bit in it.
+pub struct BitPlace {
+    pub octet: usize,
+    pub shift: usize,
+}
+
+impl BitPlace {
+    // The place seven bits on.
+    pub fn next(self) -> BitPlace
+        requires { ⌜ (self .octet ≤ 255) × (self .shift < 8) ⌝ }
+        ensures { λ r. ⌜ r ≡ bitPlace (bitOf self + 7) ⌝ }
+    {
+        let octet = self.octet;
+        let following = octet + 1;
+        let shift = self.shift;
+        if shift == 0 {
+            return BitPlace { octet, shift: 7 };
+        }
+        BitPlace {
+            octet: following,
+            shift: shift - 1,
+        }
+    }
+
+    // The place four septets on.
+    pub fn after_four(self) -> BitPlace
+        requires { ⌜ (self .octet ≤ 255) × (self .shift < 8) ⌝ }
+        ensures { λ r. ⌜ r ≡ placeAfter self 4 ⌝ }
+    {
+        let octet = self.octet;
+        let shift = self.shift;
+        if shift < 4 {
+            return BitPlace {
+                octet: octet + 3,
+                shift: shift + 4,
+            };
+        }
+        BitPlace {
+            octet: octet + 4,
+            shift: shift - 4,
+        }
+    }
+
+    // A window of at least 57 bits from the place on, which has eight septets.
+    pub fn window(self, octets: &[u8]) -> u64
+        requires { ⌜ (self .octet ≤ 255) × (self .shift < 8) ⌝ }
+        ensures { λ r. ⌜ ((k : ℕ) → k < 8 → inWindow r k ≡ septetFrom (now (octets .entry)) (bitOf (placeAfter self k))) ⌝ }
+    {
+        let at = self.octet;
+        let shift = self.shift;
+        eight_octets(octets, at) >> shift
+    }
+
+    // The septet that starts at the place.
+    pub fn septet(self, octets: &[u8]) -> u8
+        requires { ⌜ (self .octet ≤ 255) × (self .shift < 8) ⌝ }
+        ensures { λ r. ⌜ r ≡ septetFrom (now (octets .entry)) (bitOf self) ⌝ }
+    {
+        septet_in(self.window(octets), 0)
+    }
+}
+
+// A septet of a window.
+pub fn septet_in(window: u64, index: usize) -> u8
+    requires { ⌜ index < 8 ⌝ }
+    ensures { λ r. ⌜ r ≡ inWindow window index ⌝ }
 {
-    let bit = fill + index * 7;
-    let at = bit / 8;
-    let shift = bit % 8;
-    let low = octet_or_zero(octets, at);
-    let high = octet_or_zero(octets, at + 1);
-    let pair = high * 256 + low;
-    ((pair >> shift) % 128) as u8
+    ((window >> (index * 7)) % 128) as u8
+}
+
+// The number of `n` octets from `at` on, at most eight.
+fn number_from(octets: &[u8], at: usize, n: usize) -> u64
+    requires { ⌜ (n ≤ 8) × (at + n ≤ length (now octets)) ⌝ }
+    ensures { λ r. ⌜ r ≡ numberOf 8 (take n (drop at (now (octets .entry)))) ⌝ }
+{
+    let mut number = 0;
+    let mut i = n;
+    while 0 < i {
+        i -= 1;
+        number = number * 256 + octets[at + i] as u64;
+    }
+    number
+}
+
+// The number of the eight octets from `at` on, 0 for those past the end.
+fn eight_octets(octets: &[u8], at: usize) -> u64
+    requires { ⌜ at ≤ 255 ⌝ }
+    ensures { λ r. ⌜ r ≡ numberOf 8 (take 8 (drop at (now (octets .entry)))) ⌝ }
+{
+    let n = octets.len();
+    if at + 8 <= n {
+        return number_from(octets, at, 8);
+    }
+    if at < n {
+        return number_from(octets, at, n - at);
+    }
+    0
 }
 
 // The septets that a user-data header of so many octets takes, fill bits included (TS 23.040 §9.2.3.24).

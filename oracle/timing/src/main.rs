@@ -37,6 +37,13 @@ extern "C" {
         room: usize,
     ) -> usize;
     fn tpdu_pack(text: *const u8, length: usize, out: *mut u8, room: usize) -> usize;
+    fn tpdu_concatenate(
+        text: *const u8,
+        length: usize,
+        reference: u8,
+        out: *mut u8,
+        room: usize,
+    ) -> usize;
     fn tpdu_unpack(data: *const u8, length: usize, septets: usize) -> usize;
     fn tpdu_address(
         ton: u8,
@@ -64,7 +71,7 @@ fn run(turn: &mut impl FnMut() -> usize) -> f64 {
     start.elapsed().as_nanos() as f64 / f64::from(TURNS)
 }
 
-/// The median of several runs, behind one that isn't counted.
+/// The median of several runs, after one that isn't counted.
 fn median(mut one: impl FnMut() -> f64) -> f64 {
     one();
     let mut runs: Vec<f64> = (0..RUNS).map(|_| one()).collect();
@@ -278,6 +285,42 @@ fn time_text(name: &str, text: &str) {
     row(&format!("unpack {name}"), timed(rust), timed(port));
 }
 
+/// A text of three parts, beside each part's text packed by itself: by the Rust, and by the port.
+fn time_parts(text: &str) {
+    let mut out = [0u8; 423];
+    let rust = || -> usize {
+        (0..3)
+            .map(|part| pack_gsm7(black_box(&text[part * 153..(part + 1) * 153])).unwrap().0.len())
+            .sum()
+    };
+    let mut packed = [0u8; 255];
+    let mut alone = || -> usize {
+        (0..3)
+            .map(|part| unsafe {
+                tpdu_pack(
+                    black_box(text[part * 153..].as_ptr()),
+                    153,
+                    black_box(packed.as_mut_ptr()),
+                    255,
+                )
+            })
+            .sum()
+    };
+    let mut port = || unsafe {
+        tpdu_concatenate(
+            black_box(text.as_ptr()),
+            459,
+            7,
+            black_box(out.as_mut_ptr()),
+            423,
+        )
+    };
+    assert_eq!(port(), 423, "459 septets are three messages of 141 octets");
+    let rust = timed(rust);
+    row("459 septets in 3 parts; the Rust packs 3 texts", rust, timed(&mut port));
+    row("the same 3 texts packed by the port", rust, timed(&mut alone));
+}
+
 fn time_address(name: &str, ton: u8, npi: u8, text: &str) {
     let mut out = [0u8; 12];
     let mut array = [0u8; 290];
@@ -322,6 +365,8 @@ fn main() {
         "160 septets",
         &"Damp board at reel 3, call the second lead. ".repeat(4)[..160],
     );
+    time_text("mixed text", "Größe: 4 um, 80 € [Rolle 3]. Perché? Cosi è gia {~} detruit; ¿que? Ñandu Åse Øre Ærø. Zwölf Öfen. ");
+    time_parts(&"Damp board at reel 3, call the second lead. ".repeat(11)[..459]);
     time_text("80 extension characters", &"^{}\\[~]|".repeat(10));
     time_address("address of 11 digits", 1, 1, "31624578901");
     time_address("address of type 5", 5, 0, "Wiglanth");

@@ -4,9 +4,9 @@ use Prim.Native.Nat.{ℕ, _-_, _≤_}
 use mathlib.Core.Path.{_≡_, refl, _∙_}
 use mathlib.Core.Option.{none, some}
 use native.Mathlib.Omega.{arith}
-use lib.ListN.{getD, drop}
+use lib.ListN.{drop}
 use Rattle.gsm7.specs.declared.decode.Extension.{Extension}
-use Rattle.gsm7.specs.Alphabet.{alphabet, extension, rowWith, character, escaped}
+use Rattle.gsm7.specs.Alphabet.{extension, rowWith, character, escaped}
 use Rattle.gsm7.proofs.Rows.{row-here, row-next, row-end}
 use Rattle.gsm7.proofs.decode.escaped_character.Statement.{statement}
 use Rattle.gsm7.proofs.decode.escaped_character.Tie as tie
@@ -22,8 +22,8 @@ found : (code : ℕ) {e : Extension} → rowWith (λ (e : Extension). e .code) c
 unfolding escaped
 found code p = rw p
 
-missed : (code : ℕ) → rowWith (λ (e : Extension). e .code) code extension ≡ none → getD alphabet code 0 ≡ escaped code
-unfolding escaped character
+missed : (code : ℕ) → rowWith (λ (e : Extension). e .code) code extension ≡ none → character code ≡ escaped code
+unfolding escaped
 missed code p = rw p
 
 returns : tie.Need-returns Inv-loop μ-loop
@@ -38,9 +38,8 @@ loop-again c =
 
 returns-2 : tie.Need-returns-2 Inv-loop μ-loop
 returns-2 c =
-    let a = c .before .before .before .args in
-    rw (c .before .before .before .pre .1)
-    (missed _ (c .before .before .loop .inv .1 ∙ row-end (λ (e : Extension). e .code) _ extension (c .before .before .loop .i) (omega arith)))
+    let l = c .before .before .loop in
+    c .default-character .ensures ∙ missed _ (l .inv .1 ∙ row-end (λ (e : Extension). e .code) _ extension (l .i) (omega arith))
 
 pub escaped-character-spec : {M : Type 1} → statement M
 escaped-character-spec =
@@ -54,6 +53,5 @@ escaped-character-spec =
     (λ c. omega arith)
     (λ c. omega arith)
     loop-again
-    (λ c. omega arith)
-    (λ c. omega arith)
+    (λ c κs. c .before .before .pre)
     returns-2)
