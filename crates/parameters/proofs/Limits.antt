@@ -27,8 +27,8 @@ module _ {R : Type 0} (within : ℕ → R → Making (Said ℕ)) (count : R → 
   limits of = record {
     exactly = λ limit r octets answer. (λ e. ((limit, e), of r .0 limit octets answer e), λ p. of r .1 (p .0 .0) limit octets answer (p .0 .1) (p .1));
     alike = λ limit other r xs ys x y e f.
-      let both : made xs x ≡ made ys y = sym (of r .1 limit other xs x e (of r .0 other ys y f)) ∙ f in
-      ((cc), (cc));
+        let both : made xs x ≡ made ys y = sym (of r .1 limit other xs x e (of r .0 other ys y f)) ∙ f in
+        ((cc), (cc));
   }
 
 -- the checks of user data stand last
