@@ -62,13 +62,13 @@ pub deliver-back : Demand2 Deliver.Typed Deliver.cleared Deliver.capitalised (λ
 deliver-back = deliver-demand2
 
 pub submit-report-back : Demand2 SubmitReport.Typed SubmitReport.cleared SubmitReport.capitalised (λ r. SubmitReport.outcomeOf (r .«tp_failure_cause»)) SubmitReport.submitReporting (λ r. fine) (λ r. false)
-submit-report-back = submit-report-demand2
+submit-report-back = submit-report-demand2 (λ r. 140)
 
 pub deliver-report-back : Demand2 DeliverReport.Typed DeliverReport.cleared DeliverReport.capitalised (λ r. DeliverReport.outcomeOf (r .«tp_failure_cause»)) DeliverReport.deliverReporting (λ r. fine) (λ r. false)
-deliver-report-back = deliver-report-demand2
+deliver-report-back = deliver-report-demand2 (λ r. 140)
 
 pub status-report-back : Demand2 StatusReport.Typed StatusReport.cleared StatusReport.capitalised (λ r. StatusReport.statusReport) StatusReport.statusReporting (λ r. fine) (λ r. false)
-status-report-back = status-report-demand2
+status-report-back = status-report-demand2 140
 
 -- ---- both, of what the public functions answer
 
@@ -100,10 +100,10 @@ pub deliver-answers2 : Answers2 Deliver.Typed Deliver.cleared Deliver.capitalise
 deliver-answers2 = answers2 _ _ _ _ _ _ _ _ deliver-back deliver-counts
 
 pub submit-report-answers2 : Answers2 SubmitReport.Typed SubmitReport.cleared SubmitReport.capitalised SubmitReport.blank (λ r. SubmitReport.outcomeOf (r .«tp_failure_cause»)) SubmitReport.submitReporting (λ r. fine)
-submit-report-answers2 = answers2 _ _ _ _ _ _ _ _ submit-report-back submit-report-counts
+submit-report-answers2 = answers2 _ _ _ _ _ _ _ _ submit-report-back (submit-report-counts (λ r. 140))
 
 pub deliver-report-answers2 : Answers2 DeliverReport.Typed DeliverReport.cleared DeliverReport.capitalised DeliverReport.blank (λ r. DeliverReport.outcomeOf (r .«tp_failure_cause»)) DeliverReport.deliverReporting (λ r. fine)
-deliver-report-answers2 = answers2 _ _ _ _ _ _ _ _ deliver-report-back deliver-report-counts
+deliver-report-answers2 = answers2 _ _ _ _ _ _ _ _ deliver-report-back (deliver-report-counts (λ r. 140))
 
 pub status-report-answers2 : Answers2 StatusReport.Typed StatusReport.cleared StatusReport.capitalised StatusReport.blank (λ r. StatusReport.statusReport) StatusReport.statusReporting (λ r. fine)
-status-report-answers2 = answers2 _ _ _ _ _ _ _ _ status-report-back status-report-counts
+status-report-answers2 = answers2 _ _ _ _ _ _ _ _ status-report-back (status-report-counts 140)
