@@ -1,4 +1,4 @@
-// The `enc-` requests: a record made of the values of its keys, and what its writer answers.
+// The `enc-` and `enc-standard-` requests: a record made of the values of its keys, and what its writer answers.
 use crate::fields;
 use crate::fields::Lent;
 use output::Output;
@@ -152,7 +152,7 @@ fn write_submit(line: &[u8], lent: &mut Lent) -> Written {
     message.encode(lent)
 }
 
-fn write_submit_report(line: &[u8], lent: &mut Lent) -> Written {
+fn write_submit_report(line: &[u8], to_standard: bool, lent: &mut Lent) -> Written {
     let scts = time(line, keys::SCTS);
     let ud = user_data(line);
     let message = SmsSubmitReport {
@@ -165,10 +165,13 @@ fn write_submit_report(line: &[u8], lent: &mut Lent) -> Written {
         tp_user_data_length: optional_number(line, keys::UDL),
         tp_user_data: ud,
     };
+    if to_standard {
+        return message.encode_to_standard(lent);
+    }
     message.encode(lent)
 }
 
-fn write_deliver_report(line: &[u8], lent: &mut Lent) -> Written {
+fn write_deliver_report(line: &[u8], to_standard: bool, lent: &mut Lent) -> Written {
     let ud = user_data(line);
     let message = SmsDeliverReport {
         tp_udhi: flag(line, keys::UDHI),
@@ -179,10 +182,13 @@ fn write_deliver_report(line: &[u8], lent: &mut Lent) -> Written {
         tp_user_data_length: optional_number(line, keys::UDL),
         tp_user_data: ud,
     };
+    if to_standard {
+        return message.encode_to_standard(lent);
+    }
     message.encode(lent)
 }
 
-fn write_status_report(line: &[u8], lent: &mut Lent) -> Written {
+fn write_status_report(line: &[u8], to_standard: bool, lent: &mut Lent) -> Written {
     let recipient = address_of(line);
     let scts = time(line, keys::SCTS);
     let dt = time(line, keys::DT);
@@ -203,25 +209,36 @@ fn write_status_report(line: &[u8], lent: &mut Lent) -> Written {
         tp_user_data_length: optional_number(line, keys::UDL),
         tp_user_data: ud,
     };
+    if to_standard {
+        return message.encode_to_standard(lent);
+    }
     message.encode(lent)
 }
 
 // ---- answers
 
-fn write(kind: usize, line: &[u8], lent: &mut Lent) -> Written {
+fn write(kind: usize, to_standard: bool, line: &[u8], lent: &mut Lent) -> Written {
     match kind {
         keys::DELIVER => write_deliver(line, lent),
         keys::SUBMIT => write_submit(line, lent),
-        keys::SUBMIT_REPORT => write_submit_report(line, lent),
-        keys::DELIVER_REPORT => write_deliver_report(line, lent),
-        keys::STATUS_REPORT => write_status_report(line, lent),
+        keys::SUBMIT_REPORT => write_submit_report(line, to_standard, lent),
+        keys::DELIVER_REPORT => write_deliver_report(line, to_standard, lent),
+        keys::STATUS_REPORT => write_status_report(line, to_standard, lent),
         _ => Written::Done(0),
     }
 }
 
-// The answer to a line that gives a record of a kind.
-pub fn answer(kind: usize, line: &[u8], show: bool, out: &mut Output, at: usize) -> usize {
+// The answer to a line that gives a record of a kind, written within the published crate's limit of user data or, if it
+// is a report, the standard's.
+pub fn answer(
+    kind: usize,
+    to_standard: bool,
+    line: &[u8],
+    show: bool,
+    out: &mut Output,
+    at: usize,
+) -> usize {
     let mut lent = [0u8; 255];
-    let w = write(kind, line, &mut lent);
+    let w = write(kind, to_standard, line, &mut lent);
     fields::written(out, at, w, &lent, show)
 }

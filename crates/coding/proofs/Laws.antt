@@ -9,7 +9,7 @@ use borrow.Author.Tests.{eq-eqb, eqb-true, le-ltb, lt-ltb, leb-true, leb-false}
 use lib.Dec.{eqb, leb, ltb}
 use lib.ListN.{length as size}
 use Rattle.octets.specs.Answers.{fine}
-use Rattle.octets.specs.Checks.{Check, _unless_, checked, afterChecked}
+use Rattle.octets.specs.Checks.{Check, _unless_, found, checked, afterChecked}
 use Rattle.octets.specs.Choice.{if_then_else_}
 use Rattle.octets.specs.Lent.{refused}
 use Rattle.octets.specs.declared.Refusal.the-variants.{UserDataLengthDisagrees, UserDataTooLong}
@@ -18,7 +18,7 @@ use Rattle.octets.proofs.Laws.{take-pad, cleared-pad}
 use Rattle.coding.specs.declared.UserData.{UserData}
 use Rattle.coding.specs.declared.UserDataCoding.{UserDataCoding}
 use Rattle.coding.specs.declared.UserDataCoding.the-variants.{Gsm7Bit, EightBit, Ucs2, Compressed}
-use Rattle.coding.specs.Coding.{codingOf, dataOctets, checkedData, dataChecks, dataWith, dataOf, clearedData}
+use Rattle.coding.specs.Coding.{codingOf, dataOctets, dataWithin, checkedData, dataChecks, dataWith, dataOf, clearedData}
 
 -- what is stored is held
 pub data-held : (xs : List ℕ) → dataOf (dataWith xs) ≡ xs
@@ -45,12 +45,15 @@ module _ (dcs udl n : ℕ) where
   unfolding checkedData
   data-checked checks xs = checked-then xs (dataChecks dcs udl n) checks
 
-  -- data that pass have the number that UDL and DCS give, and are few
+  -- data that pass within a limit have the number that UDL and DCS give, and keep within it
+  pub within-passed : (limit : ℕ) → found (dataWithin limit dcs udl n) ≡ fine → (n ≡ dataOctets (codingOf dcs) udl) × (n ≤ limit)
+  within-passed limit e =
+      let (size, f) = holds UserDataLengthDisagrees (eqb n (dataOctets (codingOf dcs) udl)) ((UserDataTooLong unless leb n limit) ∷ []) e in
+      (eqb-true _ _ size, leb-true _ _ (holds UserDataTooLong (leb n limit) [] f .0))
+
   pub data-passed : checkedData dcs udl n ≡ fine → (n ≡ dataOctets (codingOf dcs) udl) × (n ≤ 140)
   unfolding checkedData
-  data-passed e =
-      let (size, f) = holds UserDataLengthDisagrees (eqb n (dataOctets (codingOf dcs) udl)) ((UserDataTooLong unless leb n 140) ∷ []) e in
-      (eqb-true _ _ size, leb-true _ _ (holds UserDataTooLong (leb n 140) [] f .0))
+  data-passed e = within-passed 140 e
 
 -- no more octets than UDL counts
 pub data-at-most : (coding : UserDataCoding) (udl : ℕ) → dataOctets coding udl ≤ udl

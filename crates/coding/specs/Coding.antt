@@ -33,9 +33,13 @@ dataOctets EightBit udl = udl
 dataOctets Ucs2 udl = udl
 dataOctets Compressed udl = udl
 
--- user data of n octets can be written: their number is what UDL and DCS give (refusal 7), and at most 140 (8)
+-- user data of n octets can be written within a limit: their number is what UDL and DCS give (refusal 7), and at most the limit (8)
+abbrev pub dataWithin : ℕ → ℕ → ℕ → ℕ → List Check
+dataWithin limit dcs udl n = (UserDataLengthDisagrees unless eqb n (dataOctets (codingOf dcs) udl)) ∷ (UserDataTooLong unless leb n limit) ∷ []
+
+-- so within 140, the limit of the ported writers
 abbrev pub dataChecks : ℕ → ℕ → ℕ → List Check
-dataChecks dcs udl n = (UserDataLengthDisagrees unless eqb n (dataOctets (codingOf dcs) udl)) ∷ (UserDataTooLong unless leb n 140) ∷ []
+dataChecks dcs udl n = dataWithin 140 dcs udl n
 
 unfoldable pub checkedData : ℕ → ℕ → ℕ → Said Unit
 checkedData dcs udl n = found (dataChecks dcs udl n)

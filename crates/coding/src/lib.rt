@@ -4,7 +4,8 @@ ghost use mathlib.Core.List.{[]};
 ghost use Prim.Native.Nat.{_≤_};
 ghost use lib.ListN.{length};
 ghost use Rattle.octets.specs.Answers.{checkedSays};
-ghost use Rattle.coding.specs.Coding.{codingOf, dataOctets, dataWith, checkedData};
+ghost use Rattle.octets.specs.Checks.{found};
+ghost use Rattle.coding.specs.Coding.{codingOf, dataOctets, dataWith, dataWithin, checkedData};
 use octets::Checked;
 use octets::Refusal;
 
@@ -82,18 +83,25 @@ pub fn no_data() -> UserData
     }
 }
 
-// The octets that a writer's user data may have.
-const MAX_USER_DATA_OCTETS: usize = 140;
+// The octets that user data may have in a ported writer.
+pub const MAX_USER_DATA_OCTETS: usize = 140;
 
-// Whether user data of so many octets go with DCS and TP-User-Data-Length.
-pub fn check_user_data(dcs: u8, length: u8, octets: usize) -> Checked
-    ensures { λ r. ⌜ checkedSays r ≡ checkedData dcs length octets ⌝ }
+// Whether user data of so many octets go with DCS and TP-User-Data-Length, and keep within a limit.
+pub fn check_user_data_within(limit: usize, dcs: u8, length: u8, octets: usize) -> Checked
+    ensures { λ r. ⌜ checkedSays r ≡ found (dataWithin limit dcs length octets) ⌝ }
 {
     if octets != user_data_octets(user_data_coding(dcs), length) {
         return Checked::Against(Refusal::UserDataLengthDisagrees);
     }
-    if MAX_USER_DATA_OCTETS < octets {
+    if limit < octets {
         return Checked::Against(Refusal::UserDataTooLong);
     }
     Checked::Fine
+}
+
+// The same within the limit of the ported writers.
+pub fn check_user_data(dcs: u8, length: u8, octets: usize) -> Checked
+    ensures { λ r. ⌜ checkedSays r ≡ checkedData dcs length octets ⌝ }
+{
+    check_user_data_within(MAX_USER_DATA_OCTETS, dcs, length, octets)
 }

@@ -14,25 +14,25 @@ use Rattle.octets.proofs.Checks.{passed, against, all-passed, one-against}
 use Rattle.parameters.specs.Optional.{held}
 use Rattle.parameters.specs.Parameters.{Parameters}
 use Rattle.parameters.specs.declared.OptionalOctet.{OptionalOctet}
-use Rattle.parameters.specs.Checking.{indicatorChecks, dataChecks}
+use Rattle.parameters.specs.Checking.{indicatorChecks, dataWithin}
 use Rattle.deliver_report.specs.Writing.{octetsIn, making}
 
-module _ (udhi : Bool) (cause : OptionalOctet) (pi : ℕ) (p : Parameters) where
+pub size-is : (udhi : Bool) (cause : OptionalOctet) (pi : ℕ) (p : Parameters) → length (octetsIn udhi cause pi p) ≡ 2 + held cause + (held (p .pid) + held (p .dcs) + held (p .udl) + length (p .ud))
+size-is udhi cause pi p = simp length-append (omega arith)
+
+module _ (limit : ℕ) (udhi : Bool) (cause : OptionalOctet) (pi : ℕ) (p : Parameters) where
   abbrev all : Making (Said ℕ)
-  all = making udhi cause pi p
+  all = making limit udhi cause pi p
 
   abbrev octets : List ℕ
   octets = octetsIn udhi cause pi p
-
-  pub size-is : length octets ≡ 2 + held cause + (held (p .pid) + held (p .dcs) + held (p .udl) + length (p .ud))
-  size-is = simp length-append (omega arith)
 
   -- the indicator's checks, and the user data's
   abbrev first : List Check
   first = indicatorChecks pi (p .pid) (p .dcs) (p .udl)
 
   abbrev last : List Check
-  last = dataChecks (p .dcs) (p .udl) (length (p .ud))
+  last = dataWithin limit (p .dcs) (p .udl) (length (p .ud))
 
   pub indicator-against : {why : Refusal} → found first ≡ refuses why → all ≡ refused why
   unfolding making

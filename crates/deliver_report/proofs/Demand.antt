@@ -27,7 +27,7 @@ use Rattle.parameters.proofs.Checking.{answers}
 use Rattle.parameters.proofs.Made.{Held, parameters-make, joined-append, past-append}
 use Rattle.deliver_report.specs.Layout.{deliverReported, format}
 use Rattle.deliver_report.specs.Internal.{afterCause}
-use Rattle.deliver_report.specs.DeliverReport.{stopped, ack, error, parametersOf, deliverReporting, cleared, Typed}
+use Rattle.deliver_report.specs.DeliverReport.{stopped, ack, error, parametersOf, standardLimit, deliverReportingWithin, deliverReporting, deliverReportingToStandard, cleared, Typed}
 use Rattle.deliver_report.specs.Writing.{octetsIn, making}
 use Rattle.deliver_report.specs.declared.SmsDeliverReport.{SmsDeliverReport}
 use Rattle.deliver_report.proofs.RecordWritten.{by-fields}
@@ -38,13 +38,16 @@ abbrev octetsOf : SmsDeliverReport → List ℕ
 octetsOf r = octetsIn (r .«tp_udhi») (r .«tp_failure_cause») (r .«tp_parameter_indicator») (parametersOf r)
 
 -- what lies after the length is not written
-of-cleared : (r : SmsDeliverReport) → Typed r → deliverReporting (cleared r) ≡ deliverReporting r
-unfolding deliverReporting
-of-cleared r d = rw (take-cleared 255 (r .«tp_user_data» .length) (r .«tp_user_data» .octets) d)
+of-cleared : (limit : ℕ) (r : SmsDeliverReport) → Typed r → deliverReportingWithin limit (cleared r) ≡ deliverReportingWithin limit r
+unfolding deliverReportingWithin
+of-cleared limit r d = rw (take-cleared 255 (r .«tp_user_data» .length) (r .«tp_user_data» .octets) d)
 
--- equal records are written alike
-pub written-alike : (r q : SmsDeliverReport) → Typed r → Typed q → cleared r ≡ cleared q → deliverReporting r ≡ deliverReporting q
-written-alike r q f g e = sym (of-cleared r f) ∙ ap deliverReporting e ∙ of-cleared q g
+-- equal records are written alike, within a limit and to the standard
+pub written-alike : (limit : ℕ) (r q : SmsDeliverReport) → Typed r → Typed q → cleared r ≡ cleared q → deliverReportingWithin limit r ≡ deliverReportingWithin limit q
+written-alike limit r q f g e = sym (of-cleared limit r f) ∙ ap (deliverReportingWithin limit) e ∙ of-cleared limit q g
+
+pub standard-written-alike : (r q : SmsDeliverReport) → Typed r → Typed q → cleared r ≡ cleared q → deliverReportingToStandard r ≡ deliverReportingToStandard q
+standard-written-alike r q f g e = written-alike _ r q f g e ∙ ap (λ (o : SmsDeliverReport). deliverReportingWithin (standardLimit (o .«tp_failure_cause»)) q) e
 
 -- a record that was made of fields is cleared
 pub made-cleared : (udhi : Bool) (cause : OptionalOctet) (pi : ℕ) (p : Parameters) → cleared (deliverReported udhi cause pi p) ≡ deliverReported udhi cause pi p
@@ -75,9 +78,9 @@ module _ (udhi : Bool) (cause : OptionalOctet) (pi : ℕ) (p : Parameters) where
   unfolding deliverReported
   octets-held = ap octetsOf (made-cleared udhi cause pi p) ∙ rw (data-held (p .ud))
 
-  its-making : length (p .ud) ≤ 255 → deliverReporting r ≡ making udhi cause pi p
+  its-making : length (p .ud) ≤ 255 → deliverReporting r ≡ making 140 udhi cause pi p
   unfolding deliverReported dataWith
-  its-making h = by-fields r h ∙ rw (data-held (p .ud))
+  its-making h = by-fields 140 r h ∙ rw (data-held (p .ud))
 
   -- indicator and parameters stand after the fields of first octet and cause
   module _ (front cs : List Field) (j : joined front ≡ flag udhi 64 ∷ octetsHeld cause) (n : anyPastLimit front ≡ false) (h : Held pi p cs) where

@@ -1,19 +1,19 @@
--- What the writer makes of a record: its length, then its fields.
+-- What a writer makes of a record within a limit: its length, then its fields.
 -- Assumes nothing.
-use Prim.Native.Nat.{_≤_, _<_}
+use Prim.Native.Nat.{ℕ, _≤_, _<_}
 use mathlib.Core.Path.{_≡_}
 use borrow.Author.Tests.{lt-ltb, le-ltb}
 use Rattle.octets.specs.Lent.{refused}
 use Rattle.octets.specs.declared.Refusal.the-variants.{LengthTooLarge}
-use Rattle.deliver_report.specs.DeliverReport.{parametersOf, deliverReporting}
+use Rattle.deliver_report.specs.DeliverReport.{parametersOf, deliverReportingWithin}
 use Rattle.deliver_report.specs.Writing.{making}
 use Rattle.deliver_report.specs.declared.SmsDeliverReport.{SmsDeliverReport}
 
-module _ (r : SmsDeliverReport) where
-  pub too-long : 255 < r .«tp_user_data» .length → deliverReporting r ≡ refused LengthTooLarge
-  unfolding deliverReporting
+module _ (limit : ℕ) (r : SmsDeliverReport) where
+  pub too-long : 255 < r .«tp_user_data» .length → deliverReportingWithin limit r ≡ refused LengthTooLarge
+  unfolding deliverReportingWithin
   too-long h = rw (lt-ltb 255 (r .«tp_user_data» .length) h)
 
-  pub by-fields : r .«tp_user_data» .length ≤ 255 → deliverReporting r ≡ making (r .«tp_udhi») (r .«tp_failure_cause») (r .«tp_parameter_indicator») (parametersOf r)
-  unfolding deliverReporting
+  pub by-fields : r .«tp_user_data» .length ≤ 255 → deliverReportingWithin limit r ≡ making limit (r .«tp_udhi») (r .«tp_failure_cause») (r .«tp_parameter_indicator») (parametersOf r)
+  unfolding deliverReportingWithin
   by-fields h = rw (le-ltb 255 (r .«tp_user_data» .length) h)

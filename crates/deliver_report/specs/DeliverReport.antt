@@ -1,15 +1,17 @@
--- SMS-DELIVER-REPORT (TS 23.040 §9.2.2.1a): its two layouts, what its writer makes of a record, and what is no part of one.
+-- SMS-DELIVER-REPORT (TS 23.040 §9.2.2.1a): its two layouts, what its writers make of a record, and what is no part of one.
 use Prim.Native.Nat.{ℕ}
 use mathlib.Core.Path.{_≡_, refl}
 use mathlib.Core.Bool.{Bool, true, false}
 use mathlib.Core.List.{[], _∷_}
 use lib.Dec.{ltb}
-use Rattle.octets.specs.Answers.{Said}
+use Rattle.octets.specs.Answers.{Said, refuses, fine}
+use Rattle.octets.specs.Checks.{found}
 use Rattle.octets.specs.Choice.{if_then_else_}
 use Rattle.octets.specs.Lent.{Making, refused}
-use Rattle.octets.specs.declared.Refusal.the-variants.{LengthTooLarge, OctetsEnd, WrongMessageType}
+use Rattle.octets.specs.declared.Refusal.the-variants.{LengthTooLarge, OctetsEnd, WrongMessageType, UserDataTooLong}
 use Rattle.coding.specs.Coding.{codingOf, characterSet, dataOctets, dataOf, clearedData, TypedData}
 use Rattle.layout.specs.Layout.{indicatorSize, kept, Layout, plain, stopping, stops, reached, halted, after, reading, readFrom, read, fieldsOf, canonicalOf}
+use Rattle.parameters.specs.Checking.{dataWithin}
 use Rattle.parameters.specs.Layout.{parameters}
 use Rattle.parameters.specs.Parameters.{Parameters, noParameters}
 use Rattle.parameters.specs.declared.OptionalOctet.{OptionalOctet}
@@ -61,11 +63,30 @@ parametersOf r = record { pid = r .«tp_pid»; dcs = r .«tp_dcs»; udl = r .«t
 abbrev pub tooLong : SmsDeliverReport → Bool
 tooLong r = ltb 255 (r .«tp_user_data» .length)
 
--- what the writer makes of a record
-unfoldable pub deliverReporting : SmsDeliverReport → Making (Said ℕ)
-deliverReporting r =
+-- what a writer makes of a record within a limit of user data
+unfoldable pub deliverReportingWithin : ℕ → SmsDeliverReport → Making (Said ℕ)
+deliverReportingWithin limit r =
     if tooLong r then refused LengthTooLarge
-    else making (r .«tp_udhi») (r .«tp_failure_cause») (r .«tp_parameter_indicator») (parametersOf r)
+    else making limit (r .«tp_udhi») (r .«tp_failure_cause») (r .«tp_parameter_indicator») (parametersOf r)
+
+-- the ported writer: within 140
+abbrev pub deliverReporting : SmsDeliverReport → Making (Said ℕ)
+deliverReporting = deliverReportingWithin 140
+
+-- the limits of the standard's two tables (TS 23.040 §9.2.2.1a): 159 in an RP-ACK, 158 in an RP-ERROR, which a cause means
+abbrev pub standardLimit : OptionalOctet → ℕ
+standardLimit Absent = 159
+standardLimit (Present cause) = 158
+
+-- the writer to the standard: within these
+abbrev pub deliverReportingToStandard : SmsDeliverReport → Making (Said ℕ)
+deliverReportingToStandard r = deliverReportingWithin (standardLimit (r .«tp_failure_cause»)) r
+
+-- user data of 159 and 160 octets in an RP-ACK, of 158 and 159 in an RP-ERROR with cause D3
+known-limits : (found (dataWithin (standardLimit Absent) (Present 0x04) (Present 159) 159) ≡ fine) × (found (dataWithin (standardLimit Absent) (Present 0x04) (Present 160) 160) ≡ refuses UserDataTooLong)
+    × (found (dataWithin (standardLimit (Present 0xd3)) (Present 0x04) (Present 158) 158) ≡ fine) × (found (dataWithin (standardLimit (Present 0xd3)) (Present 0x04) (Present 159) 159) ≡ refuses UserDataTooLong)
+unfolding dataWithin codingOf characterSet dataOctets
+known-limits = (refl, refl, refl, refl)
 
 -- ---- what is no part of a record
 

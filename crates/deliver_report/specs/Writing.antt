@@ -10,12 +10,12 @@ use Rattle.octets.specs.Lent.{Making}
 use Rattle.parameters.specs.Optional.{octetsHeld}
 use Rattle.parameters.specs.Parameters.{Parameters, parametersOctets}
 use Rattle.parameters.specs.declared.OptionalOctet.{OptionalOctet}
-use Rattle.parameters.specs.Checking.{indicatorChecks, dataChecks}
+use Rattle.parameters.specs.Checking.{indicatorChecks, dataWithin}
 
 -- their octets, in the layout's order: UDHI in bit 6 and MTI 0, cause, indicator, parameters
 abbrev pub octetsIn : Bool → OptionalOctet → ℕ → Parameters → List ℕ
 octetsIn udhi cause pi p = flag udhi 64 ∷ octetsHeld cause ++ pi ∷ parametersOctets p
 
--- what a writer makes of them: 13 and 14; 7, 8 and 15
-unfoldable pub making : Bool → OptionalOctet → ℕ → Parameters → Making (Said ℕ)
-making udhi cause pi p = checked (indicatorChecks pi (p .pid) (p .dcs) (p .udl) ++ dataChecks (p .dcs) (p .udl) (length (p .ud))) (octetsIn udhi cause pi p)
+-- what a writer makes of them within a limit of user data: 13 and 14; 7, 8 and 15
+unfoldable pub making : ℕ → Bool → OptionalOctet → ℕ → Parameters → Making (Said ℕ)
+making limit udhi cause pi p = checked (indicatorChecks pi (p .pid) (p .dcs) (p .udl) ++ dataWithin limit (p .dcs) (p .udl) (length (p .ud))) (octetsIn udhi cause pi p)

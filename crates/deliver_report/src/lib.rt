@@ -9,7 +9,7 @@ ghost use Rattle.octets.specs.Lent.{lend};
 ghost use Rattle.layout.specs.Layout.{read, readFrom, answer};
 ghost use Rattle.deliver_report.specs.Layout.{deliverReported};
 ghost use Rattle.deliver_report.specs.Internal.{afterCause};
-ghost use Rattle.deliver_report.specs.DeliverReport.{causeAlone, blank as blankReport, stopped as stoppedReport, ack, error, deliverReporting};
+ghost use Rattle.deliver_report.specs.DeliverReport.{causeAlone, blank as blankReport, stopped as stoppedReport, ack, error, standardLimit, deliverReportingWithin, deliverReporting, deliverReportingToStandard};
 use coding::UserData;
 use octets::Octet;
 use octets::Outcome;
@@ -24,6 +24,10 @@ const MTI_DELIVER: u8 = 0;
 const REPORT_UNUSED_BITS: u8 = 0xBC;
 // TP-FCS "Unspecified error cause" (TS 23.040 §9.2.3.22).
 const FAILURE_CAUSE_UNSPECIFIED: u8 = 0xFF;
+// The octets of user data in the standard's tables of a report in an RP-ACK and in an RP-ERROR (TS 23.040 §9.2.2.1a).
+const RP_ACK_USER_DATA_OCTETS: usize = 159;
+
+const RP_ERROR_USER_DATA_OCTETS: usize = 158;
 
 pub struct SmsDeliverReport {
     pub tp_udhi: bool,
@@ -123,6 +127,16 @@ fn after_cause(data: &[u8], place: Place, udhi: bool, cause: OptionalOctet) -> D
     report(udhi, cause, indicator, data, pid, dcs, udl, n, end.at)
 }
 
+// The standard's limit of user data: a cause held means RP-ERROR.
+fn standard_limit(cause: OptionalOctet) -> usize
+    ensures { λ r. ⌜ r ≡ standardLimit cause ⌝ }
+{
+    match cause {
+        OptionalOctet::Absent => RP_ACK_USER_DATA_OCTETS,
+        OptionalOctet::Present(_) => RP_ERROR_USER_DATA_OCTETS,
+    }
+}
+
 impl SmsDeliverReport {
     // The layout carried in an RP-ACK (no TP-Failure-Cause).
     pub fn decode_for_rp_ack(data: &[u8]) -> DeliverReportRead
@@ -164,9 +178,9 @@ impl SmsDeliverReport {
         )
     }
 
-    // Writes the report to the start of a lent output.
-    pub fn encode(self, out: &mut [u8]) -> Written
-        ensures { λ r. ⌜ (writtenSays r, now (out .exit)) ≡ lend refuses (deliverReporting self) (now (out .entry)) ⌝ }
+    // Writes the report to the start of a lent output, its user data within a limit.
+    fn encode_within(self, limit: usize, out: &mut [u8]) -> Written
+        ensures { λ r. ⌜ (writtenSays r, now (out .exit)) ≡ lend refuses (deliverReportingWithin limit self) (now (out .entry)) ⌝ }
     {
         let n = self.tp_user_data.length;
         if 255 < n {
@@ -178,6 +192,7 @@ impl SmsDeliverReport {
         let dcs = self.tp_dcs;
         let udl = self.tp_user_data_length;
         writing::encode_fields(
+            limit,
             self.tp_udhi,
             cause,
             self.tp_parameter_indicator,
@@ -187,5 +202,20 @@ impl SmsDeliverReport {
             &octets[..n],
             out,
         )
+    }
+
+    // Writes the report to the start of a lent output.
+    pub fn encode(self, out: &mut [u8]) -> Written
+        ensures { λ r. ⌜ (writtenSays r, now (out .exit)) ≡ lend refuses (deliverReporting self) (now (out .entry)) ⌝ }
+    {
+        self.encode_within(coding::MAX_USER_DATA_OCTETS, out)
+    }
+
+    // The same with the limit of user data that the standard's tables have, in place of the published crate's.
+    pub fn encode_to_standard(self, out: &mut [u8]) -> Written
+        ensures { λ r. ⌜ (writtenSays r, now (out .exit)) ≡ lend refuses (deliverReportingToStandard self) (now (out .entry)) ⌝ }
+    {
+        let cause = self.tp_failure_cause;
+        self.encode_within(standard_limit(cause), out)
     }
 }

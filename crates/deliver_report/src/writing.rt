@@ -33,8 +33,10 @@ fn put_fields(
     parameters::writing::put_parameters(out, p3, pid, dcs, udl, data)
 }
 
-// Writes the values to the start of a lent output: checks in order, then the size, then the octets.
+// Writes the values to the start of a lent output, user data within a limit: checks in order, then the size, then the
+// octets.
 pub fn encode_fields(
+    limit: usize,
     udhi: bool,
     cause: OptionalOctet,
     indicator: u8,
@@ -44,7 +46,8 @@ pub fn encode_fields(
     data: &[u8],
     out: &mut [u8],
 ) -> Written
-    ensures { λ r. ⌜ (writtenSays r, now (out .exit)) ≡ lend refuses (making udhi cause indicator (record { pid = pid; dcs = dcs; udl = udl; ud = now («data» .entry) })) (now (out .entry)) ⌝ }
+    requires { ⌜ length (now «data») ≤ 255 ⌝ }
+    ensures { λ r. ⌜ (writtenSays r, now (out .exit)) ≡ lend refuses (making limit udhi cause indicator (record { pid = pid; dcs = dcs; udl = udl; ud = now («data» .entry) })) (now (out .entry)) ⌝ }
 {
     if let Checked::Against(r) = parameters::writing::check_parameter_indicator(
         indicator,
@@ -54,7 +57,7 @@ pub fn encode_fields(
     ) {
         return Written::Refused(r);
     }
-    if let Checked::Against(r) = parameters::writing::check_data(dcs, udl, data.len()) {
+    if let Checked::Against(r) = parameters::writing::check_data(limit, dcs, udl, data.len()) {
         return Written::Refused(r);
     }
     let size = parameters::writing::parameters_size(pid, dcs, udl, data.len());

@@ -18,7 +18,7 @@ use Rattle.coding.proofs.Laws.{data-back}
 use Rattle.layout.specs.Demand.{Demand2}
 use Rattle.layout.specs.Layout.{reached, readFrom, read}
 use Rattle.layout.proofs.Steps.{done-reached}
-use Rattle.parameters.specs.Checking.{indicatorChecks, dataChecks}
+use Rattle.parameters.specs.Checking.{indicatorChecks, dataWithin}
 use Rattle.parameters.specs.Optional.{held}
 use Rattle.parameters.specs.Parameters.{Parameters, parametersOctets}
 use Rattle.parameters.specs.declared.OptionalOctet.{OptionalOctet}
@@ -26,7 +26,7 @@ use Rattle.parameters.specs.declared.OptionalOctet.the-variants.{Absent, Presen
 use Rattle.parameters.proofs.Laws.{one-at-most}
 use Rattle.deliver_report.specs.Layout.{deliverReported}
 use Rattle.deliver_report.specs.Internal.{afterCause}
-use Rattle.deliver_report.specs.DeliverReport.{outcomeOf, parametersOf, tooLong, deliverReporting, cleared, capitalised, Typed}
+use Rattle.deliver_report.specs.DeliverReport.{outcomeOf, parametersOf, tooLong, deliverReportingWithin, deliverReporting, standardLimit, deliverReportingToStandard, cleared, capitalised, Typed}
 use Rattle.deliver_report.specs.Writing.{octetsIn, making}
 use Rattle.deliver_report.specs.declared.SmsDeliverReport.{SmsDeliverReport}
 use Rattle.deliver_report.proofs.CheckByCheck.{size-is}
@@ -36,10 +36,10 @@ use Rattle.demands.proofs.ParametersBack.{octet-here, indicator-here, n
 
 -- ---- the octets of values that pass the checks
 
-module _ (pi : ℕ) (p : Parameters) (i : found (indicatorChecks pi (p .pid) (p .dcs) (p .udl)) ≡ fine) (d : found (dataChecks (p .dcs) (p .udl) (length (p .ud))) ≡ fine) where
+module _ (limit pi : ℕ) (p : Parameters) (i : found (indicatorChecks pi (p .pid) (p .dcs) (p .udl)) ≡ fine) (d : found (dataWithin limit (p .dcs) (p .udl) (length (p .ud))) ≡ fine) where
   after-cause-back : (udhi : Bool) (cause : OptionalOctet) (s : List ℕ) (at : ℕ) → drop at s ≡ pi ∷ parametersOctets p
       → readFrom (afterCause udhi cause) s at ≡ reached (deliverReported udhi cause pi p) (at + 1 + held (p .pid) + held (p .dcs) + held (p .udl) + length (p .ud))
-  after-cause-back udhi cause s at e = indicator-here s at e _ (not-extended pi p [] 0 i d) ∙ parameters-here pi p i d s (at + 1) (sym (drop-drop 1 at s) ∙ ap (drop 1) e) _ ∙ done-reached s _ _
+  after-cause-back udhi cause s at e = indicator-here s at e _ (not-extended limit pi p [] 0 i d) ∙ parameters-here limit pi p i d s (at + 1) (sym (drop-drop 1 at s) ∙ ap (drop 1) e) _ ∙ done-reached s _ _
 
   back : (udhi : Bool) (cause : OptionalOctet) → (n : ℕ) × (read (outcomeOf cause) (octetsIn udhi cause pi p) ≡ reached (deliverReported udhi cause pi p) n)
   back true Absent = (_, outcomes (octetsIn true Absent pi p) .ack-goes-on (octet-here _ 0 refl) refl ∙ after-cause-back true Absent _ 1 refl)
@@ -50,31 +50,31 @@ module _ (pi : ℕ) (p : Parameters) (i : found (indicatorChecks pi (p .pid) (p 
 -- ---- a record
 
 -- what a written record's octets are, and the checks that it passed
-record Passed (r : SmsDeliverReport) (octets : List ℕ) : Type 0 where
+record Passed (limit : ℕ) (r : SmsDeliverReport) (octets : List ℕ) : Type 0 where
   pub is : octetsIn (r .«tp_udhi») (r .«tp_failure_cause») (r .«tp_parameter_indicator») (parametersOf r) ≡ octets
   pub data-fits : r .«tp_user_data» .length ≤ 255
   pub indicator : found (indicatorChecks (r .«tp_parameter_indicator») (r .«tp_pid») (r .«tp_dcs») (r .«tp_user_data_length»)) ≡ fine
-  pub held : found (dataChecks (r .«tp_dcs») (r .«tp_user_data_length») (length (dataOf (r .«tp_user_data»)))) ≡ fine
+  pub held : found (dataWithin limit (r .«tp_dcs») (r .«tp_user_data_length») (length (dataOf (r .«tp_user_data»)))) ≡ fine
 
-module _ {octets : List ℕ} {answer : Said ℕ} (r : SmsDeliverReport) (e : deliverReporting r ≡ made octets answer) where
-  passed : Passed r octets
-  unfolding deliverReporting making
+module _ {octets : List ℕ} {answer : Said ℕ} (limit : ℕ) (r : SmsDeliverReport) (e : deliverReportingWithin limit r ≡ made octets answer) where
+  passed : Passed limit r octets
+  unfolding deliverReportingWithin making
   passed =
       let (long, m) = made-unless LengthTooLarge (tooLong r) e in
       let (f, x) = made-told _ _ m in
-      let (i, d) = both-hold (indicatorChecks (r .«tp_parameter_indicator») (r .«tp_pid») (r .«tp_dcs») (r .«tp_user_data_length»)) (dataChecks (r .«tp_dcs») (r .«tp_user_data_length») (length (dataOf (r .«tp_user_data»)))) f in
+      let (i, d) = both-hold (indicatorChecks (r .«tp_parameter_indicator») (r .«tp_pid») (r .«tp_dcs») (r .«tp_user_data_length»)) (dataWithin limit (r .«tp_dcs») (r .«tp_user_data_length») (length (dataOf (r .«tp_user_data»)))) f in
       record { is = x; data-fits = ltb-false _ _ long; indicator = i; held = d }
 
-  -- what was written has at most 146 octets
-  pub at-most : length octets ≤ 146
-  at-most = rw (← passed .is, size-is) (omega (arith, one-at-most (r .«tp_failure_cause»), parameters-limit (parametersOf r) (passed .held)))
+  -- what was written has at most six octets more than the user data may, or five without a cause
+  at-most-within : length octets ≤ 5 + held (r .«tp_failure_cause») + limit
+  at-most-within = rw (← passed .is, size-is) (omega (arith, parameters-limit limit (parametersOf r) (passed .held)))
 
   -- what was written is read back
   read-back : Typed r → (q : SmsDeliverReport) × (n : ℕ) × (read (outcomeOf (r .«tp_failure_cause»)) octets ≡ reached q n) × (cleared q ≡ capitalised (cleared r))
   unfolding deliverReported
   read-back hd =
       let d = r .«tp_user_data» in
-      let (n, is) = back (r .«tp_parameter_indicator») (parametersOf r) (passed .indicator) (passed .held) (r .«tp_udhi») (r .«tp_failure_cause») in
+      let (n, is) = back limit (r .«tp_parameter_indicator») (parametersOf r) (passed .indicator) (passed .held) (r .«tp_udhi») (r .«tp_failure_cause») in
       let ld : length (dataOf d) ≡ d .length = length-take-le (d .length) (d .octets) (omega (arith, passed .data-fits)) in (
         deliverReported (r .«tp_udhi») (r .«tp_failure_cause») (r .«tp_parameter_indicator») (parametersOf r),
         n,
@@ -82,13 +82,30 @@ module _ {octets : List ℕ} {answer : Said ℕ} (r : SmsDeliverReport) (e : del
         made-cleared _ _ _ _ ∙ rw (data-back d ld),
       )
 
-pub deliver-report-demand2 : Demand2 Typed cleared capitalised (λ r. outcomeOf (r .«tp_failure_cause»)) deliverReporting (λ r. fine) (λ r. false)
-deliver-report-demand2 = record {
-  back = λ r t octets n e x. read-back r e t;
-  excepted = λ r t octets n e why x. absurd (never x);
-  only = λ r why x. absurd (never x);
-}
+-- ---- the writer within the limit of each record
 
-pub deliver-report-counts : (r : SmsDeliverReport) (xs : List ℕ) (a : Said ℕ) → deliverReporting r ≡ made xs a → a ≡ gives (length xs)
-unfolding deliverReporting making
-deliver-report-counts r xs a e = made-counts _ _ (made-unless LengthTooLarge (tooLong r) e .1)
+module _ (limitOf : SmsDeliverReport → ℕ) where
+  pub deliver-report-demand2 : Demand2 Typed cleared capitalised (λ r. outcomeOf (r .«tp_failure_cause»)) (λ r. deliverReportingWithin (limitOf r) r) (λ r. fine) (λ r. false)
+  deliver-report-demand2 = record {
+    back = λ r t octets n e x. read-back (limitOf r) r e t;
+    excepted = λ r t octets n e why x. absurd (never x);
+    only = λ r why x. absurd (never x);
+  }
+
+  pub deliver-report-counts : (r : SmsDeliverReport) (xs : List ℕ) (a : Said ℕ) → deliverReportingWithin (limitOf r) r ≡ made xs a → a ≡ gives (length xs)
+  unfolding deliverReportingWithin making
+  deliver-report-counts r xs a e = made-counts _ _ (made-unless LengthTooLarge (tooLong r) e .1)
+
+-- ---- how much is written
+
+module _ (r : SmsDeliverReport) {octets : List ℕ} {answer : Said ℕ} where
+  pub at-most : deliverReporting r ≡ made octets answer → length octets ≤ 146
+  at-most e = omega (arith, at-most-within 140 r e, one-at-most (r .«tp_failure_cause»))
+
+  pub standard-at-most : deliverReportingToStandard r ≡ made octets answer → length octets ≤ 164
+  standard-at-most e = omega (arith, at-most-within (standardLimit (r .«tp_failure_cause»)) r e, room (r .«tp_failure_cause»))
+    where
+      -- a cause takes an octet from the user data
+      room : (cause : OptionalOctet) → held cause + standardLimit cause ≤ 159
+      room Absent = omega arith
+      room (Present x) = omega arith

@@ -2,21 +2,28 @@
 -- Demand 3: the reader takes a string exactly when the layout generates it; two records that were read are equal exactly when the canonical octets are; and the writer of a record that was read puts exactly
 -- the canonical octets into any buffer that is long enough, except where `unwritable` has one of document 01's four cases. The last argument says whether the kind's writer refuses the stopped record.
 -- Demand 2: what a writer wrote is read back as the same record, time letters capital, by the reader of its outcome; SUBMIT's reader may answer 17 or 18, exactly where `headerAnswer` says so, and never without UDHI.
+-- The three writers to the standard's limits (`encode_to_standard`): they read back too, and differ from the ported ones in the limit of user data alone.
 -- Assumes nothing.
 use mathlib.Core.Bool.{true, false}
+use lib.ListN.{length}
 use Rattle.octets.specs.Answers.{fine}
+use Rattle.coding.specs.Coding.{dataOf}
 use Rattle.layout.specs.Demand.{Demand2, Demand3, Answers2, Answers3}
 use Rattle.layout.proofs.Answered.{answers2, answers3}
+use Rattle.parameters.specs.Limits.{Limits}
 use Rattle.submit.specs.Submit as Submit
 use Rattle.submit.proofs.Demand.{submit-demand3}
 use Rattle.deliver.specs.Deliver as Deliver
 use Rattle.deliver.proofs.Demand.{deliver-demand3}
 use Rattle.submit_report.specs.SubmitReport as SubmitReport
 use Rattle.submit_report.proofs.Demand.{ack-demand3 as submit-ack, error-demand3 as submit-error}
+use Rattle.submit_report.proofs.Limits.{submit-report-limits}
 use Rattle.deliver_report.specs.DeliverReport as DeliverReport
 use Rattle.deliver_report.proofs.Demand.{ack-demand3 as deliver-ack, error-demand3 as deliver-error}
+use Rattle.deliver_report.proofs.Limits.{deliver-report-limits}
 use Rattle.status_report.specs.StatusReport as StatusReport
 use Rattle.status_report.proofs.Demand.{status-report-demand3}
+use Rattle.status_report.proofs.Limits.{status-report-limits}
 use Rattle.demands.proofs.SubmitBack.{submit-demand2, submit-counts}
 use Rattle.demands.proofs.DeliverBack.{deliver-demand2, deliver-counts}
 use Rattle.demands.proofs.SubmitReportBack.{submit-report-demand2, submit-report-counts}
@@ -62,13 +69,13 @@ pub deliver-back : Demand2 Deliver.Typed Deliver.cleared Deliver.capitalised (λ
 deliver-back = deliver-demand2
 
 pub submit-report-back : Demand2 SubmitReport.Typed SubmitReport.cleared SubmitReport.capitalised (λ r. SubmitReport.outcomeOf (r .«tp_failure_cause»)) SubmitReport.submitReporting (λ r. fine) (λ r. false)
-submit-report-back = submit-report-demand2
+submit-report-back = submit-report-demand2 (λ r. 140)
 
 pub deliver-report-back : Demand2 DeliverReport.Typed DeliverReport.cleared DeliverReport.capitalised (λ r. DeliverReport.outcomeOf (r .«tp_failure_cause»)) DeliverReport.deliverReporting (λ r. fine) (λ r. false)
-deliver-report-back = deliver-report-demand2
+deliver-report-back = deliver-report-demand2 (λ r. 140)
 
 pub status-report-back : Demand2 StatusReport.Typed StatusReport.cleared StatusReport.capitalised (λ r. StatusReport.statusReport) StatusReport.statusReporting (λ r. fine) (λ r. false)
-status-report-back = status-report-demand2
+status-report-back = status-report-demand2 140
 
 -- ---- both, of what the public functions answer
 
@@ -100,10 +107,40 @@ pub deliver-answers2 : Answers2 Deliver.Typed Deliver.cleared Deliver.capitalise
 deliver-answers2 = answers2 _ _ _ _ _ _ _ _ deliver-back deliver-counts
 
 pub submit-report-answers2 : Answers2 SubmitReport.Typed SubmitReport.cleared SubmitReport.capitalised SubmitReport.blank (λ r. SubmitReport.outcomeOf (r .«tp_failure_cause»)) SubmitReport.submitReporting (λ r. fine)
-submit-report-answers2 = answers2 _ _ _ _ _ _ _ _ submit-report-back submit-report-counts
+submit-report-answers2 = answers2 _ _ _ _ _ _ _ _ submit-report-back (submit-report-counts (λ r. 140))
 
 pub deliver-report-answers2 : Answers2 DeliverReport.Typed DeliverReport.cleared DeliverReport.capitalised DeliverReport.blank (λ r. DeliverReport.outcomeOf (r .«tp_failure_cause»)) DeliverReport.deliverReporting (λ r. fine)
-deliver-report-answers2 = answers2 _ _ _ _ _ _ _ _ deliver-report-back deliver-report-counts
+deliver-report-answers2 = answers2 _ _ _ _ _ _ _ _ deliver-report-back (deliver-report-counts (λ r. 140))
 
 pub status-report-answers2 : Answers2 StatusReport.Typed StatusReport.cleared StatusReport.capitalised StatusReport.blank (λ r. StatusReport.statusReport) StatusReport.statusReporting (λ r. fine)
-status-report-answers2 = answers2 _ _ _ _ _ _ _ _ status-report-back status-report-counts
+status-report-answers2 = answers2 _ _ _ _ _ _ _ _ status-report-back (status-report-counts 140)
+
+-- ---- the three writers to the standard's limits
+
+pub submit-report-standard-back : Demand2 SubmitReport.Typed SubmitReport.cleared SubmitReport.capitalised (λ r. SubmitReport.outcomeOf (r .«tp_failure_cause»)) SubmitReport.submitReportingToStandard (λ r. fine) (λ r. false)
+submit-report-standard-back = submit-report-demand2 (λ r. SubmitReport.standardLimit (r .«tp_failure_cause»))
+
+pub deliver-report-standard-back : Demand2 DeliverReport.Typed DeliverReport.cleared DeliverReport.capitalised (λ r. DeliverReport.outcomeOf (r .«tp_failure_cause»)) DeliverReport.deliverReportingToStandard (λ r. fine) (λ r. false)
+deliver-report-standard-back = deliver-report-demand2 (λ r. DeliverReport.standardLimit (r .«tp_failure_cause»))
+
+pub status-report-standard-back : Demand2 StatusReport.Typed StatusReport.cleared StatusReport.capitalised (λ r. StatusReport.statusReport) StatusReport.statusReportingToStandard (λ r. fine) (λ r. false)
+status-report-standard-back = status-report-demand2 StatusReport.standardLimit
+
+pub submit-report-standard-answers2 : Answers2 SubmitReport.Typed SubmitReport.cleared SubmitReport.capitalised SubmitReport.blank (λ r. SubmitReport.outcomeOf (r .«tp_failure_cause»)) SubmitReport.submitReportingToStandard (λ r. fine)
+submit-report-standard-answers2 = answers2 _ _ _ _ _ _ _ _ submit-report-standard-back (submit-report-counts (λ r. SubmitReport.standardLimit (r .«tp_failure_cause»)))
+
+pub deliver-report-standard-answers2 : Answers2 DeliverReport.Typed DeliverReport.cleared DeliverReport.capitalised DeliverReport.blank (λ r. DeliverReport.outcomeOf (r .«tp_failure_cause»)) DeliverReport.deliverReportingToStandard (λ r. fine)
+deliver-report-standard-answers2 = answers2 _ _ _ _ _ _ _ _ deliver-report-standard-back (deliver-report-counts (λ r. DeliverReport.standardLimit (r .«tp_failure_cause»)))
+
+pub status-report-standard-answers2 : Answers2 StatusReport.Typed StatusReport.cleared StatusReport.capitalised StatusReport.blank (λ r. StatusReport.statusReport) StatusReport.statusReportingToStandard (λ r. fine)
+status-report-standard-answers2 = answers2 _ _ _ _ _ _ _ _ status-report-standard-back (status-report-counts StatusReport.standardLimit)
+
+-- a record that both of a kind's writers accept has equal octets from both, and each accepts exactly those that it would but for the limit
+pub submit-report-alike : Limits SubmitReport.submitReportingWithin (λ r. length (dataOf (r .«tp_user_data»)))
+submit-report-alike = submit-report-limits
+
+pub deliver-report-alike : Limits DeliverReport.deliverReportingWithin (λ r. length (dataOf (r .«tp_user_data»)))
+deliver-report-alike = deliver-report-limits
+
+pub status-report-alike : Limits StatusReport.statusReportingWithin (λ r. length (dataOf (r .«tp_user_data»)))
+status-report-alike = status-report-limits

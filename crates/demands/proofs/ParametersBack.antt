@@ -13,10 +13,9 @@ use lib.Seq.{getD-drop}
 use Rattle.octets.specs.Answers.{gives, fine}
 use Rattle.octets.specs.Checks.{_unless_, found}
 use Rattle.octets.specs.Places.{octetAt}
-use Rattle.octets.specs.declared.Refusal.the-variants.{IndicatorDisagrees, IndicatorExtended, UserDataWithoutLength}
+use Rattle.octets.specs.declared.Refusal.the-variants.{IndicatorDisagrees, IndicatorExtended}
 use Rattle.octets.proofs.Checks.{holds}
-use Rattle.coding.specs.Coding.{codingOf, dataOctets, checkedData}
-use Rattle.coding.proofs.Laws.{data-passed}
+use Rattle.coding.specs.Coding.{codingOf, dataOctets}
 use Rattle.layout.specs.Layout.{octet, userData, indicator, indicatorSize, bit, isSet, Format, field, _then_, reached, reading, readFrom, leading}
 use Rattle.demands.proofs.LayoutBack.{field-read, field-here}
 use Rattle.layout.proofs.Steps.{then-goes-on}
@@ -26,13 +25,13 @@ use Rattle.parameters.specs.declared.OptionalOctet.{OptionalOctet}
 use Rattle.parameters.specs.declared.OptionalOctet.the-variants.{Absent, Present}
 use Rattle.parameters.proofs.Checking.{data-few}
 use Rattle.parameters.proofs.Laws.{one-at-most}
-use Rattle.parameters.specs.Checking.{indicatorChecks, dataChecks}
+use Rattle.parameters.specs.Checking.{indicatorChecks, dataWithin}
 use Rattle.parameters.specs.Layout.{announced, dataFor, parameters}
 use Rattle.parameters.proofs.Made.{three-bits}
 
--- parameters that pass have at most 143 octets
-pub parameters-limit : (p : Parameters) → found (dataChecks (p .dcs) (p .udl) (length (p .ud))) ≡ fine → held (p .pid) + held (p .dcs) + held (p .udl) + length (p .ud) ≤ 143
-parameters-limit p h = omega (arith, one-at-most (p .pid), one-at-most (p .dcs), one-at-most (p .udl), data-few (p .dcs) (p .udl) (length (p .ud)) h)
+-- parameters that pass have at most three octets more than the user data may
+pub parameters-limit : (limit : ℕ) (p : Parameters) → found (dataWithin limit (p .dcs) (p .udl) (length (p .ud))) ≡ fine → held (p .pid) + held (p .dcs) + held (p .udl) + length (p .ud) ≤ 3 + limit
+parameters-limit limit p h = omega (arith, one-at-most (p .pid), one-at-most (p .dcs), one-at-most (p .udl), data-few limit (p .dcs) (p .udl) (length (p .ud)) h .1)
 
 -- three bits are told by their number
 three : {a b c x y z : ℕ} → a ≤ 1 → b ≤ 1 → c ≤ 1 → x ≤ 1 → y ≤ 1 → z ≤ 1 → a + 2 * b + 4 * c ≡ x + 2 * y + 4 * z → (a ≡ x) × (b ≡ y) × (c ≡ z)
@@ -44,13 +43,13 @@ module _ {R : Type 0} (xs : List ℕ) (at : ℕ) where
   announced-back Absent b pi next h = rw (ne-eqb (bit b pi) 1 (λ e. omega arith), add-zero)
   announced-back (Present x) b pi next h = rw (eq-eqb (bit b pi) 1 (sym h)) (field-read octet (λ f. next (Present (leading f))) (x ∷ []) xs at refl)
 
-  data-back : (dcs udl : OptionalOctet) (ud : List ℕ) (next : List ℕ → Format R) → found (dataChecks dcs udl (length ud)) ≡ fine → reading (dataFor dcs udl then next) (ud ++ xs) at ≡ reading (next ud) xs (at + length ud)
-  unfolding reading dataChecks checkedData
-  data-back dcs Absent [] next h = rw add-zero
-  data-back dcs Absent (x ∷ ud) next h = absurd (omega (arith, eqb-true (length (x ∷ ud)) 0 (holds UserDataWithoutLength (eqb (length (x ∷ ud)) 0) [] h .0)))
-  data-back dcs (Present udl) ud next h = field-read (userData (dataOctets (codingOf (orZero dcs)) udl)) next ud xs at (sym (data-passed (orZero dcs) udl (length ud) h .0))
+  data-back : (limit : ℕ) (dcs udl : OptionalOctet) (ud : List ℕ) (next : List ℕ → Format R) → found (dataWithin limit dcs udl (length ud)) ≡ fine → reading (dataFor dcs udl then next) (ud ++ xs) at ≡ reading (next ud) xs (at + length ud)
+  unfolding reading
+  data-back limit dcs Absent [] next h = rw add-zero
+  data-back limit dcs Absent (x ∷ ud) next h = absurd (omega (arith, data-few limit dcs Absent (length (x ∷ ud)) h .0))
+  data-back limit dcs (Present udl) ud next h = field-read (userData (dataOctets (codingOf (orZero dcs)) udl)) next ud xs at (sym (data-few limit dcs (Present udl) (length ud) h .0))
 
-module _ (pi : ℕ) (p : Parameters) (more : List ℕ) (at : ℕ) (i : found (indicatorChecks pi (p .pid) (p .dcs) (p .udl)) ≡ fine) (d : found (dataChecks (p .dcs) (p .udl) (length (p .ud))) ≡ fine) where
+module _ (limit pi : ℕ) (p : Parameters) (more : List ℕ) (at : ℕ) (i : found (indicatorChecks pi (p .pid) (p .dcs) (p .udl)) ≡ fine) (d : found (dataWithin limit (p .dcs) (p .udl) (length (p .ud))) ≡ fine) where
   both : (eqb (pi % 8) (held (p .pid) + 2 * held (p .dcs) + 4 * held (p .udl)) ≡ true) × (not (isSet 7 pi) ≡ true)
   unfolding indicatorChecks
   both =
@@ -72,7 +71,7 @@ module _ (pi : ℕ) (p : Parameters) (more : List ℕ) (at : ℕ) (i : found (in
   parameters-back =
       let (a, b, c) = announces in
       simp append-assoc
-      (announced-back _ at (p .pid) 0 pi _ a ∙ announced-back _ _ (p .dcs) 1 pi _ b ∙ announced-back _ _ (p .udl) 2 pi _ c ∙ data-back more _ (p .dcs) (p .udl) (p .ud) _ d)
+      (announced-back _ at (p .pid) 0 pi _ a ∙ announced-back _ _ (p .dcs) 1 pi _ b ∙ announced-back _ _ (p .udl) 2 pi _ c ∙ data-back more _ limit (p .dcs) (p .udl) (p .ud) _ d)
 
 -- ---- an octet, an indicator, and parameters, that stand at a place
 
@@ -90,10 +89,10 @@ module _ (s : List ℕ) (at : ℕ) {x : ℕ} {t : List ℕ} (e : drop at s ≡ x
   unfolding indicatorSize
   indicator-here next f = field-here indicator next s at (x ∷ []) t e (rw f)
 
-module _ {R : Type 0} (pi : ℕ) (p : Parameters) (i : found (indicatorChecks pi (p .pid) (p .dcs) (p .udl)) ≡ fine) (d : found (dataChecks (p .dcs) (p .udl) (length (p .ud))) ≡ fine) where
+module _ {R : Type 0} (limit pi : ℕ) (p : Parameters) (i : found (indicatorChecks pi (p .pid) (p .dcs) (p .udl)) ≡ fine) (d : found (dataWithin limit (p .dcs) (p .udl) (length (p .ud))) ≡ fine) where
   pub parameters-here : (s : List ℕ) (at : ℕ) → drop at s ≡ parametersOctets p → (next : Parameters → Format R)
       → readFrom (parameters pi then next) s at ≡ readFrom (next p) s (at + held (p .pid) + held (p .dcs) + held (p .udl) + length (p .ud))
   unfolding readFrom
   parameters-here s at e next =
       let u : drop at s ≡ parametersOctets p ++ [] = e ∙ sym (append-nil (parametersOctets p)) in
-      then-goes-on s (parameters pi) at (ap (λ (l : List ℕ). reading (parameters pi) l at) u ∙ parameters-back pi p [] at i d) next
+      then-goes-on s (parameters pi) at (ap (λ (l : List ℕ). reading (parameters pi) l at) u ∙ parameters-back limit pi p [] at i d) next

@@ -25,14 +25,14 @@ use Rattle.address.proofs.Laws.{Spelled, address-passed, address-held}
 use Rattle.layout.specs.Demand.{Demand2}
 use Rattle.layout.specs.Layout.{octet, octets, any, address, isSet, messageType, kept, Format, field, one, done, reached, reading, readFrom, read}
 use Rattle.layout.proofs.Steps.{done-reached, end-not-reached, then-goes-on}
-use Rattle.parameters.specs.Checking.{indicatorChecks, dataChecks}
+use Rattle.parameters.specs.Checking.{indicatorChecks, dataWithin}
 use Rattle.parameters.specs.Optional.{octetsHeld, held}
 use Rattle.parameters.specs.Parameters.{Parameters, parametersOctets}
 use Rattle.parameters.specs.declared.OptionalOctet.{OptionalOctet}
 use Rattle.parameters.specs.declared.OptionalOctet.the-variants.{Absent, Present}
 use Rattle.status_report.specs.Layout.{Fields, bits, fields}
 use Rattle.status_report.specs.Internal.{fieldsWith, afterStatus, afterAddress}
-use Rattle.status_report.specs.StatusReport.{statusReported, format, statusReport, firstWith, firstOf, tooLong, parametersOf, octetsOf, optionalChecks, statusReporting, cleared, capitalised, Typed}
+use Rattle.status_report.specs.StatusReport.{statusReported, format, statusReport, firstWith, firstOf, tooLong, parametersOf, octetsOf, optionalChecks, statusReportingWithin, statusReporting, statusReportingToStandard, cleared, capitalised, Typed}
 use Rattle.status_report.specs.declared.SmsStatusReport.{SmsStatusReport}
 use Rattle.status_report.proofs.Demand.{made-cleared}
 use Rattle.status_report.proofs.RecordWritten.{all-fit}
@@ -44,21 +44,21 @@ use Rattle.demands.proofs.ParametersBack.{indicator-here, not-extended,
 abbrev addressOf : SmsStatusReport → List ℕ
 addressOf r = octetsOr [] (addressOctets (r .«tp_recipient_address» .ton) (r .«tp_recipient_address» .npi) (textHeld (r .«tp_recipient_address»)))
 
-record Passed (r : SmsStatusReport) (os : List ℕ) : Type 0 where
+record Passed (limit : ℕ) (r : SmsStatusReport) (os : List ℕ) : Type 0 where
   pub is : octetsOf r ≡ os
   pub fits : tooLong r ≡ false
   pub address : Spelled (r .«tp_recipient_address» .ton) (r .«tp_recipient_address» .npi) (textHeld (r .«tp_recipient_address»)) (addressOf r)
   pub time-is : isTime (digitsOf (r .«tp_service_centre_timestamp»)) ≡ true
   pub discharge-is : isTime (digitsOf (r .«tp_discharge_time»)) ≡ true
-  pub optional : found (optionalChecks (r .«tp_parameter_indicator») (parametersOf r)) ≡ fine
+  pub optional : found (optionalChecks limit (r .«tp_parameter_indicator») (parametersOf r)) ≡ fine
 
--- indicator and parameters that pass have at most 144 octets
-optional-size : (pi : OptionalOctet) (p : Parameters) → found (optionalChecks pi p) ≡ fine → length (octetsHeld pi) + length (parametersOctets p) ≤ 144
+-- indicator and parameters that pass have at most four octets more than the user data may
+optional-size : (limit : ℕ) (pi : OptionalOctet) (p : Parameters) → found (optionalChecks limit pi p) ≡ fine → length (octetsHeld pi) + length (parametersOctets p) ≤ 4 + limit
 unfolding optionalChecks
-optional-size Absent p h = omega (arith, eqb-true (length (parametersOctets p)) 0 (holds ParametersWithoutIndicator (eqb (length (parametersOctets p)) 0) [] h .0))
-optional-size (Present i) p h =
-    let (x, d) = both-hold (indicatorChecks i (p .pid) (p .dcs) (p .udl)) (dataChecks (p .dcs) (p .udl) (length (p .ud))) h in
-    simp length-append (omega (arith, parameters-limit p d))
+optional-size limit Absent p h = omega (arith, eqb-true (length (parametersOctets p)) 0 (holds ParametersWithoutIndicator (eqb (length (parametersOctets p)) 0) [] h .0))
+optional-size limit (Present i) p h =
+    let (x, d) = both-hold (indicatorChecks i (p .pid) (p .dcs) (p .udl)) (dataWithin limit (p .dcs) (p .udl) (length (p .ud))) h in
+    simp length-append (omega (arith, parameters-limit limit p d))
 
 -- ---- the first octet
 
@@ -103,16 +103,16 @@ none-read make Absent Absent (Present x) ud at h = absurd (omega arith)
 none-read make Absent (Present x) udl ud at h = absurd (omega arith)
 none-read make (Present x) dcs udl ud at h = absurd (omega arith)
 
-module _ (make : OptionalOctet → Parameters → Fields) (p : Parameters) (s : List ℕ) (at : ℕ) where
-  optional-read : (pi : OptionalOctet) → found (optionalChecks pi p) ≡ fine → drop at s ≡ octetsHeld pi ++ parametersOctets p → (n : ℕ) × (readFrom (afterStatus make) s at ≡ reached (make pi p) n)
+module _ (limit : ℕ) (make : OptionalOctet → Parameters → Fields) (p : Parameters) (s : List ℕ) (at : ℕ) where
+  optional-read : (pi : OptionalOctet) → found (optionalChecks limit pi p) ≡ fine → drop at s ≡ octetsHeld pi ++ parametersOctets p → (n : ℕ) × (readFrom (afterStatus make) s at ≡ reached (make pi p) n)
   unfolding optionalChecks afterStatus readFrom
   optional-read Absent h e =
       let z = simp length-append at (eqb-true (length (parametersOctets p)) 0 (holds ParametersWithoutIndicator (eqb (length (parametersOctets p)) 0) [] h .0)) in
       (at, ap (λ (l : List ℕ). reading (afterStatus make) l at) e ∙ none-read make (p .pid) (p .dcs) (p .udl) (p .ud) at (omega (arith, z)))
   optional-read (Present pi) h e =
-      let (i, d) = both-hold (indicatorChecks pi (p .pid) (p .dcs) (p .udl)) (dataChecks (p .dcs) (p .udl) (length (p .ud))) h in
+      let (i, d) = both-hold (indicatorChecks pi (p .pid) (p .dcs) (p .udl)) (dataWithin limit (p .dcs) (p .udl) (length (p .ud))) h in
       let room : at < length s = omega (arith, length-drop at s, ap length e) in
-      (at + 1 + held (p .pid) + held (p .dcs) + held (p .udl) + length (p .ud), end-not-reached s at _ _ room ∙ indicator-here s at e _ (not-extended pi p [] 0 i d) ∙ parameters-here pi p i d s (at + 1) (past s at (pi ∷ []) (parametersOctets p) e) _ ∙ done-reached s _ _)
+      (at + 1 + held (p .pid) + held (p .dcs) + held (p .udl) + length (p .ud), end-not-reached s at _ _ room ∙ indicator-here s at e _ (not-extended limit pi p [] 0 i d) ∙ parameters-here limit pi p i d s (at + 1) (past s at (pi ∷ []) (parametersOctets p) e) _ ∙ done-reached s _ _)
 
 module _ (f : ℕ) (whole : kept bits f ≡ f) (mti : messageType f ≡ 2) (mr : ℕ) (ra : List ℕ) (size : addressSize ra ≡ length ra) (again : canonicalAddress ra ≡ ra) (scts : List ℕ) (seven : 7 ≡ length scts)
     (dt : List ℕ) (also : 7 ≡ length dt) (st : ℕ) where
@@ -140,13 +140,13 @@ module _ (f : ℕ) (whole : kept bits f ≡ f) (mti : messageType f ≡ 2) (mr :
       let c = past s (2 + length ra + length scts) dt (st ∷ rest) b in
       past s (2 + length ra + length scts + length dt) (st ∷ []) rest c
 
-  written-read : (pi : OptionalOctet) (p : Parameters) → found (optionalChecks pi p) ≡ fine
+  written-read : (limit : ℕ) (pi : OptionalOctet) (p : Parameters) → found (optionalChecks limit pi p) ≡ fine
       → (n : ℕ) × (read statusReport (toStatus (octetsHeld pi ++ parametersOctets p)) ≡ reached (statusReported (fieldsWith f mr ra scts dt st pi p)) n)
   unfolding read readFrom format
-  written-read pi p h =
+  written-read limit pi p h =
       let rest = octetsHeld pi ++ parametersOctets p in
       let make = fieldsWith f mr ra scts dt st in
-      let (n, e) = optional-read make p (toStatus rest) place pi h (dropped rest) in
+      let (n, e) = optional-read limit make p (toStatus rest) place pi h (dropped rest) in
       (n, then-goes-on (toStatus rest) fields 0 (status-read rest ∙ ap (λ (l : List ℕ). reading (afterStatus make) l place) (sym (dropped rest)) ∙ e) (λ x. done (statusReported x)) ∙ done-reached (toStatus rest) _ _)
 
 -- ---- the record that they make
@@ -160,14 +160,14 @@ same-record r f t ra scts dt ea et eu ed = rw (t .udhi-is, t .srq-is, t .lp-is, 
 
 -- ---- a record
 
-module _ {os : List ℕ} {answer : Said ℕ} (r : SmsStatusReport) (e : statusReporting r ≡ made os answer) where
-  passed : Passed r os
-  unfolding statusReporting
+module _ {os : List ℕ} {answer : Said ℕ} (limit : ℕ) (r : SmsStatusReport) (e : statusReportingWithin limit r ≡ made os answer) where
+  passed : Passed limit r os
+  unfolding statusReportingWithin
   passed =
       let a = r .«tp_recipient_address» in
       let scts = digitsOf (r .«tp_service_centre_timestamp») in
       let dt = digitsOf (r .«tp_discharge_time») in
-      let more = optionalChecks (r .«tp_parameter_indicator») (parametersOf r) in
+      let more = optionalChecks limit (r .«tp_parameter_indicator») (parametersOf r) in
       let (fits, m) = made-unless LengthTooLarge (tooLong r) e in
       let (f, x) = made-told _ _ m in
       let (g, k) = both-hold (addressChecks (a .ton) (a .npi) (textHeld a)) ((NotATime unless isTime scts) ∷ (NotATime unless isTime dt) ∷ more) f in
@@ -175,12 +175,12 @@ module _ {os : List ℕ} {answer : Said ℕ} (r : SmsStatusReport) (e : statusRe
       let (d, k2) = holds NotATime (isTime dt) more k1 in
       record { is = x; fits = fits; address = address-passed _ _ _ g; time-is = t; discharge-is = d; optional = k2 }
 
-  -- what was written has at most 173 octets
-  pub at-most : length os ≤ 173
-  at-most =
+  -- what was written has at most 33 octets more than the user data may
+  at-most-within : length os ≤ 33 + limit
+  at-most-within =
       let m = time-size (digitsOf (r .«tp_service_centre_timestamp»)) (passed .time-is) in
       let n = time-size (digitsOf (r .«tp_discharge_time»)) (passed .discharge-is) in
-      let o = simp length-append at (optional-size (r .«tp_parameter_indicator») (parametersOf r) (passed .optional)) in
+      let o = simp length-append at (optional-size limit (r .«tp_parameter_indicator») (parametersOf r) (passed .optional)) in
       rw (← passed .is) (simp length-append (omega (arith, m, n, o, passed .address .short)))
 
   -- what was written is read back
@@ -201,20 +201,32 @@ module _ {os : List ℕ} {answer : Said ℕ} (r : SmsStatusReport) (e : statusRe
       let lt : length (digitsOf stamp) ≡ stamp .length = length-take-le (stamp .length) (stamp .digits) (omega (arith, ht, ft)) in
       let lu : length (digitsOf late) ≡ late .length = length-take-le (late .length) (late .digits) (omega (arith, hu, fu)) in
       let ld : length (dataOf d) ≡ d .length = length-take-le (d .length) (d .octets) (omega (arith, hd, fd)) in
-      let (n, is) = written-read f (t .whole) (t .mti-is) (r .«tp_mr») ra (p .address .whole) (p .address .again) scts (sym (time-size (digitsOf stamp) (p .time-is))) dt (sym (time-size (digitsOf late) (p .discharge-is))) (r .«tp_status») (r .«tp_parameter_indicator») (parametersOf r) (p .optional) in (
+      let (n, is) = written-read f (t .whole) (t .mti-is) (r .«tp_mr») ra (p .address .whole) (p .address .again) scts (sym (time-size (digitsOf stamp) (p .time-is))) dt (sym (time-size (digitsOf late) (p .discharge-is))) (r .«tp_status») limit (r .«tp_parameter_indicator») (parametersOf r) (p .optional) in (
         statusReported (fieldsWith f (r .«tp_mr») ra scts dt (r .«tp_status») (r .«tp_parameter_indicator») (parametersOf r)),
         n,
         ap (read statusReport) (sym (p .is)) ∙ is,
         made-cleared _ ∙ same-record r f t ra scts dt (p .address .back ∙ address-held a la) (time-back stamp (p .time-is) lt) (time-back late (p .discharge-is) lu) (data-back d ld),
       )
 
-pub status-report-demand2 : Demand2 Typed cleared capitalised (λ r. statusReport) statusReporting (λ r. fine) (λ r. false)
-status-report-demand2 = record {
-  back = λ r t octets n e x. read-back r e t;
-  excepted = λ r t octets n e why x. absurd (never x);
-  only = λ r why x. absurd (never x);
-}
+-- ---- the writer within a limit
 
-pub status-report-counts : (r : SmsStatusReport) (xs : List ℕ) (a : Said ℕ) → statusReporting r ≡ made xs a → a ≡ gives (length xs)
-unfolding statusReporting
-status-report-counts r xs a e = made-counts _ _ (made-unless LengthTooLarge (tooLong r) e .1)
+module _ (limit : ℕ) where
+  pub status-report-demand2 : Demand2 Typed cleared capitalised (λ r. statusReport) (statusReportingWithin limit) (λ r. fine) (λ r. false)
+  status-report-demand2 = record {
+    back = λ r t octets n e x. read-back limit r e t;
+    excepted = λ r t octets n e why x. absurd (never x);
+    only = λ r why x. absurd (never x);
+  }
+
+  pub status-report-counts : (r : SmsStatusReport) (xs : List ℕ) (a : Said ℕ) → statusReportingWithin limit r ≡ made xs a → a ≡ gives (length xs)
+  unfolding statusReportingWithin
+  status-report-counts r xs a e = made-counts _ _ (made-unless LengthTooLarge (tooLong r) e .1)
+
+-- ---- how much is written
+
+module _ (r : SmsStatusReport) {os : List ℕ} {answer : Said ℕ} where
+  pub at-most : statusReporting r ≡ made os answer → length os ≤ 173
+  at-most e = at-most-within 140 r e
+
+  pub standard-at-most : statusReportingToStandard r ≡ made os answer → length os ≤ 164
+  standard-at-most e = at-most-within 131 r e

@@ -22,7 +22,7 @@ use Rattle.time.proofs.Laws.{time-back, time-size}
 use Rattle.layout.specs.Demand.{Demand2}
 use Rattle.layout.specs.Layout.{octets, any, reached, readFrom, read}
 use Rattle.layout.proofs.Steps.{done-reached}
-use Rattle.parameters.specs.Checking.{indicatorChecks, dataChecks}
+use Rattle.parameters.specs.Checking.{indicatorChecks, dataWithin}
 use Rattle.parameters.specs.Optional.{held}
 use Rattle.parameters.specs.Parameters.{Parameters, parametersOctets}
 use Rattle.parameters.specs.declared.OptionalOctet.{OptionalOctet}
@@ -30,7 +30,7 @@ use Rattle.parameters.specs.declared.OptionalOctet.the-variants.{Absent, Presen
 use Rattle.parameters.proofs.Laws.{one-at-most}
 use Rattle.submit_report.specs.Layout.{submitReported}
 use Rattle.submit_report.specs.Internal.{afterCause}
-use Rattle.submit_report.specs.SubmitReport.{outcomeOf, parametersOf, tooLong, submitReporting, cleared, capitalised, Typed}
+use Rattle.submit_report.specs.SubmitReport.{outcomeOf, parametersOf, tooLong, submitReportingWithin, submitReporting, standardLimit, submitReportingToStandard, cleared, capitalised, Typed}
 use Rattle.submit_report.specs.Writing.{octetsIn, making}
 use Rattle.submit_report.specs.declared.SmsSubmitReport.{SmsSubmitReport}
 use Rattle.submit_report.proofs.CheckByCheck.{size-is}
@@ -41,14 +41,14 @@ use Rattle.demands.proofs.ParametersBack.{octet-here, indicator-here, n
 
 -- ---- the octets of values that pass the checks
 
-module _ (pi : ℕ) (digits : List ℕ) (w : isTime digits ≡ true) (p : Parameters) (i : found (indicatorChecks pi (p .pid) (p .dcs) (p .udl)) ≡ fine) (d : found (dataChecks (p .dcs) (p .udl) (length (p .ud))) ≡ fine) where
+module _ (limit pi : ℕ) (digits : List ℕ) (w : isTime digits ≡ true) (p : Parameters) (i : found (indicatorChecks pi (p .pid) (p .dcs) (p .udl)) ≡ fine) (d : found (dataWithin limit (p .dcs) (p .udl) (length (p .ud))) ≡ fine) where
   after-cause-back : (udhi : ℕ) (cause : OptionalOctet) (s : List ℕ) (at : ℕ) → drop at s ≡ pi ∷ (timeOctets digits ++ parametersOctets p)
       → readFrom (afterCause udhi cause) s at ≡ reached (submitReported udhi cause pi (timeOctets digits) p) (at + 1 + length (timeOctets digits) + held (p .pid) + held (p .dcs) + held (p .udl) + length (p .ud))
   after-cause-back udhi cause s at e =
       let t : drop (at + 1) s ≡ timeOctets digits ++ parametersOctets p = sym (drop-drop 1 at s) ∙ ap (drop 1) e in
       let u : drop (at + 1 + length (timeOctets digits)) s ≡ parametersOctets p = sym (drop-drop _ (at + 1) s) ∙ ap (drop (length (timeOctets digits))) t ∙ drop-at (timeOctets digits) (parametersOctets p) _ refl in
-      indicator-here s at e _ (not-extended pi p [] 0 i d) ∙ field-here (octets any 7) _ s (at + 1) (timeOctets digits) (parametersOctets p) t (sym (time-size digits w))
-      ∙ parameters-here pi p i d s _ u _ ∙ done-reached s _ _
+      indicator-here s at e _ (not-extended limit pi p [] 0 i d) ∙ field-here (octets any 7) _ s (at + 1) (timeOctets digits) (parametersOctets p) t (sym (time-size digits w))
+      ∙ parameters-here limit pi p i d s _ u _ ∙ done-reached s _ _
 
   back : (udhi : ℕ) → udhi ≤ 1 → (cause : OptionalOctet) → (n : ℕ) × (read (outcomeOf cause) (octetsIn udhi cause pi digits p) ≡ reached (submitReported udhi cause pi (timeOctets digits) p) n)
   back zero h Absent = (_, outcomes (octetsIn 0 Absent pi digits p) .ack-goes-on (octet-here _ 0 refl) refl ∙ after-cause-back 0 Absent _ 1 refl)
@@ -60,22 +60,22 @@ module _ (pi : ℕ) (digits : List ℕ) (w : isTime digits ≡ true) (p : Parame
 -- ---- a record
 
 -- what a written record's octets are, and the checks that it passed
-record Passed (r : SmsSubmitReport) (os : List ℕ) : Type 0 where
+record Passed (limit : ℕ) (r : SmsSubmitReport) (os : List ℕ) : Type 0 where
   pub is : octetsIn (r .«tp_udhi») (r .«tp_failure_cause») (r .«tp_parameter_indicator») (digitsOf (r .«tp_service_centre_timestamp»)) (parametersOf r) ≡ os
   pub time-fits : r .«tp_service_centre_timestamp» .length ≤ 14
   pub data-fits : r .«tp_user_data» .length ≤ 255
   pub udhi : r .«tp_udhi» ≤ 1
   pub indicator : found (indicatorChecks (r .«tp_parameter_indicator») (r .«tp_pid») (r .«tp_dcs») (r .«tp_user_data_length»)) ≡ fine
   pub time-is : isTime (digitsOf (r .«tp_service_centre_timestamp»)) ≡ true
-  pub held : found (dataChecks (r .«tp_dcs») (r .«tp_user_data_length») (length (dataOf (r .«tp_user_data»)))) ≡ fine
+  pub held : found (dataWithin limit (r .«tp_dcs») (r .«tp_user_data_length») (length (dataOf (r .«tp_user_data»)))) ≡ fine
 
-module _ {os : List ℕ} {answer : Said ℕ} (r : SmsSubmitReport) (e : submitReporting r ≡ made os answer) where
-  passed : Passed r os
-  unfolding submitReporting making
+module _ {os : List ℕ} {answer : Said ℕ} (limit : ℕ) (r : SmsSubmitReport) (e : submitReportingWithin limit r ≡ made os answer) where
+  passed : Passed limit r os
+  unfolding submitReportingWithin making
   passed =
       let digits = digitsOf (r .«tp_service_centre_timestamp») in
       let first = indicatorChecks (r .«tp_parameter_indicator») (r .«tp_pid») (r .«tp_dcs») (r .«tp_user_data_length») in
-      let last = dataChecks (r .«tp_dcs») (r .«tp_user_data_length») (length (dataOf (r .«tp_user_data»))) in
+      let last = dataWithin limit (r .«tp_dcs») (r .«tp_user_data_length») (length (dataOf (r .«tp_user_data»))) in
       let (long, m) = made-unless LengthTooLarge (tooLong r) e in
       let (a, b) = or-false (ltb 14 (r .«tp_service_centre_timestamp» .length)) _ long in
       let (f, x) = made-told _ _ m in
@@ -84,9 +84,9 @@ module _ {os : List ℕ} {answer : Said ℕ} (r : SmsSubmitReport) (e : submitRe
       let (t, d) = holds NotATime (isTime digits) last k in
       record { is = x; time-fits = ltb-false _ _ a; data-fits = ltb-false _ _ b; udhi = leb-true _ _ u; indicator = i; time-is = t; held = d }
 
-  -- what was written has at most 153 octets
-  pub at-most : length os ≤ 153
-  at-most = rw (← passed .is, size-is _ _ _ _ _ (passed .time-is)) (omega (arith, one-at-most (r .«tp_failure_cause»), parameters-limit (parametersOf r) (passed .held)))
+  -- what was written has at most 13 octets more than the user data may, or 12 without a cause
+  at-most-within : length os ≤ 12 + held (r .«tp_failure_cause») + limit
+  at-most-within = rw (← passed .is, size-is _ _ _ _ _ (passed .time-is)) (omega (arith, parameters-limit limit (parametersOf r) (passed .held)))
 
   -- what was written is read back
   read-back : Typed r → (q : SmsSubmitReport) × (n : ℕ) × (read (outcomeOf (r .«tp_failure_cause»)) os ≡ reached q n) × (cleared q ≡ capitalised (cleared r))
@@ -94,7 +94,7 @@ module _ {os : List ℕ} {answer : Said ℕ} (r : SmsSubmitReport) (e : submitRe
   read-back (ht, hd) =
       let stamp = r .«tp_service_centre_timestamp» in
       let d = r .«tp_user_data» in
-      let (n, is) = back (r .«tp_parameter_indicator») (digitsOf stamp) (passed .time-is) (parametersOf r) (passed .indicator) (passed .held) (r .«tp_udhi») (passed .udhi) (r .«tp_failure_cause») in
+      let (n, is) = back limit (r .«tp_parameter_indicator») (digitsOf stamp) (passed .time-is) (parametersOf r) (passed .indicator) (passed .held) (r .«tp_udhi») (passed .udhi) (r .«tp_failure_cause») in
       let lt : length (digitsOf stamp) ≡ stamp .length = length-take-le (stamp .length) (stamp .digits) (omega (arith, passed .time-fits)) in
       let ld : length (dataOf d) ≡ d .length = length-take-le (d .length) (d .octets) (omega (arith, passed .data-fits)) in (
         submitReported (r .«tp_udhi») (r .«tp_failure_cause») (r .«tp_parameter_indicator») (timeOctets (digitsOf stamp)) (parametersOf r),
@@ -103,13 +103,30 @@ module _ {os : List ℕ} {answer : Said ℕ} (r : SmsSubmitReport) (e : submitRe
         made-cleared _ _ _ _ _ ∙ rw (time-back stamp (passed .time-is) lt, data-back d ld),
       )
 
-pub submit-report-demand2 : Demand2 Typed cleared capitalised (λ r. outcomeOf (r .«tp_failure_cause»)) submitReporting (λ r. fine) (λ r. false)
-submit-report-demand2 = record {
-  back = λ r t octets n e x. read-back r e t;
-  excepted = λ r t octets n e why x. absurd (never x);
-  only = λ r why x. absurd (never x);
-}
+-- ---- the writer within the limit of each record
 
-pub submit-report-counts : (r : SmsSubmitReport) (xs : List ℕ) (a : Said ℕ) → submitReporting r ≡ made xs a → a ≡ gives (length xs)
-unfolding submitReporting making
-submit-report-counts r xs a e = made-counts _ _ (made-unless LengthTooLarge (tooLong r) e .1)
+module _ (limitOf : SmsSubmitReport → ℕ) where
+  pub submit-report-demand2 : Demand2 Typed cleared capitalised (λ r. outcomeOf (r .«tp_failure_cause»)) (λ r. submitReportingWithin (limitOf r) r) (λ r. fine) (λ r. false)
+  submit-report-demand2 = record {
+    back = λ r t octets n e x. read-back (limitOf r) r e t;
+    excepted = λ r t octets n e why x. absurd (never x);
+    only = λ r why x. absurd (never x);
+  }
+
+  pub submit-report-counts : (r : SmsSubmitReport) (xs : List ℕ) (a : Said ℕ) → submitReportingWithin (limitOf r) r ≡ made xs a → a ≡ gives (length xs)
+  unfolding submitReportingWithin making
+  submit-report-counts r xs a e = made-counts _ _ (made-unless LengthTooLarge (tooLong r) e .1)
+
+-- ---- how much is written
+
+module _ (r : SmsSubmitReport) {os : List ℕ} {answer : Said ℕ} where
+  pub at-most : submitReporting r ≡ made os answer → length os ≤ 153
+  at-most e = omega (arith, at-most-within 140 r e, one-at-most (r .«tp_failure_cause»))
+
+  pub standard-at-most : submitReportingToStandard r ≡ made os answer → length os ≤ 164
+  standard-at-most e = omega (arith, at-most-within (standardLimit (r .«tp_failure_cause»)) r e, room (r .«tp_failure_cause»))
+    where
+      -- a cause takes an octet from the user data
+      room : (cause : OptionalOctet) → held cause + standardLimit cause ≤ 152
+      room Absent = omega arith
+      room (Present x) = omega arith

@@ -18,7 +18,7 @@ refusalNumber ValidityFormatDisagrees = 5
 refusalNumber NoDestination = 6
 -- user data length disagrees with UDL and DCS
 refusalNumber UserDataLengthDisagrees = 7
--- user data pass 140 octets
+-- user data pass the limit of the writer: 140 octets in the ported writers, what the standard's tables have in those to the standard
 refusalNumber UserDataTooLong = 8
 -- type of number passes 7 or plan passes 15
 refusalNumber NumberTypeOrPlanTooLarge = 9

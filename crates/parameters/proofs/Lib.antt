@@ -5,3 +5,4 @@ pub mod StepsOfReader
 pub mod Outcomes
 pub mod Made
 pub mod Checking
+pub mod Limits

@@ -5,7 +5,7 @@ use mathlib.Core.List.{List, [], _∷_}
 use lib.Dec.{eqb}
 use Rattle.octets.specs.Checks.{Check, _unless_}
 use Rattle.octets.specs.declared.Refusal.the-variants.{IndicatorDisagrees, IndicatorExtended, UserDataWithoutLength}
-use Rattle.coding.specs.Coding.{dataChecks as checksOf}
+use Rattle.coding.specs.Coding.{dataWithin as checksWithin}
 use Rattle.layout.specs.Layout.{isSet}
 use Rattle.parameters.specs.Optional.{held, orZero}
 use Rattle.parameters.specs.declared.OptionalOctet.{OptionalOctet}
@@ -16,7 +16,7 @@ unfoldable pub indicatorChecks : ℕ → OptionalOctet → OptionalOctet → Opt
 indicatorChecks pi pid dcs udl =
     (IndicatorDisagrees unless eqb (pi % 8) (held pid + 2 * held dcs + 4 * held udl)) ∷ (IndicatorExtended unless not (isSet 7 pi)) ∷ []
 
--- user data of n octets: as UDL and DCS say, and at most 140; none without UDL
-unfoldable pub dataChecks : OptionalOctet → OptionalOctet → ℕ → List Check
-dataChecks dcs (Present udl) n = checksOf (orZero dcs) udl n
-dataChecks dcs Absent n = (UserDataWithoutLength unless eqb n 0) ∷ []
+-- user data of n octets within a limit: as UDL and DCS say, and at most the limit; none without UDL
+unfoldable pub dataWithin : ℕ → OptionalOctet → OptionalOctet → ℕ → List Check
+dataWithin limit dcs (Present udl) n = checksWithin limit (orZero dcs) udl n
+dataWithin limit dcs Absent n = (UserDataWithoutLength unless eqb n 0) ∷ []

@@ -2,4 +2,5 @@ pub mod Optional
 pub mod Parameters
 pub mod Layout
 pub mod Checking
+pub mod Limits
 pub mod Internal

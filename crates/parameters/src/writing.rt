@@ -7,7 +7,7 @@ ghost use Rattle.octets.specs.Lent.{Wrote};
 ghost use Rattle.octets.specs.Checks.{found};
 ghost use Rattle.parameters.specs.Optional.{held};
 ghost use Rattle.parameters.specs.Parameters.{parametersOctets};
-ghost use Rattle.parameters.specs.Checking.{indicatorChecks, dataChecks};
+ghost use Rattle.parameters.specs.Checking.{indicatorChecks, dataWithin};
 use crate::OptionalOctet;
 use octets::Checked;
 use octets::Refusal;
@@ -33,9 +33,9 @@ pub fn check_parameter_indicator(
     Checked::Fine
 }
 
-// Whether user data of so many octets go with the DCS and UDL held.
-pub fn check_data(dcs: OptionalOctet, udl: OptionalOctet, octets: usize) -> Checked
-    ensures { λ r. ⌜ checkedSays r ≡ found (dataChecks dcs udl octets) ⌝ }
+// Whether user data of so many octets go with the DCS and UDL held, and keep within a limit.
+pub fn check_data(limit: usize, dcs: OptionalOctet, udl: OptionalOctet, octets: usize) -> Checked
+    ensures { λ r. ⌜ checkedSays r ≡ found (dataWithin limit dcs udl octets) ⌝ }
 {
     let OptionalOctet::Present(length) = udl else {
         if octets != 0 {
@@ -43,7 +43,7 @@ pub fn check_data(dcs: OptionalOctet, udl: OptionalOctet, octets: usize) -> Chec
         }
         return Checked::Fine;
     };
-    coding::check_user_data(crate::or_zero(dcs), length, octets)
+    coding::check_user_data_within(limit, crate::or_zero(dcs), length, octets)
 }
 
 // How many octets the parameters take.

@@ -92,6 +92,15 @@ pub fn kind_named(name: &[u8]) -> usize {
     entry_number(names, name)
 }
 
+// The same of the kinds that the standard holds to another limit of user data: the reports.
+pub fn report_named(name: &[u8]) -> usize {
+    let kind = kind_named(name);
+    if kind < SUBMIT_REPORT {
+        return KINDS;
+    }
+    kind
+}
+
 // ---- the forms of values
 
 // A row for each kind, and one for a SUBMIT without destination. A row has a letter for each key, in their order: the

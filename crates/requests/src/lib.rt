@@ -21,6 +21,7 @@ deliver-report-ack HEX, deliver-report-error HEX, status-report HEX
 re-KIND HEX                  a message of one of these kinds, read and written back
 enc-KIND key=value ..        the octets of a record: deliver, submit, submit-report,
                              deliver-report, status-report
+enc-standard-KIND ..         the same of a report, with the standard's limit of user data
 unpack COUNT HEX             the text of so many septets
 unpack-header COUNT HEX      the same after a header
 pack HEX                     the septets of a text, which is given as UTF-8

@@ -17,18 +17,21 @@ use text_fields::slices::begins;
 use text_fields::slices::between;
 use tpdu::Written;
 
-// What a line can ask for: a message read, or read and written back; a record written, by the number of its kind; or a
-// conversion, by its number.
+// What a line can ask for: a message read, or read and written back; a record written, by the number of its kind, to the
+// standard's limit of user data or not; or a conversion, by its number.
 enum Request {
     Read(Reader),
     Rewrite(Reader),
-    Write(usize),
+    Write(usize, bool),
     Convert(usize),
 }
 
 fn request_named(name: &[u8]) -> Request {
+    if begins(name, b"enc-standard-") {
+        return Request::Write(keys::report_named(after(name, 13)), true);
+    }
     if begins(name, b"enc-") {
-        return Request::Write(keys::kind_named(after(name, 4)));
+        return Request::Write(keys::kind_named(after(name, 4)), false);
     }
     if begins(name, b"re-") {
         return Request::Rewrite(reader_named(after(name, 3)));
@@ -54,7 +57,7 @@ fn against(request: Request, line: &[u8]) -> usize {
         Request::Read(reader) => against_message(reader, line),
         Request::Rewrite(reader) => against_message(reader, line),
         Request::Convert(number) => conversions::against_request(number, line),
-        Request::Write(kind) => keys::against_record(kind, line),
+        Request::Write(kind, _) => keys::against_record(kind, line),
     }
 }
 
@@ -120,7 +123,9 @@ fn answer_octets(
         Request::Read(reader) => answer_read(reader, octets, show, out, at),
         Request::Rewrite(reader) => answer_rewritten(reader, octets, show, out, at),
         Request::Convert(number) => conversions::answer(number, line, octets, show, out, at),
-        Request::Write(kind) => writing::answer(kind, line, show, out, at),
+        Request::Write(kind, to_standard) => {
+            writing::answer(kind, to_standard, line, show, out, at)
+        }
     }
 }
 

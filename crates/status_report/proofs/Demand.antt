@@ -37,14 +37,14 @@ use Rattle.status_report.proofs.RecordWritten.{fits}
 use Rattle.status_report.specs.declared.SmsStatusReport.{SmsStatusReport}
 use Rattle.status_report.specs.Layout.{Fields, bits, fields}
 use Rattle.status_report.specs.Internal.{fieldsWith}
-use Rattle.status_report.specs.StatusReport.{statusReported, format, statusReport, firstWith, octetsOf, optionalChecks, statusReporting, cleared, Typed}
+use Rattle.status_report.specs.StatusReport.{statusReported, format, statusReport, firstWith, octetsOf, optionalChecks, statusReportingWithin, statusReporting, cleared, Typed}
 
 -- ---- what is no part of a record
 
 -- what lies after the lengths is not written
-of-cleared : (r : SmsStatusReport) → Typed r → statusReporting (cleared r) ≡ statusReporting r
-unfolding statusReporting
-of-cleared r (a, t, u, d) =
+of-cleared : (limit : ℕ) (r : SmsStatusReport) → Typed r → statusReportingWithin limit (cleared r) ≡ statusReportingWithin limit r
+unfolding statusReportingWithin
+of-cleared limit r (a, t, u, d) =
     rw (
       take-cleared 290 (r .«tp_recipient_address» .«address_length») (r .«tp_recipient_address» .address) a,
       take-cleared 14 (r .«tp_service_centre_timestamp» .length) (r .«tp_service_centre_timestamp» .digits) t,
@@ -53,8 +53,8 @@ of-cleared r (a, t, u, d) =
     )
 
 -- equal records are written alike
-pub written-alike : (r q : SmsStatusReport) → Typed r → Typed q → cleared r ≡ cleared q → statusReporting r ≡ statusReporting q
-written-alike r q f g e = sym (of-cleared r f) ∙ ap statusReporting e ∙ of-cleared q g
+pub written-alike : (limit : ℕ) (r q : SmsStatusReport) → Typed r → Typed q → cleared r ≡ cleared q → statusReportingWithin limit r ≡ statusReportingWithin limit q
+written-alike limit r q f g e = sym (of-cleared limit r f) ∙ ap (statusReportingWithin limit) e ∙ of-cleared limit q g
 
 -- a record that was made of fields is cleared
 pub made-cleared : (x : Fields) → cleared (statusReported x) ≡ statusReported x
@@ -83,8 +83,8 @@ module _ (x : ℕ) (hx : x < 256) (mti : eqb (messageType (kept bits x)) 2 ≡ t
     unfolding statusReported
     its-octets = rw (canonical-reads f wf, first-octet x hx mti, octets-again f wf, time-held t, time-held u, octets-back t ot, octets-back u ou, data-held (p .ud))
 
-    its-making : statusReporting (make pi p) ≡ (if ltb 12 (length (canonicalAddress f)) then refused AddressTooLong else checked (optionalChecks pi p) octetsRead)
-    unfolding statusReporting statusReported timeIn dataWith
+    its-making : statusReporting (make pi p) ≡ (if ltb 12 (length (canonicalAddress f)) then refused AddressTooLong else checked (optionalChecks 140 pi p) octetsRead)
+    unfolding statusReportingWithin statusReported timeIn dataWith
     its-making =
         let short : length (timeDigits t) ≤ 14 = omega (arith, length-digits t) in
         let brief : length (timeDigits u) ≤ 14 = omega (arith, length-digits u) in
@@ -93,7 +93,7 @@ module _ (x : ℕ) (hx : x < 256) (mti : eqb (messageType (kept bits x)) 2 ≡ t
         (rw (time-held t, time-held u, check-holds (digits-time t ot (sym wt)) NotATime, check-holds (digits-time u ou (sym wu)) NotATime)))
 
     -- after the fields up to status stand those of indicator and parameters
-    module _ (cs : List Field) (j : octetsHeld pi ++ parametersOctets p ≡ joined cs) (a : (xs : List ℕ) → Answers (checked (optionalChecks pi p) xs) xs (anyPastLimit cs)) where
+    module _ (cs : List Field) (j : octetsHeld pi ++ parametersOctets p ≡ joined cs) (a : (xs : List ℕ) → Answers (checked (optionalChecks 140 pi p) xs) xs (anyPastLimit cs)) where
       written : Writes cleared statusReporting octetsOf (make pi p) (toStatus cs)
       written = record {
         octets = ap octetsOf (made-cleared _) ∙ its-octets ∙ rw j;

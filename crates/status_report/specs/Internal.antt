@@ -75,9 +75,9 @@ abbrev pub octetsIn : StatusReportValues → List ℕ → List ℕ → List ℕ 
 octetsIn v text scts dt ud = v .first ∷ v .mr ∷ (octetsOr [] (addressOctets (v .ton) (v .npi) text) ++ octetsAfter v scts dt ud)
 
 -- the checks after the address's
-abbrev pub checksAfter : StatusReportValues → List ℕ → List ℕ → List ℕ → List Check
-checksAfter v scts dt ud = (NotATime unless isTime scts) ∷ (NotATime unless isTime dt) ∷ optionalChecks (v .indicator) (parametersIn v ud)
+abbrev pub checksAfter : ℕ → StatusReportValues → List ℕ → List ℕ → List ℕ → List Check
+checksAfter limit v scts dt ud = (NotATime unless isTime scts) ∷ (NotATime unless isTime dt) ∷ optionalChecks limit (v .indicator) (parametersIn v ud)
 
--- what the writer makes where no length passes its array
-unfoldable pub making : StatusReportValues → List ℕ → List ℕ → List ℕ → List ℕ → Making (Said ℕ)
-making v text scts dt ud = checked (addressChecks (v .ton) (v .npi) text ++ checksAfter v scts dt ud) (octetsIn v text scts dt ud)
+-- what a writer makes within a limit, where no length passes its array
+unfoldable pub making : ℕ → StatusReportValues → List ℕ → List ℕ → List ℕ → List ℕ → Making (Said ℕ)
+making limit v text scts dt ud = checked (addressChecks (v .ton) (v .npi) text ++ checksAfter limit v scts dt ud) (octetsIn v text scts dt ud)

@@ -1,15 +1,16 @@
--- SMS-STATUS-REPORT (TS 23.040 §9.2.2.3): the record that its fields make, what its writer makes of a record, and what is no part of one.
+-- SMS-STATUS-REPORT (TS 23.040 §9.2.2.3): the record that its fields make, what its writers make of a record, and what is no part of one.
 use Prim.Native.Nat.{ℕ, _+_}
+use mathlib.Core.Path.{_≡_, refl}
 use mathlib.Core.Bool.{Bool, false, _||_}
 use mathlib.Core.List.{List, [], _∷_, _++_}
 use lib.Dec.{eqb, ltb}
 use lib.ListN.{length}
-use Rattle.octets.specs.Answers.{Said}
-use Rattle.octets.specs.Checks.{Check, _unless_, checked}
+use Rattle.octets.specs.Answers.{Said, refuses, fine}
+use Rattle.octets.specs.Checks.{Check, _unless_, found, checked}
 use Rattle.octets.specs.Choice.{if_then_else_, flag}
 use Rattle.octets.specs.Lent.{Making, refused}
-use Rattle.octets.specs.declared.Refusal.the-variants.{LengthTooLarge, NotATime, ParametersWithoutIndicator}
-use Rattle.coding.specs.Coding.{dataWith, dataOf, clearedData, TypedData}
+use Rattle.octets.specs.declared.Refusal.the-variants.{LengthTooLarge, UserDataTooLong, NotATime, ParametersWithoutIndicator}
+use Rattle.coding.specs.Coding.{codingOf, characterSet, dataOctets, dataWith, dataOf, clearedData, TypedData}
 use Rattle.coding.specs.declared.UserData.{UserData}
 use Rattle.time.specs.Time.{isTime, timeOctets, timeIn, digitsOf, clearedTime, capitalTime, TypedTime}
 use Rattle.time.specs.declared.Time.{Time}
@@ -17,7 +18,7 @@ use Rattle.address.specs.Address.{addressIn, addressWith, textHeld, clearedAddr
 use Rattle.address.specs.Writing.{addressOctets, octetsOr, addressChecks}
 use Rattle.address.specs.declared.SMSAddress.{SMSAddress}
 use Rattle.layout.specs.Layout.{Format, Layout, plain, done, _then_, isSet}
-use Rattle.parameters.specs.Checking.{indicatorChecks, dataChecks}
+use Rattle.parameters.specs.Checking.{indicatorChecks, dataWithin}
 use Rattle.parameters.specs.Optional.{octetsHeld}
 use Rattle.parameters.specs.Parameters.{Parameters, parametersOctets}
 use Rattle.parameters.specs.declared.OptionalOctet.{OptionalOctet}
@@ -97,21 +98,39 @@ octetsOf r =
     firstOf r ∷ r .«tp_mr» ∷ (octetsOr [] (addressOctets (recipient .ton) (recipient .npi) (textHeld recipient)) ++ (timeOctets (digitsOf (r .«tp_service_centre_timestamp»))
     ++ (timeOctets (digitsOf (r .«tp_discharge_time»)) ++ (r .«tp_status» ∷ (octetsHeld (r .«tp_parameter_indicator») ++ parametersOctets (parametersOf r))))))
 
--- with an indicator 13, 14, 7, 8, 15; without one 16: neither parameters nor user data are held
-unfoldable pub optionalChecks : OptionalOctet → Parameters → List Check
-optionalChecks (Present i) p = indicatorChecks i (p .pid) (p .dcs) (p .udl) ++ dataChecks (p .dcs) (p .udl) (length (p .ud))
-optionalChecks Absent p = (ParametersWithoutIndicator unless eqb (length (parametersOctets p)) 0) ∷ []
+-- with an indicator 13, 14, 7, 8, 15, user data within a limit; without one 16: neither parameters nor user data are held
+unfoldable pub optionalChecks : ℕ → OptionalOctet → Parameters → List Check
+optionalChecks limit (Present i) p = indicatorChecks i (p .pid) (p .dcs) (p .udl) ++ dataWithin limit (p .dcs) (p .udl) (length (p .ud))
+optionalChecks limit Absent p = (ParametersWithoutIndicator unless eqb (length (parametersOctets p)) 0) ∷ []
 
--- what the writer makes of a record
-unfoldable pub statusReporting : SmsStatusReport → Making (Said ℕ)
-statusReporting r =
+-- what a writer makes of a record within a limit of user data
+unfoldable pub statusReportingWithin : ℕ → SmsStatusReport → Making (Said ℕ)
+statusReportingWithin limit r =
     let recipient = r .«tp_recipient_address» in
     if tooLong r then refused LengthTooLarge
     else
     checked
     (addressChecks (recipient .ton) (recipient .npi) (textHeld recipient) ++ (NotATime unless isTime (digitsOf (r .«tp_service_centre_timestamp»))) ∷ (NotATime unless isTime (digitsOf (r .«tp_discharge_time»)))
-    ∷ optionalChecks (r .«tp_parameter_indicator») (parametersOf r))
+    ∷ optionalChecks limit (r .«tp_parameter_indicator») (parametersOf r))
     (octetsOf r)
+
+-- the ported writer: within 140
+abbrev pub statusReporting : SmsStatusReport → Making (Said ℕ)
+statusReporting = statusReportingWithin 140
+
+-- the limit of the standard's table (TS 23.040 §9.2.2.3)
+abbrev pub standardLimit : ℕ
+standardLimit = 131
+
+-- the writer to the standard: within that
+abbrev pub statusReportingToStandard : SmsStatusReport → Making (Said ℕ)
+statusReportingToStandard = statusReportingWithin standardLimit
+
+-- user data of 131 and 132 octets; 135 pass within 140
+known-limits : (found (dataWithin standardLimit (Present 0x04) (Present 131) 131) ≡ fine) × (found (dataWithin standardLimit (Present 0x04) (Present 132) 132) ≡ refuses UserDataTooLong)
+    × (found (dataWithin standardLimit (Present 0x04) (Present 135) 135) ≡ refuses UserDataTooLong) × (found (dataWithin 140 (Present 0x04) (Present 135) 135) ≡ fine)
+unfolding dataWithin codingOf characterSet dataOctets
+known-limits = (refl, refl, refl, refl)
 
 -- ---- what is no part of a record
 

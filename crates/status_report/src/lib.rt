@@ -7,7 +7,7 @@ ghost use Rattle.octets.specs.Answers.{refuses, outcomeSays, writtenSays};
 ghost use Rattle.octets.specs.Lent.{lend};
 ghost use Rattle.layout.specs.Layout.{read, answer};
 ghost use Rattle.status_report.specs.Internal.{fieldsAt, Inside};
-ghost use Rattle.status_report.specs.StatusReport.{statusReported, statusReport, blank as blankMessage, firstWith, statusReporting};
+ghost use Rattle.status_report.specs.StatusReport.{statusReported, statusReport, blank as blankMessage, firstWith, statusReportingWithin, statusReporting, statusReportingToStandard};
 use crate::reading::MTI_STATUS_REPORT;
 use crate::reading::StatusReportFields;
 use crate::reading::StatusReportFound;
@@ -19,6 +19,9 @@ use octets::Refusal;
 use octets::Written;
 use parameters::OptionalOctet;
 use time::Time;
+
+// The octets of user data in the standard's table of the message (TS 23.040 §9.2.2.3).
+const STANDARD_USER_DATA_OCTETS: usize = 131;
 
 pub struct SmsStatusReport {
     pub tp_udhi: bool,
@@ -111,9 +114,9 @@ fn first_octet(udhi: bool, srq: bool, lp: bool, mms: bool) -> u8
 }
 
 impl SmsStatusReport {
-    // Writes the message to the start of a lent output.
-    pub fn encode(self, out: &mut [u8]) -> Written
-        ensures { λ r. ⌜ (writtenSays r, now (out .exit)) ≡ lend refuses (statusReporting self) (now (out .entry)) ⌝ }
+    // Writes the message to the start of a lent output, its user data within a limit.
+    fn encode_within(self, limit: usize, out: &mut [u8]) -> Written
+        ensures { λ r. ⌜ (writtenSays r, now (out .exit)) ≡ lend refuses (statusReportingWithin limit self) (now (out .entry)) ⌝ }
     {
         let n = self.tp_recipient_address.address_length;
         let m = self.tp_service_centre_timestamp.length;
@@ -143,6 +146,7 @@ impl SmsStatusReport {
             udl,
         };
         writing::encode_fields(
+            limit,
             values,
             &text[..n],
             &digits[..m],
@@ -150,6 +154,20 @@ impl SmsStatusReport {
             &octets[..k],
             out,
         )
+    }
+
+    // Writes the message to the start of a lent output.
+    pub fn encode(self, out: &mut [u8]) -> Written
+        ensures { λ r. ⌜ (writtenSays r, now (out .exit)) ≡ lend refuses (statusReporting self) (now (out .entry)) ⌝ }
+    {
+        self.encode_within(coding::MAX_USER_DATA_OCTETS, out)
+    }
+
+    // The same with the limit of user data that the standard's table has, in place of the published crate's.
+    pub fn encode_to_standard(self, out: &mut [u8]) -> Written
+        ensures { λ r. ⌜ (writtenSays r, now (out .exit)) ≡ lend refuses (statusReportingToStandard self) (now (out .entry)) ⌝ }
+    {
+        self.encode_within(STANDARD_USER_DATA_OCTETS, out)
     }
 
     // Reads a message.

@@ -30,10 +30,10 @@ pub struct StatusReportValues {
     pub udl: OptionalOctet,
 }
 
-// Whether indicator, parameters and user data go together.
-fn check_optional(v: StatusReportValues, data: &[u8]) -> Checked
+// Whether indicator, parameters and user data go together, and the last keep within a limit.
+fn check_optional(limit: usize, v: StatusReportValues, data: &[u8]) -> Checked
     requires { ⌜ length (now «data») ≤ 255 ⌝ }
-    ensures { λ r. ⌜ checkedSays r ≡ found (optionalChecks (v .indicator) (parametersIn v (now («data» .entry)))) ⌝ }
+    ensures { λ r. ⌜ checkedSays r ≡ found (optionalChecks limit (v .indicator) (parametersIn v (now («data» .entry)))) ⌝ }
 {
     let indicator = v.indicator;
     let pid = v.pid;
@@ -48,7 +48,7 @@ fn check_optional(v: StatusReportValues, data: &[u8]) -> Checked
     if let Checked::Against(r) = parameters::writing::check_parameter_indicator(i, pid, dcs, udl) {
         return Checked::Against(r);
     }
-    parameters::writing::check_data(dcs, udl, data.len())
+    parameters::writing::check_data(limit, dcs, udl, data.len())
 }
 
 // Writes what follows the address from `at` on; the place after it.
@@ -93,8 +93,10 @@ fn put_fields(
     put_after_address(v, scts, dt, data, out, p3)
 }
 
-// Writes the values to the start of a lent output: checks in order, then the size, then the octets.
+// Writes the values to the start of a lent output, user data within a limit: checks in order, then the size, then the
+// octets.
 pub fn encode_fields(
+    limit: usize,
     v: StatusReportValues,
     text: &[u8],
     scts: &[u8],
@@ -103,7 +105,7 @@ pub fn encode_fields(
     out: &mut [u8],
 ) -> Written
     requires { ⌜ length (now «data») ≤ 255 ⌝ }
-    ensures { λ r. ⌜ (writtenSays r, now (out .exit)) ≡ lend refuses (making v (now (text .entry)) (now (scts .entry)) (now (dt .entry)) (now («data» .entry))) (now (out .entry)) ⌝ }
+    ensures { λ r. ⌜ (writtenSays r, now (out .exit)) ≡ lend refuses (making limit v (now (text .entry)) (now (scts .entry)) (now (dt .entry)) (now («data» .entry))) (now (out .entry)) ⌝ }
 {
     match address::writing::check_address(v.ton, v.npi, text) {
         AddressCheck::Refused(r) => Written::Refused(r),
@@ -114,7 +116,7 @@ pub fn encode_fields(
             if !time::is_time(dt) {
                 return Written::Refused(Refusal::NotATime);
             }
-            if let Checked::Against(r) = check_optional(v, data) {
+            if let Checked::Against(r) = check_optional(limit, v, data) {
                 return Written::Refused(r);
             }
             let indicator = v.indicator;

@@ -19,25 +19,26 @@ use Rattle.time.proofs.Laws.{time-size}
 use Rattle.parameters.specs.Optional.{held}
 use Rattle.parameters.specs.Parameters.{Parameters}
 use Rattle.parameters.specs.declared.OptionalOctet.{OptionalOctet}
-use Rattle.parameters.specs.Checking.{indicatorChecks, dataChecks}
+use Rattle.parameters.specs.Checking.{indicatorChecks, dataWithin}
 use Rattle.submit_report.specs.Writing.{octetsIn, making}
 
-module _ (udhi : ℕ) (cause : OptionalOctet) (pi : ℕ) (digits : List ℕ) (p : Parameters) where
+pub size-is : (udhi : ℕ) (cause : OptionalOctet) (pi : ℕ) (digits : List ℕ) (p : Parameters) → isTime digits ≡ true
+    → length (octetsIn udhi cause pi digits p) ≡ 9 + held cause + (held (p .pid) + held (p .dcs) + held (p .udl) + length (p .ud))
+size-is udhi cause pi digits p e = let seven = time-size digits e in simp length-append (omega arith)
+
+module _ (limit udhi : ℕ) (cause : OptionalOctet) (pi : ℕ) (digits : List ℕ) (p : Parameters) where
   abbrev all : Making (Said ℕ)
-  all = making udhi cause pi digits p
+  all = making limit udhi cause pi digits p
 
   abbrev octets : List ℕ
   octets = octetsIn udhi cause pi digits p
-
-  pub size-is : isTime digits ≡ true → length octets ≡ 9 + held cause + (held (p .pid) + held (p .dcs) + held (p .udl) + length (p .ud))
-  size-is e = let seven = time-size digits e in simp length-append (omega arith)
 
   -- the indicator's checks, the user data's, and the order of all
   abbrev first : List Check
   first = indicatorChecks pi (p .pid) (p .dcs) (p .udl)
 
   abbrev last : List Check
-  last = dataChecks (p .dcs) (p .udl) (length (p .ud))
+  last = dataWithin limit (p .dcs) (p .udl) (length (p .ud))
 
   abbrev timed : List Check
   timed = (NotATime unless isTime digits) ∷ last

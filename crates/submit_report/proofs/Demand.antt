@@ -27,13 +27,13 @@ use Rattle.parameters.specs.Optional.{octetsHeld}
 use Rattle.parameters.specs.Parameters.{Parameters}
 use Rattle.parameters.specs.declared.OptionalOctet.{OptionalOctet}
 use Rattle.parameters.specs.declared.OptionalOctet.the-variants.{Absent, Present}
-use Rattle.parameters.specs.Checking.{indicatorChecks, dataChecks}
+use Rattle.parameters.specs.Checking.{indicatorChecks, dataWithin}
 use Rattle.parameters.specs.Layout.{parameters}
 use Rattle.parameters.proofs.Checking.{answers}
 use Rattle.parameters.proofs.Made.{Held, parameters-make, joined-append, past-append}
 use Rattle.submit_report.specs.Layout.{submitReported, format}
 use Rattle.submit_report.specs.Internal.{afterCause}
-use Rattle.submit_report.specs.SubmitReport.{stopped, ack, error, parametersOf, submitReporting, cleared, Typed}
+use Rattle.submit_report.specs.SubmitReport.{stopped, ack, error, parametersOf, standardLimit, submitReportingWithin, submitReporting, submitReportingToStandard, cleared, Typed}
 use Rattle.submit_report.specs.Writing.{octetsIn, making}
 use Rattle.submit_report.specs.declared.SmsSubmitReport.{SmsSubmitReport}
 use Rattle.submit_report.proofs.RecordWritten.{fits, by-fields}
@@ -44,17 +44,20 @@ abbrev octetsOf : SmsSubmitReport → List ℕ
 octetsOf r = octetsIn (r .«tp_udhi») (r .«tp_failure_cause») (r .«tp_parameter_indicator») (digitsOf (r .«tp_service_centre_timestamp»)) (parametersOf r)
 
 -- what lies after the lengths is not written
-of-cleared : (r : SmsSubmitReport) → Typed r → submitReporting (cleared r) ≡ submitReporting r
-unfolding submitReporting
-of-cleared r (t, d) =
+of-cleared : (limit : ℕ) (r : SmsSubmitReport) → Typed r → submitReportingWithin limit (cleared r) ≡ submitReportingWithin limit r
+unfolding submitReportingWithin
+of-cleared limit r (t, d) =
     rw (
       take-cleared 14 (r .«tp_service_centre_timestamp» .length) (r .«tp_service_centre_timestamp» .digits) t,
       take-cleared 255 (r .«tp_user_data» .length) (r .«tp_user_data» .octets) d,
     )
 
--- equal records are written alike
-pub written-alike : (r q : SmsSubmitReport) → Typed r → Typed q → cleared r ≡ cleared q → submitReporting r ≡ submitReporting q
-written-alike r q f g e = sym (of-cleared r f) ∙ ap submitReporting e ∙ of-cleared q g
+-- equal records are written alike, within a limit and to the standard
+pub written-alike : (limit : ℕ) (r q : SmsSubmitReport) → Typed r → Typed q → cleared r ≡ cleared q → submitReportingWithin limit r ≡ submitReportingWithin limit q
+written-alike limit r q f g e = sym (of-cleared limit r f) ∙ ap (submitReportingWithin limit) e ∙ of-cleared limit q g
+
+pub standard-written-alike : (r q : SmsSubmitReport) → Typed r → Typed q → cleared r ≡ cleared q → submitReportingToStandard r ≡ submitReportingToStandard q
+standard-written-alike r q f g e = written-alike _ r q f g e ∙ ap (λ (o : SmsSubmitReport). submitReportingWithin (standardLimit (o .«tp_failure_cause»)) q) e
 
 -- a record that was made of fields is cleared
 pub made-cleared : (udhi : ℕ) (cause : OptionalOctet) (pi : ℕ) (scts : List ℕ) (p : Parameters) → cleared (submitReported udhi cause pi scts p) ≡ submitReported udhi cause pi scts p
@@ -88,11 +91,11 @@ module _ (udhi : ℕ) (u : udhi ≤ 1) (cause : OptionalOctet) (pi : ℕ) (t : L
   unfolding submitReported
   octets-held = ap octetsOf (made-cleared udhi cause pi t p) ∙ rw (time-held t, data-held (p .ud))
 
-  its-making : length (p .ud) ≤ 255 → submitReporting r ≡ checked (indicatorChecks pi (p .pid) (p .dcs) (p .udl) ++ dataChecks (p .dcs) (p .udl) (length (p .ud))) its-octets
+  its-making : length (p .ud) ≤ 255 → submitReporting r ≡ checked (indicatorChecks pi (p .pid) (p .dcs) (p .udl) ++ dataWithin 140 (p .dcs) (p .udl) (length (p .ud))) its-octets
   unfolding submitReported making timeIn dataWith
   its-making h =
-      by-fields r (fits r (omega (arith, length-digits t)) h) ∙ rw (time-held t, data-held (p .ud))
-      (check-holds (le-leb udhi 1 u) _ _ its-octets ∙ between (digits-time t ot (sym wt)) NotATime (dataChecks (p .dcs) (p .udl) (length (p .ud))) its-octets (indicatorChecks pi (p .pid) (p .dcs) (p .udl)))
+      by-fields 140 r (fits r (omega (arith, length-digits t)) h) ∙ rw (time-held t, data-held (p .ud))
+      (check-holds (le-leb udhi 1 u) _ _ its-octets ∙ between (digits-time t ot (sym wt)) NotATime (dataWithin 140 (p .dcs) (p .udl) (length (p .ud))) its-octets (indicatorChecks pi (p .pid) (p .dcs) (p .udl)))
 
   -- indicator, time and parameters stand after the fields of first octet and cause
   module _ (front cs : List Field) (j : joined front ≡ (64 * udhi + 1) ∷ octetsHeld cause) (n : anyPastLimit front ≡ false) (h : Held pi p cs) where
@@ -150,7 +153,7 @@ apart x low m cause small pi at t ot wt =
     makes-then (Held pi) _ (parameters pi) _ (parameters-make pi) λ p cs h. (no-time _ (Present cause) pi t p wt, longer (kept bits x) cause pi t (joined (cs ++ [])) wt)
 
 stopped-refused : submitReporting stopped ≡ refused NotATime
-unfolding submitReporting submitReported timeIn timeDigits dataWith making checked indicatorChecks isTime
+unfolding submitReportingWithin submitReported timeIn timeDigits dataWith making checked indicatorChecks isTime
 stopped-refused = refl
 
 stands-apart : Stopped cleared submitReporting (format true) stands stopped true

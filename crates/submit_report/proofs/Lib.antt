@@ -2,3 +2,4 @@ pub mod CheckByCheck
 pub mod FieldByField
 pub mod RecordWritten
 pub mod Demand
+pub mod Limits

@@ -1,18 +1,20 @@
--- SMS-SUBMIT-REPORT (TS 23.040 §9.2.2.2a): its two layouts, what its writer makes of a record, and what is no part of one.
+-- SMS-SUBMIT-REPORT (TS 23.040 §9.2.2.2a): its two layouts, what its writers make of a record, and what is no part of one.
 use Prim.Native.Nat.{ℕ}
 use mathlib.Core.Path.{_≡_, refl}
 use mathlib.Core.Bool.{Bool, true, false, _||_}
 use mathlib.Core.List.{[], _∷_}
 use lib.Dec.{ltb}
-use Rattle.octets.specs.Answers.{Said}
+use Rattle.octets.specs.Answers.{Said, refuses, fine}
+use Rattle.octets.specs.Checks.{found}
 use Rattle.octets.specs.Choice.{if_then_else_}
 use Rattle.octets.specs.Lent.{Making, refused}
-use Rattle.octets.specs.declared.Refusal.the-variants.{LengthTooLarge, OctetsEnd, WrongMessageType}
-use Rattle.coding.specs.Coding.{dataOf, clearedData, TypedData}
+use Rattle.octets.specs.declared.Refusal.the-variants.{LengthTooLarge, OctetsEnd, WrongMessageType, UserDataTooLong}
+use Rattle.coding.specs.Coding.{codingOf, characterSet, dataOctets, dataOf, clearedData, TypedData}
 use Rattle.coding.specs.declared.UserData.{UserData}
 use Rattle.time.specs.Time.{digitsOf, clearedTime, capitalTime, TypedTime}
 use Rattle.time.specs.declared.Time.{Time}
 use Rattle.layout.specs.Layout.{indicatorSize, kept, Layout, plain, stopping, stops, reached, halted, after, reading, readFrom, read, fieldsOf, canonicalOf}
+use Rattle.parameters.specs.Checking.{dataWithin}
 use Rattle.parameters.specs.Layout.{parameters}
 use Rattle.parameters.specs.Parameters.{Parameters, noParameters}
 use Rattle.parameters.specs.declared.OptionalOctet.{OptionalOctet}
@@ -64,11 +66,30 @@ parametersOf r = record { pid = r .«tp_pid»; dcs = r .«tp_dcs»; udl = r .«t
 abbrev pub tooLong : SmsSubmitReport → Bool
 tooLong r = ltb 14 (r .«tp_service_centre_timestamp» .length) || ltb 255 (r .«tp_user_data» .length)
 
--- what the writer makes of a record
-unfoldable pub submitReporting : SmsSubmitReport → Making (Said ℕ)
-submitReporting r =
+-- what a writer makes of a record within a limit of user data
+unfoldable pub submitReportingWithin : ℕ → SmsSubmitReport → Making (Said ℕ)
+submitReportingWithin limit r =
     if tooLong r then refused LengthTooLarge
-    else making (r .«tp_udhi») (r .«tp_failure_cause») (r .«tp_parameter_indicator») (digitsOf (r .«tp_service_centre_timestamp»)) (parametersOf r)
+    else making limit (r .«tp_udhi») (r .«tp_failure_cause») (r .«tp_parameter_indicator») (digitsOf (r .«tp_service_centre_timestamp»)) (parametersOf r)
+
+-- the ported writer: within 140
+abbrev pub submitReporting : SmsSubmitReport → Making (Said ℕ)
+submitReporting = submitReportingWithin 140
+
+-- the limits of the standard's two tables (TS 23.040 §9.2.2.2a): 152 in an RP-ACK, 151 in an RP-ERROR, which a cause means
+abbrev pub standardLimit : OptionalOctet → ℕ
+standardLimit Absent = 152
+standardLimit (Present cause) = 151
+
+-- the writer to the standard: within these
+abbrev pub submitReportingToStandard : SmsSubmitReport → Making (Said ℕ)
+submitReportingToStandard r = submitReportingWithin (standardLimit (r .«tp_failure_cause»)) r
+
+-- user data of 152 and 153 octets in an RP-ACK, of 151 and 152 in an RP-ERROR with cause D3
+known-limits : (found (dataWithin (standardLimit Absent) (Present 0x04) (Present 152) 152) ≡ fine) × (found (dataWithin (standardLimit Absent) (Present 0x04) (Present 153) 153) ≡ refuses UserDataTooLong)
+    × (found (dataWithin (standardLimit (Present 0xd3)) (Present 0x04) (Present 151) 151) ≡ fine) × (found (dataWithin (standardLimit (Present 0xd3)) (Present 0x04) (Present 152) 152) ≡ refuses UserDataTooLong)
+unfolding dataWithin codingOf characterSet dataOctets
+known-limits = (refl, refl, refl, refl)
 
 -- ---- what is no part of a record
 

@@ -11,15 +11,15 @@ use Rattle.time.specs.Time.{isTime, timeOctets}
 use Rattle.parameters.specs.Optional.{octetsHeld}
 use Rattle.parameters.specs.Parameters.{Parameters, parametersOctets}
 use Rattle.parameters.specs.declared.OptionalOctet.{OptionalOctet}
-use Rattle.parameters.specs.Checking.{indicatorChecks, dataChecks}
+use Rattle.parameters.specs.Checking.{indicatorChecks, dataWithin}
 
 -- their octets, in the layout's order: UDHI in bit 6 and MTI 1, cause, indicator, time, parameters
 abbrev pub octetsIn : ℕ → OptionalOctet → ℕ → List ℕ → Parameters → List ℕ
 octetsIn udhi cause pi digits p = (64 * udhi + 1) ∷ octetsHeld cause ++ (pi ∷ timeOctets digits ++ parametersOctets p)
 
--- what a writer makes of them: 4; 13 and 14; 12; 7, 8 and 15
-unfoldable pub making : ℕ → OptionalOctet → ℕ → List ℕ → Parameters → Making (Said ℕ)
-making udhi cause pi digits p =
+-- what a writer makes of them within a limit of user data: 4; 13 and 14; 12; 7, 8 and 15
+unfoldable pub making : ℕ → ℕ → OptionalOctet → ℕ → List ℕ → Parameters → Making (Said ℕ)
+making limit udhi cause pi digits p =
     checked
-    ((UdhiTooLarge unless leb udhi 1) ∷ indicatorChecks pi (p .pid) (p .dcs) (p .udl) ++ (NotATime unless isTime digits) ∷ dataChecks (p .dcs) (p .udl) (length (p .ud)))
+    ((UdhiTooLarge unless leb udhi 1) ∷ indicatorChecks pi (p .pid) (p .dcs) (p .udl) ++ (NotATime unless isTime digits) ∷ dataWithin limit (p .dcs) (p .udl) (length (p .ud)))
     (octetsIn udhi cause pi digits p)

@@ -9,7 +9,7 @@ ghost use Rattle.octets.specs.Lent.{lend};
 ghost use Rattle.layout.specs.Layout.{read, readFrom, answer};
 ghost use Rattle.submit_report.specs.Layout.{submitReported};
 ghost use Rattle.submit_report.specs.Internal.{afterCause};
-ghost use Rattle.submit_report.specs.SubmitReport.{causeAlone, blank as blankReport, stopped as stoppedReport, ack, error, submitReporting};
+ghost use Rattle.submit_report.specs.SubmitReport.{causeAlone, blank as blankReport, stopped as stoppedReport, ack, error, standardLimit, submitReportingWithin, submitReporting, submitReportingToStandard};
 use crate::writing::MTI_SUBMIT;
 use coding::UserData;
 use octets::Octet;
@@ -26,6 +26,10 @@ use time::Time;
 const REPORT_UNUSED_BITS: u8 = 0xBC;
 // TP-FCS "Unspecified error cause" (TS 23.040 §9.2.3.22).
 const FAILURE_CAUSE_UNSPECIFIED: u8 = 0xFF;
+// The octets of user data in the standard's tables of a report in an RP-ACK and in an RP-ERROR (TS 23.040 §9.2.2.2a).
+const RP_ACK_USER_DATA_OCTETS: usize = 152;
+
+const RP_ERROR_USER_DATA_OCTETS: usize = 151;
 
 pub struct SmsSubmitReport {
     pub tp_udhi: u8,
@@ -132,6 +136,16 @@ fn after_cause(data: &[u8], place: Place, udhi: u8, cause: OptionalOctet) -> Sub
     report(udhi, cause, indicator, data, scts, pid, dcs, udl, n, end.at)
 }
 
+// The standard's limit of user data: a cause held means RP-ERROR.
+fn standard_limit(cause: OptionalOctet) -> usize
+    ensures { λ r. ⌜ r ≡ standardLimit cause ⌝ }
+{
+    match cause {
+        OptionalOctet::Absent => RP_ACK_USER_DATA_OCTETS,
+        OptionalOctet::Present(_) => RP_ERROR_USER_DATA_OCTETS,
+    }
+}
+
 impl SmsSubmitReport {
     // The layout carried in an RP-ACK (no TP-Failure-Cause).
     pub fn decode_for_rp_ack(data: &[u8]) -> SubmitReportRead
@@ -168,9 +182,9 @@ impl SmsSubmitReport {
         after_cause(data, next, first / 64 % 2, OptionalOctet::Present(cause))
     }
 
-    // Writes the report to the start of a lent output.
-    pub fn encode(self, out: &mut [u8]) -> Written
-        ensures { λ r. ⌜ (writtenSays r, now (out .exit)) ≡ lend refuses (submitReporting self) (now (out .entry)) ⌝ }
+    // Writes the report to the start of a lent output, its user data within a limit.
+    fn encode_within(self, limit: usize, out: &mut [u8]) -> Written
+        ensures { λ r. ⌜ (writtenSays r, now (out .exit)) ≡ lend refuses (submitReportingWithin limit self) (now (out .entry)) ⌝ }
     {
         let m = self.tp_service_centre_timestamp.length;
         let n = self.tp_user_data.length;
@@ -184,6 +198,7 @@ impl SmsSubmitReport {
         let dcs = self.tp_dcs;
         let udl = self.tp_user_data_length;
         writing::encode_fields(
+            limit,
             self.tp_udhi,
             cause,
             self.tp_parameter_indicator,
@@ -194,5 +209,20 @@ impl SmsSubmitReport {
             &octets[..n],
             out,
         )
+    }
+
+    // Writes the report to the start of a lent output.
+    pub fn encode(self, out: &mut [u8]) -> Written
+        ensures { λ r. ⌜ (writtenSays r, now (out .exit)) ≡ lend refuses (submitReporting self) (now (out .entry)) ⌝ }
+    {
+        self.encode_within(coding::MAX_USER_DATA_OCTETS, out)
+    }
+
+    // The same with the limit of user data that the standard's tables have, in place of the published crate's.
+    pub fn encode_to_standard(self, out: &mut [u8]) -> Written
+        ensures { λ r. ⌜ (writtenSays r, now (out .exit)) ≡ lend refuses (submitReportingToStandard self) (now (out .entry)) ⌝ }
+    {
+        let cause = self.tp_failure_cause;
+        self.encode_within(standard_limit(cause), out)
     }
 }

@@ -39,8 +39,10 @@ fn put_fields(
     parameters::writing::put_parameters(out, p4, pid, dcs, udl, data)
 }
 
-// Writes the values to the start of a lent output: checks in order, then the size, then the octets.
+// Writes the values to the start of a lent output, user data within a limit: checks in order, then the size, then the
+// octets.
 pub fn encode_fields(
+    limit: usize,
     udhi: u8,
     cause: OptionalOctet,
     indicator: u8,
@@ -51,7 +53,8 @@ pub fn encode_fields(
     data: &[u8],
     out: &mut [u8],
 ) -> Written
-    ensures { λ r. ⌜ (writtenSays r, now (out .exit)) ≡ lend refuses (making udhi cause indicator (now (digits .entry)) (record { pid = pid; dcs = dcs; udl = udl; ud = now («data» .entry) })) (now (out .entry)) ⌝ }
+    requires { ⌜ length (now «data») ≤ 255 ⌝ }
+    ensures { λ r. ⌜ (writtenSays r, now (out .exit)) ≡ lend refuses (making limit udhi cause indicator (now (digits .entry)) (record { pid = pid; dcs = dcs; udl = udl; ud = now («data» .entry) })) (now (out .entry)) ⌝ }
 {
     if udhi > 1 {
         return Written::Refused(Refusal::UdhiTooLarge);
@@ -67,7 +70,7 @@ pub fn encode_fields(
     if !time::is_time(digits) {
         return Written::Refused(Refusal::NotATime);
     }
-    if let Checked::Against(r) = parameters::writing::check_data(dcs, udl, data.len()) {
+    if let Checked::Against(r) = parameters::writing::check_data(limit, dcs, udl, data.len()) {
         return Written::Refused(r);
     }
     let size = parameters::writing::parameters_size(pid, dcs, udl, data.len());

@@ -64,7 +64,7 @@ fn put_meaning(out: &mut Output, at: usize, refusal: u8) -> usize {
         VPF disagrees with the validity period held\n\
         SUBMIT has no destination\n\
         User data length disagrees with UDL and DCS\n\
-        User data pass 140 octets\n\
+        User data pass the limit of the writer\n\
         Type of number passes 7 or plan passes 15\n\
         A character isn't in the alphabet used, or isn't UTF-8\n\
         The address value passes 10 octets\n\

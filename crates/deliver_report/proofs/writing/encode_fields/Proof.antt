@@ -10,7 +10,6 @@ use Rattle.octets.specs.Answers.{gives, refuses, checkedSays}
 use Rattle.octets.specs.Lent.{made}
 use Rattle.octets.proofs.Laws.{lent-refused, lent-short, lent-written}
 use Rattle.parameters.specs.Parameters.{Parameters}
-use Rattle.parameters.proofs.Checking.{data-few}
 use Rattle.parameters.proofs.Laws.{one-at-most}
 use Rattle.deliver_report.specs.Writing.{octetsIn, making}
 use Rattle.deliver_report.proofs.CheckByCheck.{size-is, indicator-against, data-against, all-made}
@@ -34,30 +33,27 @@ Passed =
     reads.Post
 
 module _ (c : Passed) where
-  few : length (now (c .before .before .before .before .before .before .before .before .args .«data»)) ≤ 140
-  few = data-few _ _ _ (sym (c .before .before .check-data .ensures) ∙ ap checkedSays (c .enum-told2 .given .1))
-
   is-made : (let a = c .before .before .before .before .before .before .before .before .args in
       let p : Parameters = record { pid = a .pid; dcs = a .dcs; udl = a .udl; ud = now (a .«data») } in
       let octets = octetsIn (a .udhi) (a .cause) (a .indicator) p in
-      making (a .udhi) (a .cause) (a .indicator) p ≡ made octets (gives (length octets)))
+      making (a .limit) (a .udhi) (a .cause) (a .indicator) p ≡ made octets (gives (length octets)))
   is-made =
       let i = c .before .before .before in
-      all-made _ _ _ _ (sym (i .before .before .check-parameter-indicator .ensures) ∙ ap checkedSays (i .enum-told .given .1)) (sym (c .before .before .check-data .ensures) ∙ ap checkedSays (c .enum-told2 .given .1))
+      all-made _ _ _ _ _ (sym (i .before .before .check-parameter-indicator .ensures) ∙ ap checkedSays (i .enum-told .given .1)) (sym (c .before .before .check-data .ensures) ∙ ap checkedSays (c .enum-told2 .given .1))
 
 returns : tie.Need-returns
-returns c = lent-refused refuses _ _ (indicator-against _ _ _ _ (sym (c .before .before .before .check-parameter-indicator .ensures) ∙ ap checkedSays (c .before .r .given .1)))
+returns c = lent-refused refuses _ _ (indicator-against _ _ _ _ _ (sym (c .before .before .before .check-parameter-indicator .ensures) ∙ ap checkedSays (c .before .r .given .1)))
 
 returns-2 : tie.Need-returns-2
 returns-2 c =
     let i = c .before .before .before .before in
-    lent-refused refuses _ _ (data-against _ _ _ _ (sym (i .before .before .check-parameter-indicator .ensures) ∙ ap checkedSays (i .enum-told .given .1)) (sym (c .before .before .before .check-data .ensures) ∙ ap checkedSays (c .before .r2 .given .1)))
+    lent-refused refuses _ _ (data-against _ _ _ _ _ (sym (i .before .before .check-parameter-indicator .ensures) ∙ ap checkedSays (i .enum-told .given .1)) (sym (c .before .before .before .check-data .ensures) ∙ ap checkedSays (c .before .r2 .given .1)))
 
 add-if1-2 : tie.Need-add-if1-2
 add-if1-2 c =
     let p = c .before .before in
     let a = p .before .before .before .before .before .before .before .before .args in
-    omega (arith, one-at-most (a .cause), one-at-most (a .pid), one-at-most (a .dcs), one-at-most (a .udl), few p)
+    omega (arith, one-at-most (a .cause), one-at-most (a .pid), one-at-most (a .dcs), one-at-most (a .udl))
 
 returns-4 : tie.Need-returns-4
 returns-4 c =
@@ -76,7 +72,7 @@ encode-fields-spec =
     (λ c. search needs)
     returns-2
     (λ c. search needs)
-    (λ c κs. omega (arith, few c))
+    (λ c κs. omega arith)
     (λ c κs. tt)
     (λ c. omega (arith, one-at-most (c .before .before .before .before .before .before .before .before .before .before .args .cause)))
     add-if1-2

@@ -23,14 +23,14 @@ counted : (c : tie.After-known-told2) → let a = c .before .before .before .bef
 counted c = sym (c .before .before .before .check-address .ensures) ∙ ap addressCheckSays (c .before .count .given .1)
 
 -- what the checks after it find
-rest-found : (c : tie.After-check-optional) → let a = c .before .before .before .before .before .before .before .before .before .before .before .before .before .before .args in found (checksAfter (a .v) (now (a .scts)) (now (a .dt)) (now (a .«data»))) ≡ checkedSays (c .check-optional .result)
+rest-found : (c : tie.After-check-optional) → let a = c .before .before .before .before .before .before .before .before .before .before .before .before .before .before .args in found (checksAfter (a .limit) (a .v) (now (a .scts)) (now (a .dt)) (now (a .«data»))) ≡ checkedSays (c .check-optional .result)
 rest-found c =
     rw (sym (c .before .before .before .before .is-time .ensures) ∙ not-false _ (c .before .before .before .if1 .left), sym (c .before .before .is-time2 .ensures) ∙ not-false _ (c .before .if2 .left))
     (sym (c .check-optional .ensures))
 
 -- all have passed, and the size is known
 module _ (c : tie.After-parameters-size) where
-  passes : let a = c .before .before .before .before .before .before .before .before .before .before .before .before .before .before .before .before .before .before .args in found (checksAfter (a .v) (now (a .scts)) (now (a .dt)) (now (a .«data»))) ≡ fine
+  passes : let a = c .before .before .before .before .before .before .before .before .before .before .before .before .before .before .before .before .before .before .args in found (checksAfter (a .limit) (a .v) (now (a .scts)) (now (a .dt)) (now (a .«data»))) ≡ fine
   passes = rest-found (c .before .before .before .before) ∙ ap checkedSays (c .before .before .enum-told .given .1)
 
   size-is : let a = c .before .before .before .before .before .before .before .before .before .before .before .before .before .before .before .before .before .before .args in c .before .octets-held .result + c .parameters-size .result ≡ optionalSize (a .v) (length (now (a .«data»)))
@@ -49,12 +49,12 @@ encode-fields-spec =
     (λ c. search needs)
     (λ c. search needs)
     (λ c κs. tt)
-    (λ c. rest-against _ _ _ _ _ _ (counted (c .before .before)) (rw (sym (c .before .is-time .ensures) ∙ not-true _ (c .if1 .taken))))
+    (λ c. rest-against _ _ _ _ _ _ _ (counted (c .before .before)) (rw (sym (c .before .is-time .ensures) ∙ not-true _ (c .if1 .taken))))
     (λ c κs. tt)
-    (λ c. rest-against _ _ _ _ _ _ (counted (c .before .before .before .before)) (rw (sym (c .before .before .before .is-time .ensures) ∙ not-false _ (c .before .before .if1 .left), sym (c .before .is-time2 .ensures) ∙ not-true _ (c .if2 .taken))))
+    (λ c. rest-against _ _ _ _ _ _ _ (counted (c .before .before .before .before)) (rw (sym (c .before .before .before .is-time .ensures) ∙ not-false _ (c .before .before .if1 .left), sym (c .before .is-time2 .ensures) ∙ not-true _ (c .if2 .taken))))
     (λ c κs. search needs)
     (λ c. search needs)
-    (λ c. rest-against _ _ _ _ _ _ (counted (c .before .before .before .before .before .before .before .before)) (rest-found (c .before .before .before) ∙ ap checkedSays (c .before .r2 .given .1)))
+    (λ c. rest-against _ _ _ _ _ _ _ (counted (c .before .before .before .before .before .before .before .before)) (rest-found (c .before .before .before) ∙ ap checkedSays (c .before .r2 .given .1)))
     (λ c. search needs)
     (λ c κs. tt)
     (λ c κs. search needs)
@@ -62,10 +62,10 @@ encode-fields-spec =
     (λ c. omega (arith, small c .1))
     (λ c. omega (arith, small c .1))
     (λ c. omega (arith, small c))
-    (λ c. short _ _ _ _ _ _ (counted (c .before .before .before .before .before .before .before .before .before .before)) (passes (c .before)) (omega (arith, c .if3 .taken, size-is (c .before))))
+    (λ c. short _ _ _ _ _ _ _ (counted (c .before .before .before .before .before .before .before .before .before .before)) (passes (c .before)) (omega (arith, c .if3 .taken, size-is (c .before))))
     (λ c κs. let s = c .before .before in
-    let (scts, dt) = times-are (s .before .before .before .before .before .before .before .before .before .before .before .before .before .before .before .before .before .before .args .v) _ _ _ (passes s) in
+    let (scts, dt) = times-are _ (s .before .before .before .before .before .before .before .before .before .before .before .before .before .before .before .before .before .before .args .v) _ _ _ (passes s) in
     (counted (s .before .before .before .before .before .before .before .before .before), scts, dt, omega (arith, c .before .if3 .left, size-is s)))
-    (λ c. address-against _ _ _ _ _ _ (sym (c .before .before .before .check-address .ensures) ∙ ap addressCheckSays (c .before .r .given .1)))
+    (λ c. address-against _ _ _ _ _ _ _ (sym (c .before .before .before .check-address .ensures) ∙ ap addressCheckSays (c .before .r .given .1)))
     (λ c. search needs)
-    (λ c. let s = c .before .before .before .before .before in written _ _ _ _ _ _ (counted (s .before .before .before .before .before .before .before .before .before)) (passes s) (omega (arith, c .before .before .before .before .if3 .left, size-is s)) (c .before .before .put-fields .ensures)))
+    (λ c. let s = c .before .before .before .before .before in written _ _ _ _ _ _ _ (counted (s .before .before .before .before .before .before .before .before .before)) (passes s) (omega (arith, c .before .before .before .before .if3 .left, size-is s)) (c .before .before .put-fields .ensures)))

@@ -13,7 +13,6 @@ use Rattle.octets.specs.Lent.{made}
 use Rattle.octets.proofs.Laws.{lent-refused, lent-short, lent-written}
 use Rattle.time.specs.Time.{isTime}
 use Rattle.parameters.specs.Parameters.{Parameters}
-use Rattle.parameters.proofs.Checking.{data-few}
 use Rattle.parameters.proofs.Laws.{one-at-most}
 use Rattle.submit_report.specs.Writing.{octetsIn, making}
 use Rattle.submit_report.proofs.CheckByCheck.{size-is, udhi-large, indicator-against, no-time, data-against, all-made}
@@ -40,37 +39,34 @@ module _ (c : Passed) where
   time-is : isTime (now (c .before .before .before .before .before .before .before .before .before .before .before .before .args .digits)) ≡ true
   time-is = sym (c .before .before .before .before .is-time .ensures) ∙ not-false _ (c .before .before .before .if2 .left)
 
-  few : length (now (c .before .before .before .before .before .before .before .before .before .before .before .before .args .«data»)) ≤ 140
-  few = data-few _ _ _ (sym (c .before .before .check-data .ensures) ∙ ap checkedSays (c .enum-told2 .given .1))
-
   is-made : (let a = c .before .before .before .before .before .before .before .before .before .before .before .before .args in
       let p : Parameters = record { pid = a .pid; dcs = a .dcs; udl = a .udl; ud = now (a .«data») } in
       let octets = octetsIn (a .udhi) (a .cause) (a .indicator) (now (a .digits)) p in
-      making (a .udhi) (a .cause) (a .indicator) (now (a .digits)) p ≡ made octets (gives (length octets)))
+      making (a .limit) (a .udhi) (a .cause) (a .indicator) (now (a .digits)) p ≡ made octets (gives (length octets)))
   is-made =
       let i = c .before .before .before .before .before in
-      all-made _ _ _ _ _ (i .before .before .before .if1 .left) (sym (i .before .before .check-parameter-indicator .ensures) ∙ ap checkedSays (i .enum-told .given .1)) time-is
+      all-made _ _ _ _ _ _ (i .before .before .before .if1 .left) (sym (i .before .before .check-parameter-indicator .ensures) ∙ ap checkedSays (i .enum-told .given .1)) time-is
       (sym (c .before .before .check-data .ensures) ∙ ap checkedSays (c .enum-told2 .given .1))
 
 returns-2 : tie.Need-returns-2
-returns-2 c = lent-refused refuses _ _ (indicator-against _ _ _ _ _ (c .before .before .before .before .if1 .left) (sym (c .before .before .before .check-parameter-indicator .ensures) ∙ ap checkedSays (c .before .r .given .1)))
+returns-2 c = lent-refused refuses _ _ (indicator-against _ _ _ _ _ _ (c .before .before .before .before .if1 .left) (sym (c .before .before .before .check-parameter-indicator .ensures) ∙ ap checkedSays (c .before .r .given .1)))
 
 returns-3 : tie.Need-returns-3
 returns-3 c =
     let i = c .before .before in
-    lent-refused refuses _ _ (no-time _ _ _ _ _ (i .before .before .before .if1 .left) (sym (i .before .before .check-parameter-indicator .ensures) ∙ ap checkedSays (i .enum-told .given .1)) (sym (c .before .is-time .ensures) ∙ not-true _ (c .if2 .taken)))
+    lent-refused refuses _ _ (no-time _ _ _ _ _ _ (i .before .before .before .if1 .left) (sym (i .before .before .check-parameter-indicator .ensures) ∙ ap checkedSays (i .enum-told .given .1)) (sym (c .before .is-time .ensures) ∙ not-true _ (c .if2 .taken)))
 
 returns-4 : tie.Need-returns-4
 returns-4 c =
     let t = c .before .before .before .before in
     let i = t .before .before in
-    lent-refused refuses _ _ (data-against _ _ _ _ _ (i .before .before .before .if1 .left) (sym (i .before .before .check-parameter-indicator .ensures) ∙ ap checkedSays (i .enum-told .given .1)) (sym (t .before .is-time .ensures) ∙ not-false _ (t .if2 .left)) (sym (c .before .before .before .check-data .ensures) ∙ ap checkedSays (c .before .r2 .given .1)))
+    lent-refused refuses _ _ (data-against _ _ _ _ _ _ (i .before .before .before .if1 .left) (sym (i .before .before .check-parameter-indicator .ensures) ∙ ap checkedSays (i .enum-told .given .1)) (sym (t .before .is-time .ensures) ∙ not-false _ (t .if2 .left)) (sym (c .before .before .before .check-data .ensures) ∙ ap checkedSays (c .before .r2 .given .1)))
 
 add-if3-2 : tie.Need-add-if3-2
 add-if3-2 c =
     let p = c .before .before in
     let a = p .before .before .before .before .before .before .before .before .before .before .before .before .args in
-    omega (arith, one-at-most (a .cause), one-at-most (a .pid), one-at-most (a .dcs), one-at-most (a .udl), few p)
+    omega (arith, one-at-most (a .cause), one-at-most (a .pid), one-at-most (a .dcs), one-at-most (a .udl))
 
 returns-5 : tie.Need-returns-5
 returns-5 c = let p = c .before .before .before in lent-short refuses _ (is-made p) (rw (size-is _ _ _ _ _ (time-is p)) (omega arith))
@@ -82,7 +78,7 @@ pub encode-fields-spec : {M : Type 1} → statement M
 encode-fields-spec =
     tie.close
     (tie.spec
-    (λ c. lent-refused refuses _ _ (udhi-large _ _ _ _ _ (c .if1 .taken)))
+    (λ c. lent-refused refuses _ _ (udhi-large _ _ _ _ _ _ (c .if1 .taken)))
     (λ c κs. tt)
     (λ c. search needs)
     returns-2
@@ -93,7 +89,7 @@ encode-fields-spec =
     (λ c. search needs)
     returns-4
     (λ c. search needs)
-    (λ c κs. omega (arith, few c))
+    (λ c κs. omega arith)
     (λ c κs. tt)
     (λ c. omega (arith, one-at-most (c .before .before .before .before .before .before .before .before .before .before .before .before .before .before .args .cause)))
     add-if3-2
