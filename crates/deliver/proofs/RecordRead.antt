@@ -51,20 +51,24 @@ pub message-is : (s : List ℕ) → Octets s → (f : DeliverFields) → Inside 
     → (a : SMSAddress) → a ≡ addressIn (take (addressSize (drop (f .address) s)) (drop (f .address) s)) → (t : Time) → t ≡ timeIn (take 7 (drop (f .timestamp) s))
     → (d : UserData) → d ≡ dataWith (take (f .«data» + f .octets - f .«data») (drop (f .«data») s))
     → (n : ℕ) → n ≡ replacedIn (septetsRead (take (addressSize (drop (f .address) s)) (drop (f .address) s)))
-    → (let m = delivered (fieldsAt s f) in _≡_ {A = DeliverRead} (record { outcome = Outcome.Done; message = record {
-      «tp_rp» = eqb (f .first / 128 % 2) 1;
-      «tp_udhi» = eqb (f .first / 64 % 2) 1;
-      «tp_sri» = eqb (f .first / 32 % 2) 1;
-      «tp_lp» = eqb (f .first / 8 % 2) 1;
-      «tp_mms» = eqb (f .first / 4 % 2) 1;
-      «tp_mti» = f .first % 4;
-      «tp_originating_address» = a;
-      «tp_pid» = f .pid;
-      «tp_dcs» = f .dcs;
-      «tp_service_centre_timestamp» = t;
-      «tp_user_data_length» = f .udl;
-      «tp_user_data» = d;
-    }; «replaced_escapes» = n })
+    → (let m = delivered (fieldsAt s f) in _≡_ {A = DeliverRead} (record {
+      outcome = Outcome.Done;
+      message = record {
+        «tp_rp» = eqb (f .first / 128 % 2) 1;
+        «tp_udhi» = eqb (f .first / 64 % 2) 1;
+        «tp_sri» = eqb (f .first / 32 % 2) 1;
+        «tp_lp» = eqb (f .first / 8 % 2) 1;
+        «tp_mms» = eqb (f .first / 4 % 2) 1;
+        «tp_mti» = f .first % 4;
+        «tp_originating_address» = a;
+        «tp_pid» = f .pid;
+        «tp_dcs» = f .dcs;
+        «tp_service_centre_timestamp» = t;
+        «tp_user_data_length» = f .udl;
+        «tp_user_data» = d;
+      };
+      «replaced_escapes» = n;
+    })
     (record { outcome = Outcome.Done; message = m; «replaced_escapes» = replacedInAll (textsRead s m) }))
 unfolding delivered fieldsAt replacedInAll
 message-is s o f inside a ea t et d ed n en =

@@ -51,22 +51,26 @@ pub message-is : (s : List ℕ) → Octets s → (f : StatusReportFields) → In
     → (a : SMSAddress) → a ≡ addressIn (take (addressSize (drop (f .address) s)) (drop (f .address) s)) → (t : Time) → t ≡ timeIn (take 7 (drop (f .timestamp) s)) → (u : Time) → u ≡ timeIn (take 7 (drop (f .discharge) s))
     → (d : UserData) → d ≡ dataWith (take (f .«data» + f .octets - f .«data») (drop (f .«data») s))
     → (n : ℕ) → n ≡ replacedIn (septetsRead (take (addressSize (drop (f .address) s)) (drop (f .address) s)))
-    → (let m = statusReported (fieldsAt s f) in _≡_ {A = StatusReportRead} (record { outcome = Outcome.Done; message = record {
-      «tp_udhi» = eqb (f .first / 64 % 2) 1;
-      «tp_srq» = eqb (f .first / 32 % 2) 1;
-      «tp_lp» = eqb (f .first / 8 % 2) 1;
-      «tp_mms» = eqb (f .first / 4 % 2) 1;
-      «tp_mr» = f .mr;
-      «tp_recipient_address» = a;
-      «tp_service_centre_timestamp» = t;
-      «tp_discharge_time» = u;
-      «tp_status» = f .status;
-      «tp_parameter_indicator» = f .indicator;
-      «tp_pid» = f .pid;
-      «tp_dcs» = f .dcs;
-      «tp_user_data_length» = f .udl;
-      «tp_user_data» = d;
-    }; «replaced_escapes» = n })
+    → (let m = statusReported (fieldsAt s f) in _≡_ {A = StatusReportRead} (record {
+      outcome = Outcome.Done;
+      message = record {
+        «tp_udhi» = eqb (f .first / 64 % 2) 1;
+        «tp_srq» = eqb (f .first / 32 % 2) 1;
+        «tp_lp» = eqb (f .first / 8 % 2) 1;
+        «tp_mms» = eqb (f .first / 4 % 2) 1;
+        «tp_mr» = f .mr;
+        «tp_recipient_address» = a;
+        «tp_service_centre_timestamp» = t;
+        «tp_discharge_time» = u;
+        «tp_status» = f .status;
+        «tp_parameter_indicator» = f .indicator;
+        «tp_pid» = f .pid;
+        «tp_dcs» = f .dcs;
+        «tp_user_data_length» = f .udl;
+        «tp_user_data» = d;
+      };
+      «replaced_escapes» = n;
+    })
     (record { outcome = Outcome.Done; message = m; «replaced_escapes» = replacedInAll (textsRead s m) }))
 unfolding statusReported fieldsAt replacedInAll
 message-is s o f inside a ea t et u eu d ed n en =
