@@ -170,8 +170,10 @@ fn message(data: &[u8], f: SubmitFields) -> SubmitRead
     let ud = &data[start..end];
     let read = address::address_at(data, f.address);
     let destination = read.address;
+    let in_address = read.replaced;
     let mut octets = [0u8; 510];
     let put = put_readable(coding::user_data_coding(dcs), udl, h, ud, &mut octets);
+    let replaced_escapes = in_address + put.replaced;
     SubmitRead {
         outcome: Outcome::Done,
         message: SmsSubmit {
@@ -199,7 +201,7 @@ fn message(data: &[u8], f: SubmitFields) -> SubmitRead
             },
         },
         octets_read: end,
-        replaced_escapes: read.replaced + put.replaced,
+        replaced_escapes,
     }
 }
 

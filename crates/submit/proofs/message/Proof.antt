@@ -46,25 +46,25 @@ entry p = known (p .before) .before
 
 slice-aggregate-data-with : tie.Need-slice-aggregate-data-with
 slice-aggregate-data-with c =
-    let e = entry (c .before .before .before .before .before) in
+    let e = entry (c .before .before .before .before .before .before) in
     sym (length-take-le _ _ (data-room (now (e .args .«data»)) (e .args .f) (e .pre) .2))
 
 data-with-requires-2 : tie.Need-data-with-requires-2
 data-with-requires-2 c κs =
-    let e = entry (c .before .before .before .before .before) in
+    let e = entry (c .before .before .before .before .before .before) in
     simp length-take (omega (arith, data-room (now (e .args .«data»)) (e .args .f) (e .pre) .1))
 
-add-replaced : tie.Need-add-t20
-add-replaced c =
-    let p = c .before .before .before .before .before .before .before .before in
+add-replaced-escapes : tie.Need-add-replaced-escapes
+add-replaced-escapes c =
+    let p = c .before in
     let o = p .before in
     omega (arith, replaced-fits (string o) (fields o) (o .before .before .before .address-at .ensures .1) (λ i. known o .shared-slice-known .given i .fits) (o .before .user-data-coding .result) (few o) (p .put-readable .ensures .1))
 
 returns : tie.Need-returns
 returns c =
-    let raw = c .before .before .before .before in
+    let raw = c .before .before in
     let period = raw .before .before .before in
-    let p = period .before in
+    let p = period .before .before in
     let o = p .before in
     let address = o .before .before .before .address-at .ensures in
     let text = p .put-readable .ensures in
@@ -73,7 +73,7 @@ returns c =
     let stored = text-stored (o .before .user-data-coding .result) (fields o .udl) (fields o .header) (ud o) (omega (arith, few o)) whole counted size (text .0) in
     read-is (fields o .«data» + fields o .octets) (message-is (string o) (λ i. known o .shared-slice-known .given i .fits) (fields o) (entry p .pre)
     _ (address .0) _ (period .period-in .ensures) _ (raw .before .before .digits-in .ensures) _ (raw .before .enhanced-in .ensures)
-    _ (raw .data-with .ensures) _ (c .before .before .data-with2 .ensures) _ (stored ∙ ap (λ (x : UserDataCoding). textWith (readable x (fields o .udl) (fields o .header) (ud o))) coded))
+    _ (raw .data-with .ensures) _ (c .data-with2 .ensures) _ (stored ∙ ap (λ (x : UserDataCoding). textWith (readable x (fields o .udl) (fields o .header) (ud o))) coded))
     (replaced-is (string o) (fields o) (address .1) (entry p .pre) (text .1 ∙ ap (λ (x : UserDataCoding). replacedIn (dataSeptets x (fields o .udl) (fields o .header) (ud o))) coded))
 
 pub message-spec : {M : Type 1} → statement M
@@ -91,11 +91,11 @@ message-spec =
     (λ c κs. search needs)
     (λ c κs. tt)
     (λ c κs. let (whole, counted, size) = fits c in (whole, counted, size, refl))
+    add-replaced-escapes
     (λ c κs. search needs)
     (λ c κs. search needs)
     (λ c κs. search needs)
-    (λ c κs. let e = entry (c .before .before .before) in data-room (now (e .args .«data»)) (e .args .f) (e .pre) .1)
+    (λ c κs. let e = entry (c .before .before .before .before) in data-room (now (e .args .«data»)) (e .args .f) (e .pre) .1)
     slice-aggregate-data-with
     data-with-requires-2
-    add-replaced
     returns)
