@@ -1,6 +1,6 @@
 -- Addresses: a field that was read and its canonical octets are the same address, and what was written reads back.
 -- Assumes nothing.
-use Prim.Native.Nat.{ℕ, _+_, _≤_}
+use Prim.Native.Nat.{ℕ, _+_, _*_, _/_, _<_, _≤_}
 use mathlib.Core.Path.{_≡_, refl, sym, ap, _∙_}
 use mathlib.Core.Bool.{Bool, true, false}
 use mathlib.Core.List.{List, [], _++_}
@@ -8,7 +8,7 @@ use mathlib.Core.Option.{some}
 use mathlib.Core.Logic.{_↔_}
 use native.Mathlib.Omega.{arith}
 use borrow.Author.Tests.{le-ltb}
-use lib.Dec.{ltb}
+use lib.Dec.{eqb, ltb}
 use lib.ListN.{length, getD, take, drop}
 use lib.Seq.{getD-drop}
 use Rattle.octets.specs.Answers.{Said, gives, fine}
@@ -19,11 +19,15 @@ use Rattle.octets.specs.Lent.{refused, made}
 use Rattle.octets.specs.declared.Refusal.the-variants.{LengthTooLarge, AddressTooLong}
 use Rattle.octets.proofs.Checks.{made-unless}
 use Rattle.octets.proofs.Laws.{take-pad, cleared-pad}
+use Rattle.septets.specs.Septets.{septetsIn}
+use Rattle.septets.proofs.Inverse.{length-septets}
+use Rattle.gsm7.specs.Reading.{textOf, replacedIn}
+use Rattle.gsm7.proofs.DecodingLaws.{replaced-at-most}
 use Rattle.address.specs.Writing.{addressOctets, octetsOr, addressMaking, addressChecks}
 use Rattle.address.specs.Internal.{checkOf}
 use Rattle.address.proofs.Checks.{afterCheck, address-checked, octets-made, checks-passed}
 use Rattle.address.specs.declared.SMSAddress.{SMSAddress}
-use Rattle.address.specs.Address.{typeOfNumber, planOf, addressWith, textIn, addressIn, addressSize, canonicalAddress, textHeld, encoding, clearedAddress}
+use Rattle.address.specs.Address.{typeOfNumber, planOf, valueText, valueSeptets, addressWith, textIn, septetsRead, addressIn, addressSize, canonicalAddress, textHeld, encoding, clearedAddress}
 use Rattle.address.proofs.Shapes.{octets-read, octets-octets, read-fits}
 use Rattle.address.proofs.RecordWritten.{encoding-parts}
 
@@ -121,6 +125,31 @@ address-cleared f = rw (cleared-pad 290 (textIn f))
 pub address-held : (a : SMSAddress) → length (textHeld a) ≡ a .«address_length» → addressWith (a .ton) (a .npi) (textHeld a) ≡ clearedAddress a
 unfolding addressWith
 address-held a n = rw n
+
+-- ---- what is read as text
+
+-- an address of type 5 shows the text of the septets that are read as text, one of another type has none
+module _ (f : List ℕ) where
+  abbrev Shown : Bool → List ℕ → List ℕ → Type 0
+  Shown true text ss = text ≡ textOf ss
+  Shown false text ss = ss ≡ []
+
+  pub text-shown : Shown (eqb (tonIn f) 5) (textHeld (addressIn f)) (septetsRead f)
+  unfolding addressIn addressWith textIn valueText septetsRead valueSeptets
+  text-shown = by-type (eqb (tonIn f) 5) refl
+    where
+      by-type : (t : Bool) → eqb (tonIn f) 5 ≡ t → Shown t (textHeld (addressIn f)) (septetsRead f)
+      by-type true e = take-pad 290 (textIn f) ∙ rw e
+      by-type false e = rw e
+
+  -- at most 145 septets, so no more are replaced
+  pub few-replaced : getD f 0 0 < 256 → replacedIn (septetsRead f) ≤ 145
+  unfolding septetsRead valueSeptets replacedIn
+  few-replaced small = by-type (eqb (tonIn f) 5) refl
+    where
+      by-type : (t : Bool) → eqb (tonIn f) 5 ≡ t → replacedIn (if t then septetsIn (drop 2 f) 0 (getD f 0 0 * 4 / 7) else []) ≤ 145
+      by-type true e = omega (arith, replaced-at-most (septetsIn (drop 2 f) 0 (getD f 0 0 * 4 / 7)), length-septets (drop 2 f) 0 (getD f 0 0 * 4 / 7))
+      by-type false e = omega arith
 
 -- ---- what was written
 

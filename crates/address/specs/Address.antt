@@ -12,9 +12,9 @@ use Rattle.octets.specs.Lent.{Making, refused}
 use Rattle.octets.specs.SemiOctets.{semiOctets, inPairs}
 use Rattle.octets.specs.Texts.{codes}
 use Rattle.octets.specs.declared.Refusal.the-variants.{LengthTooLarge}
-use Rattle.septets.specs.Septets.{septetsIn}
-use Rattle.gsm7.specs.Alphabet.{indexOf}
-use Rattle.gsm7.specs.Reading.{textOf}
+use Rattle.septets.specs.Septets.{numberOf, lowestDigits, septetsIn}
+use Rattle.gsm7.specs.Alphabet.{indexOf, rowWith, replaced}
+use Rattle.gsm7.specs.Reading.{textOf, replacedIn, replacedAfter}
 use Rattle.address.specs.Writing.{digitCharacters, digitValue, isDigit, addressOctets, octetsOr, addressMaking}
 use Rattle.address.specs.declared.SMSAddress.{SMSAddress}
 
@@ -40,6 +40,10 @@ planOf octet = octet % 16
 unfoldable pub valueText : ℕ → ℕ → List ℕ → List ℕ
 valueText ton l value = if eqb ton 5 then textOf (septetsIn value 0 (l * 4 / 7)) else map digitCharacter (withoutF (take l (semiOctets value)))
 
+-- the septets of such a value that are read as text: digits are none
+unfoldable pub valueSeptets : ℕ → ℕ → List ℕ → List ℕ
+valueSeptets ton l value = if eqb ton 5 then septetsIn value 0 (l * 4 / 7) else []
+
 -- an address in its record
 unfoldable pub addressWith : ℕ → ℕ → List ℕ → SMSAddress
 addressWith ton npi text = record { ton = ton; npi = npi; address = pad 290 text; «address_length» = length text }
@@ -47,6 +51,10 @@ addressWith ton npi text = record { ton = ton; npi = npi; address = pad 290 text
 -- the text of an address field f: L, type, value
 unfoldable pub textIn : List ℕ → List ℕ
 textIn f = valueText (typeOfNumber (getD f 1 0)) (getD f 0 0) (drop 2 f)
+
+-- its septets that are read as text
+unfoldable pub septetsRead : List ℕ → List ℕ
+septetsRead f = valueSeptets (typeOfNumber (getD f 1 0)) (getD f 0 0) (drop 2 f)
 
 -- the address that a field is read as
 unfoldable pub addressIn : List ℕ → SMSAddress
@@ -83,3 +91,8 @@ encoding a = if ltb 290 (a .«address_length») then refused LengthTooLarge else
 known-number : (textIn (0x03 ∷ 0x91 ∷ 0xf1 ∷ 0x02 ∷ []) ≡ codes "12") × (canonicalAddress (0x03 ∷ 0x91 ∷ 0xf1 ∷ 0x02 ∷ []) ≡ 0x02 ∷ 0x91 ∷ 0x21 ∷ [])
 unfolding codes digitCharacters digitCharacter digitValue isDigit withoutF valueText textIn addressOctets canonicalAddress each indexOf semiOctets inPairs
 known-number = (refl, refl)
+
+-- a sender in septets: "A" and an escape that is the last one; a number of the same value has none
+known-septets : (septetsRead (0x04 ∷ 0xd0 ∷ 0xc1 ∷ 0x0d ∷ []) ≡ 0x41 ∷ 0x1b ∷ []) × (replacedIn (septetsRead (0x04 ∷ 0xd0 ∷ 0xc1 ∷ 0x0d ∷ [])) ≡ 1) × (septetsRead (0x04 ∷ 0x91 ∷ 0xc1 ∷ 0x0d ∷ []) ≡ [])
+unfolding valueSeptets septetsRead numberOf lowestDigits septetsIn replacedIn replacedAfter replaced rowWith
+known-septets = (refl, refl, refl)

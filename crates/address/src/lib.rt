@@ -8,9 +8,11 @@ ghost use lib.ListN.{length, getD, take, drop};
 ghost use Rattle.octets.specs.Answers.{refuses, spanSays, writtenSays};
 ghost use Rattle.octets.specs.Lent.{Wrote, lend};
 ghost use Rattle.octets.specs.SemiOctets.{semiOctets};
-ghost use Rattle.address.specs.Address.{digitCharacter, withoutF, valueText, addressWith, addressIn, addressSize, encoding};
+ghost use Rattle.gsm7.specs.Reading.{replacedIn};
+ghost use Rattle.address.specs.Address.{digitCharacter, withoutF, valueText, valueSeptets, addressWith, addressIn, septetsRead, addressSize, encoding};
 ghost use Rattle.address.specs.Internal.{addressSpan};
 use crate::writing::TYPE_OF_NUMBER_ALPHANUMERIC;
+use gsm7::decode::TextPut;
 use octets::Octet;
 use octets::Place;
 use octets::Refusal;
@@ -23,6 +25,12 @@ pub struct SMSAddress {
     pub npi: u8,
     pub address: [u8; 290],
     pub address_length: usize,
+}
+
+// An address that was read, and the number of escapes in its text that led to no character of the extension table.
+pub struct AddressRead {
+    pub address: SMSAddress,
+    pub replaced: usize,
 }
 
 // The character of a semi-octet but F.
@@ -66,15 +74,18 @@ fn digits_text(value: &[u8], count: usize, text: &mut [u8; 290]) -> usize
     n
 }
 
-// Stores the text of a value of so many semi-octets; its number of octets.
-fn value_text(ton: u8, count: usize, value: &[u8], text: &mut [u8; 290]) -> usize
+// Stores the text of a value of so many semi-octets.
+fn value_text(ton: u8, count: usize, value: &[u8], text: &mut [u8; 290]) -> TextPut
     requires { ⌜ (count ≤ 255) × ((count + 1) / 2 ≤ length (now value)) × (length (now text) ≡ 290) ⌝ }
-    ensures { λ r. ⌜ Wrote 0 (valueText ton count (now (value .entry))) (now (text .entry)) r (now (text .exit)) ⌝ }
+    ensures { λ r. ⌜ Wrote 0 (valueText ton count (now (value .entry))) (now (text .entry)) (r .end) (now (text .exit)) × (r .replaced ≡ replacedIn (valueSeptets ton count (now (value .entry)))) ⌝ }
 {
     if ton == TYPE_OF_NUMBER_ALPHANUMERIC {
         return gsm7::decode::unpack_septets(value, 0, count * 4 / 7, text, 0);
     }
-    digits_text(value, count, text)
+    TextPut {
+        end: digits_text(value, count, text),
+        replaced: 0,
+    }
 }
 
 // No address.
@@ -100,9 +111,9 @@ pub fn address_span(data: &[u8], place: Place) -> Span
 }
 
 // The address field that starts at `at`.
-pub fn address_at(data: &[u8], at: usize) -> SMSAddress
+pub fn address_at(data: &[u8], at: usize) -> AddressRead
     requires { ⌜ at + addressSize (drop at (now «data»)) ≤ length (now «data») ⌝ }
-    ensures { λ r. ⌜ r ≡ addressIn (take (addressSize (drop at (now («data» .entry)))) (drop at (now («data» .entry)))) ⌝ }
+    ensures { λ r. ⌜ (r .address ≡ addressIn (take (addressSize (drop at (now («data» .entry)))) (drop at (now («data» .entry))))) × (r .replaced ≡ replacedIn (septetsRead (take (addressSize (drop at (now («data» .entry)))) (drop at (now («data» .entry)))))) ⌝ }
 {
     let count = data[at] as usize;
     let type_of_address = data[at + 1];
@@ -110,12 +121,15 @@ pub fn address_at(data: &[u8], at: usize) -> SMSAddress
     let start = at + 2;
     let end = start + (count + 1) / 2;
     let mut address = [0u8; 290];
-    let address_length = value_text(ton, count, &data[start..end], &mut address);
-    SMSAddress {
-        ton,
-        npi: type_of_address % 16,
-        address,
-        address_length,
+    let put = value_text(ton, count, &data[start..end], &mut address);
+    AddressRead {
+        address: SMSAddress {
+            ton,
+            npi: type_of_address % 16,
+            address,
+            address_length: put.end,
+        },
+        replaced: put.replaced,
     }
 }
 

@@ -68,8 +68,9 @@ fn unpack(octets: &[u8], septets: usize, show: bool, out: &mut Output, at: usize
     let read = tpdu::unpack_gsm7(octets, septets);
     let outcome = read.outcome;
     let text = read.text;
-    let next = fields::octets(out, at, b"ok text=", between(&text, 0, read.text_length));
-    unless_refused(out, at, next, outcome, show)
+    let p1 = fields::octets(out, at, b"ok text=", between(&text, 0, read.text_length));
+    let p2 = fields::replaced(out, p1, read.replaced_escapes);
+    unless_refused(out, at, p2, outcome, show)
 }
 
 fn unpack_header(octets: &[u8], septets: usize, show: bool, out: &mut Output, at: usize) -> usize {
@@ -84,7 +85,8 @@ fn unpack_header(octets: &[u8], septets: usize, show: bool, out: &mut Output, at
         between(&header, 0, read.header_length),
     );
     let p2 = fields::octets(out, p1, b" text=", between(&text, 0, read.text_length));
-    unless_refused(out, at, p2, outcome, show)
+    let p3 = fields::replaced(out, p2, read.replaced_escapes);
+    unless_refused(out, at, p3, outcome, show)
 }
 
 // A number after its name, and octets that were written.

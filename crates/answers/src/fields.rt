@@ -39,6 +39,12 @@ pub fn absent(out: &mut Output, at: usize, name: &[u8]) -> usize {
     output::put(out, next, b"-")
 }
 
+// How many escapes were replaced: the last field of an answer with text.
+pub fn replaced(out: &mut Output, at: usize, n: usize) -> usize {
+    let next = output::put(out, at, b" replaced=");
+    output::put_decimal(out, next, n as u64)
+}
+
 // An octet in hexadecimal.
 pub fn octet(out: &mut Output, at: usize, name: &[u8], octet: u8) -> usize {
     let next = output::put(out, at, name);

@@ -322,52 +322,68 @@ fn status_report(out: &mut Output, at: usize, refusal: u8, m: SmsStatusReport) -
 
 // ---- the readers
 
+// After the record how many escapes were replaced; nothing after a refusal.
+fn replaced(out: &mut Output, at: usize, refusal: u8, n: usize) -> usize {
+    if refusal != 0 {
+        return at;
+    }
+    fields::replaced(out, at, n)
+}
+
 fn answer_deliver(octets: &[u8], out: &mut Output, at: usize) -> usize {
     let read = SmsDeliver::decode(octets);
     let outcome = read.outcome;
-    deliver(out, at, refusal_number(outcome), read.message)
+    let refusal = refusal_number(outcome);
+    let next = deliver(out, at, refusal, read.message);
+    replaced(out, next, refusal, read.replaced_escapes)
 }
 
 fn answer_submit(octets: &[u8], out: &mut Output, at: usize) -> usize {
     let read = tpdu::decode_sms_submit_tpdu(octets);
     let outcome = read.outcome;
-    submit(
-        out,
-        at,
-        refusal_number(outcome),
-        read.octets_read,
-        read.message,
-    )
+    let refusal = refusal_number(outcome);
+    let next = submit(out, at, refusal, read.octets_read, read.message);
+    replaced(out, next, refusal, read.replaced_escapes)
 }
 
 fn answer_submit_report_ack(octets: &[u8], out: &mut Output, at: usize) -> usize {
     let read = SmsSubmitReport::decode_for_rp_ack(octets);
     let outcome = read.outcome;
-    submit_report(out, at, refusal_number(outcome), read.message)
+    let refusal = refusal_number(outcome);
+    let next = submit_report(out, at, refusal, read.message);
+    replaced(out, next, refusal, read.replaced_escapes)
 }
 
 fn answer_submit_report_error(octets: &[u8], out: &mut Output, at: usize) -> usize {
     let read = SmsSubmitReport::decode_for_rp_error(octets);
     let outcome = read.outcome;
-    submit_report(out, at, refusal_number(outcome), read.message)
+    let refusal = refusal_number(outcome);
+    let next = submit_report(out, at, refusal, read.message);
+    replaced(out, next, refusal, read.replaced_escapes)
 }
 
 fn answer_deliver_report_ack(octets: &[u8], out: &mut Output, at: usize) -> usize {
     let read = SmsDeliverReport::decode_for_rp_ack(octets);
     let outcome = read.outcome;
-    deliver_report(out, at, refusal_number(outcome), read.message)
+    let refusal = refusal_number(outcome);
+    let next = deliver_report(out, at, refusal, read.message);
+    replaced(out, next, refusal, read.replaced_escapes)
 }
 
 fn answer_deliver_report_error(octets: &[u8], out: &mut Output, at: usize) -> usize {
     let read = SmsDeliverReport::decode_for_rp_error(octets);
     let outcome = read.outcome;
-    deliver_report(out, at, refusal_number(outcome), read.message)
+    let refusal = refusal_number(outcome);
+    let next = deliver_report(out, at, refusal, read.message);
+    replaced(out, next, refusal, read.replaced_escapes)
 }
 
 fn answer_status_report(octets: &[u8], out: &mut Output, at: usize) -> usize {
     let read = SmsStatusReport::decode(octets);
     let outcome = read.outcome;
-    status_report(out, at, refusal_number(outcome), read.message)
+    let refusal = refusal_number(outcome);
+    let next = status_report(out, at, refusal, read.message);
+    replaced(out, next, refusal, read.replaced_escapes)
 }
 
 // The answer of a reader: the fields of its record, or its refusal.

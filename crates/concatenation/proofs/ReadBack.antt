@@ -33,12 +33,12 @@ use Rattle.concatenation.proofs.Laws.{Case, uncoded, one, many, parts, 
 -- ---- one message at a time
 
 -- with no header it reads as the text
-one-reads : (text ss : List ℕ) → septetsOf text ≡ some ss → length ss ≤ 160 → read (message [] ss) ≡ textGiven text
+one-reads : (text ss : List ℕ) → septetsOf text ≡ some ss → length ss ≤ 160 → read (message [] ss) ≡ textGiven text 0
 one-reads text ss e h = plain-reads text (octetsAfter [] ss) fine _ (0 + length ss) (packing-done [] text ss e (omega arith))
 
 -- a part reads as its header and its text
 part-reads : (reference total number : ℕ) (p : List ℕ) → septetsOf (textOf p) ≡ some p → length p ≤ 153
-    → readWithHeader (message (partHeader reference total number) p) ≡ headerGiven (partHeader reference total number) (textOf p)
+    → readWithHeader (message (partHeader reference total number) p) ≡ headerGiven (partHeader reference total number) (textOf p) 0
 unfolding packingWithHeader
 part-reads reference total number p e h =
     let header = partHeader reference total number in

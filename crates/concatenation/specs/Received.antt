@@ -27,7 +27,7 @@ pub record One (text ss octets : List ℕ) (messages : ℕ) : Type 0 where
   pub few : length ss ≤ 160
   pub one : messages ≡ 1
   pub is : octets ≡ message [] ss
-  pub reads : read octets ≡ textGiven text
+  pub reads : read octets ≡ textGiven text 0
 
 -- more: the parts of the cutting that is taken, each at its place, with its number from 1 to the total
 pub record InParts (reference : ℕ) (text ss octets : List ℕ) (total : ℕ) : Type 0 where
@@ -37,7 +37,7 @@ pub record InParts (reference : ℕ) (text ss octets : List ℕ) (total : ℕ) :
   pub number : (length parts ≡ total) × (total ≤ 255)
   pub is : (k : ℕ) → 1 ≤ k → k ≤ total → messageAt octets k ≡ message (partHeader reference total k) (getD parts (k - 1) [])
   -- each reads as its header and its text, none of it replaced: the septets of that text are the part's own
-  pub reads : (k : ℕ) → 1 ≤ k → k ≤ total → readWithHeader (messageAt octets k) ≡ headerGiven (partHeader reference total k) (textOf (getD parts (k - 1) []))
+  pub reads : (k : ℕ) → 1 ≤ k → k ≤ total → readWithHeader (messageAt octets k) ≡ headerGiven (partHeader reference total k) (textOf (getD parts (k - 1) [])) 0
   pub own : (k : ℕ) → 1 ≤ k → k ≤ total → septetsOf (textOf (getD parts (k - 1) [])) ≡ some (getD parts (k - 1) [])
   -- and the texts joined are the text
   pub whole : joined (map textOf parts) ≡ text

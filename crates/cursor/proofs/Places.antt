@@ -9,8 +9,7 @@ use borrow.Author.Tests.{leb-true, leb-false, le-leb, lt-leb}
 use lib.Dec.{leb}
 use lib.ListN.{length, drop, drop-of-length-le}
 use Rattle.octets.proofs.Choice.{chosen}
-use Rattle.layout.specs.Layout.{Layout, read}
-use Rattle.cursor.specs.From.{from, behindPlace}
+use Rattle.cursor.specs.From.{behindPlace}
 
 module _ (s : List ℕ) (place : ℕ) where
   pub place-inside : (count : ℕ) → place + count ≤ length s → place + count ≡ behindPlace s place count
@@ -34,5 +33,5 @@ module _ (s : List ℕ) (place : ℕ) where
     pub left : drop at s ≡ drop place s
     left = ⊎-elim (λ w. rw (w .1)) (λ w. drop-of-length-le s {i = at} (omega (arith, w .1)) ∙ sym (drop-of-length-le s {i = place} (omega (arith, w .0)))) which
 
-    pub from-there : {R : Type 0} (layout : Layout R) → from layout s at ≡ from layout s place
-    from-there layout = ap (read layout) left
+    pub from-there : {A : Type 0} (found : List ℕ → A) → found (drop at s) ≡ found (drop place s)
+    from-there found = ap found left

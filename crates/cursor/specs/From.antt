@@ -7,7 +7,7 @@ use lib.ListN.{length, getD, drop}
 use Rattle.octets.specs.Answers.{Said, gives, refuses}
 use Rattle.octets.specs.Choice.{if_then_else_}
 use Rattle.octets.specs.declared.Refusal.the-variants.{OctetsEnd}
-use Rattle.layout.specs.Layout.{Layout, Reached, read, answer}
+use Rattle.layout.specs.Layout.{Layout, Reached, read, answer, replacedOf}
 use Rattle.cursor.specs.declared.from_place.OctetRead.{OctetRead}
 use Rattle.submit.specs.Submit as Submit
 use Rattle.submit.specs.declared.SmsSubmit.{SmsSubmit}
@@ -37,26 +37,32 @@ octetReadSays (OctetRead.Refused why) = refuses why
 unfoldable pub octetFrom : List ℕ → ℕ → Said (ℕ × ℕ)
 octetFrom s place = if ltb place (length s) then gives (getD s place 0, place + 1) else refuses OctetsEnd
 
-abbrev pub submitFrom : List ℕ → ℕ → (Said Unit × SmsSubmit) × ℕ
-submitFrom s place = (answer Submit.blank (from Submit.submit s place), Submit.octetsTaken (from Submit.submit s place))
+abbrev pub submitFrom : List ℕ → ℕ → (Said Unit × SmsSubmit) × ℕ × ℕ
+submitFrom s place =
+    let found = from Submit.submit s place in
+    (answer Submit.blank found, Submit.octetsTaken found, replacedOf (Submit.textsRead (drop place s)) found)
 
-abbrev pub deliverFrom : List ℕ → ℕ → Said Unit × SmsDeliver
-deliverFrom s place = answer Deliver.blank (from Deliver.deliver s place)
+-- of the other messages: outcome and record, and beside them how many escapes were replaced
+abbrev pub answerFrom : {R : Type 0} → R → (List ℕ → R → List (List ℕ)) → Layout R → List ℕ → ℕ → (Said Unit × R) × ℕ
+answerFrom blank texts layout s place = (answer blank (from layout s place), replacedOf (texts (drop place s)) (from layout s place))
 
-abbrev pub submitReportAckFrom : List ℕ → ℕ → Said Unit × SmsSubmitReport
-submitReportAckFrom s place = answer SubmitReport.blank (from SubmitReport.ack s place)
+abbrev pub deliverFrom : List ℕ → ℕ → (Said Unit × SmsDeliver) × ℕ
+deliverFrom = answerFrom Deliver.blank Deliver.textsRead Deliver.deliver
 
-abbrev pub submitReportErrorFrom : List ℕ → ℕ → Said Unit × SmsSubmitReport
-submitReportErrorFrom s place = answer SubmitReport.blank (from SubmitReport.error s place)
+abbrev pub submitReportAckFrom : List ℕ → ℕ → (Said Unit × SmsSubmitReport) × ℕ
+submitReportAckFrom = answerFrom SubmitReport.blank SubmitReport.textsRead SubmitReport.ack
 
-abbrev pub deliverReportAckFrom : List ℕ → ℕ → Said Unit × SmsDeliverReport
-deliverReportAckFrom s place = answer DeliverReport.blank (from DeliverReport.ack s place)
+abbrev pub submitReportErrorFrom : List ℕ → ℕ → (Said Unit × SmsSubmitReport) × ℕ
+submitReportErrorFrom = answerFrom SubmitReport.blank SubmitReport.textsRead SubmitReport.error
 
-abbrev pub deliverReportErrorFrom : List ℕ → ℕ → Said Unit × SmsDeliverReport
-deliverReportErrorFrom s place = answer DeliverReport.blank (from DeliverReport.error s place)
+abbrev pub deliverReportAckFrom : List ℕ → ℕ → (Said Unit × SmsDeliverReport) × ℕ
+deliverReportAckFrom = answerFrom DeliverReport.blank DeliverReport.textsRead DeliverReport.ack
 
-abbrev pub statusReportFrom : List ℕ → ℕ → Said Unit × SmsStatusReport
-statusReportFrom s place = answer StatusReport.blank (from StatusReport.statusReport s place)
+abbrev pub deliverReportErrorFrom : List ℕ → ℕ → (Said Unit × SmsDeliverReport) × ℕ
+deliverReportErrorFrom = answerFrom DeliverReport.blank DeliverReport.textsRead DeliverReport.error
+
+abbrev pub statusReportFrom : List ℕ → ℕ → (Said Unit × SmsStatusReport) × ℕ
+statusReportFrom = answerFrom StatusReport.blank StatusReport.textsRead StatusReport.statusReport
 
 -- three octets: one further, to the end, and past it; the last octet, and none after it
 known-places : (behindPlace (0x11 ∷ 0x22 ∷ 0x33 ∷ []) 1 1 ≡ 2) × (behindPlace (0x11 ∷ 0x22 ∷ 0x33 ∷ []) 1 2 ≡ 3) × (behindPlace (0x11 ∷ 0x22 ∷ 0x33 ∷ []) 1 3 ≡ 3)

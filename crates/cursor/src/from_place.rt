@@ -1,8 +1,11 @@
 // Messages read from a place on, in octets where they lie one after the other.
 ghost use mathlib.Core.Path.{_≡_};
 ghost use lib.ListN.{drop};
-ghost use Rattle.octets.specs.Answers.{outcomeSays};
 ghost use Rattle.submit.specs.Submit.{submitReadSays};
+ghost use Rattle.deliver.specs.Deliver.{deliverReadSays};
+ghost use Rattle.submit_report.specs.SubmitReport.{submitReportReadSays};
+ghost use Rattle.deliver_report.specs.DeliverReport.{deliverReportReadSays};
+ghost use Rattle.status_report.specs.StatusReport.{statusReportReadSays};
 ghost use Rattle.cursor.specs.From.{behindPlace, octetReadSays, octetFrom, submitFrom, deliverFrom, submitReportAckFrom, submitReportErrorFrom, deliverReportAckFrom, deliverReportErrorFrom, statusReportFrom};
 use deliver::DeliverRead;
 use deliver::SmsDeliver;
@@ -61,37 +64,37 @@ pub fn submit_at(octets: &[u8], place: usize) -> SubmitRead
 }
 
 pub fn deliver_at(octets: &[u8], place: usize) -> DeliverRead
-    ensures { λ r. ⌜ (outcomeSays (r .outcome), r .message) ≡ deliverFrom (now (octets .entry)) place ⌝ }
+    ensures { λ r. ⌜ deliverReadSays r ≡ deliverFrom (now (octets .entry)) place ⌝ }
 {
     SmsDeliver::decode(rest(octets, place))
 }
 
 pub fn submit_report_ack_at(octets: &[u8], place: usize) -> SubmitReportRead
-    ensures { λ r. ⌜ (outcomeSays (r .outcome), r .message) ≡ submitReportAckFrom (now (octets .entry)) place ⌝ }
+    ensures { λ r. ⌜ submitReportReadSays r ≡ submitReportAckFrom (now (octets .entry)) place ⌝ }
 {
     SmsSubmitReport::decode_for_rp_ack(rest(octets, place))
 }
 
 pub fn submit_report_error_at(octets: &[u8], place: usize) -> SubmitReportRead
-    ensures { λ r. ⌜ (outcomeSays (r .outcome), r .message) ≡ submitReportErrorFrom (now (octets .entry)) place ⌝ }
+    ensures { λ r. ⌜ submitReportReadSays r ≡ submitReportErrorFrom (now (octets .entry)) place ⌝ }
 {
     SmsSubmitReport::decode_for_rp_error(rest(octets, place))
 }
 
 pub fn deliver_report_ack_at(octets: &[u8], place: usize) -> DeliverReportRead
-    ensures { λ r. ⌜ (outcomeSays (r .outcome), r .message) ≡ deliverReportAckFrom (now (octets .entry)) place ⌝ }
+    ensures { λ r. ⌜ deliverReportReadSays r ≡ deliverReportAckFrom (now (octets .entry)) place ⌝ }
 {
     SmsDeliverReport::decode_for_rp_ack(rest(octets, place))
 }
 
 pub fn deliver_report_error_at(octets: &[u8], place: usize) -> DeliverReportRead
-    ensures { λ r. ⌜ (outcomeSays (r .outcome), r .message) ≡ deliverReportErrorFrom (now (octets .entry)) place ⌝ }
+    ensures { λ r. ⌜ deliverReportReadSays r ≡ deliverReportErrorFrom (now (octets .entry)) place ⌝ }
 {
     SmsDeliverReport::decode_for_rp_error(rest(octets, place))
 }
 
 pub fn status_report_at(octets: &[u8], place: usize) -> StatusReportRead
-    ensures { λ r. ⌜ (outcomeSays (r .outcome), r .message) ≡ statusReportFrom (now (octets .entry)) place ⌝ }
+    ensures { λ r. ⌜ statusReportReadSays r ≡ statusReportFrom (now (octets .entry)) place ⌝ }
 {
     SmsStatusReport::decode(rest(octets, place))
 }

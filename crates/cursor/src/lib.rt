@@ -2,8 +2,11 @@
 pub mod from_place;
 
 ghost use mathlib.Core.Path.{_≡_};
-ghost use Rattle.octets.specs.Answers.{outcomeSays};
 ghost use Rattle.submit.specs.Submit.{submitReadSays};
+ghost use Rattle.deliver.specs.Deliver.{deliverReadSays};
+ghost use Rattle.submit_report.specs.SubmitReport.{submitReportReadSays};
+ghost use Rattle.deliver_report.specs.DeliverReport.{deliverReportReadSays};
+ghost use Rattle.status_report.specs.StatusReport.{statusReportReadSays};
 ghost use Rattle.cursor.specs.From.{behindPlace, octetReadSays, octetFrom, submitFrom, deliverFrom, submitReportAckFrom, submitReportErrorFrom, deliverReportAckFrom, deliverReportErrorFrom, statusReportFrom};
 use crate::from_place::OctetRead;
 use deliver::DeliverRead;
@@ -57,37 +60,37 @@ impl<'a> Cursor<'a> {
     }
 
     pub fn decode_deliver(self) -> DeliverRead
-        ensures { λ r. ⌜ (outcomeSays (r .outcome), r .message) ≡ deliverFrom (now (self .entry .octets)) (self .entry .place) ⌝ }
+        ensures { λ r. ⌜ deliverReadSays r ≡ deliverFrom (now (self .entry .octets)) (self .entry .place) ⌝ }
     {
         from_place::deliver_at(self.octets, self.place)
     }
 
     pub fn decode_submit_report_ack(self) -> SubmitReportRead
-        ensures { λ r. ⌜ (outcomeSays (r .outcome), r .message) ≡ submitReportAckFrom (now (self .entry .octets)) (self .entry .place) ⌝ }
+        ensures { λ r. ⌜ submitReportReadSays r ≡ submitReportAckFrom (now (self .entry .octets)) (self .entry .place) ⌝ }
     {
         from_place::submit_report_ack_at(self.octets, self.place)
     }
 
     pub fn decode_submit_report_error(self) -> SubmitReportRead
-        ensures { λ r. ⌜ (outcomeSays (r .outcome), r .message) ≡ submitReportErrorFrom (now (self .entry .octets)) (self .entry .place) ⌝ }
+        ensures { λ r. ⌜ submitReportReadSays r ≡ submitReportErrorFrom (now (self .entry .octets)) (self .entry .place) ⌝ }
     {
         from_place::submit_report_error_at(self.octets, self.place)
     }
 
     pub fn decode_deliver_report_ack(self) -> DeliverReportRead
-        ensures { λ r. ⌜ (outcomeSays (r .outcome), r .message) ≡ deliverReportAckFrom (now (self .entry .octets)) (self .entry .place) ⌝ }
+        ensures { λ r. ⌜ deliverReportReadSays r ≡ deliverReportAckFrom (now (self .entry .octets)) (self .entry .place) ⌝ }
     {
         from_place::deliver_report_ack_at(self.octets, self.place)
     }
 
     pub fn decode_deliver_report_error(self) -> DeliverReportRead
-        ensures { λ r. ⌜ (outcomeSays (r .outcome), r .message) ≡ deliverReportErrorFrom (now (self .entry .octets)) (self .entry .place) ⌝ }
+        ensures { λ r. ⌜ deliverReportReadSays r ≡ deliverReportErrorFrom (now (self .entry .octets)) (self .entry .place) ⌝ }
     {
         from_place::deliver_report_error_at(self.octets, self.place)
     }
 
     pub fn decode_status_report(self) -> StatusReportRead
-        ensures { λ r. ⌜ (outcomeSays (r .outcome), r .message) ≡ statusReportFrom (now (self .entry .octets)) (self .entry .place) ⌝ }
+        ensures { λ r. ⌜ statusReportReadSays r ≡ statusReportFrom (now (self .entry .octets)) (self .entry .place) ⌝ }
     {
         from_place::status_report_at(self.octets, self.place)
     }

@@ -16,7 +16,7 @@ use Rattle.coding.proofs.Laws.{data-at-most}
 use Rattle.address.specs.Address.{addressSize, canonicalAddress}
 use Rattle.address.specs.Internal.{addressSpan}
 use Rattle.layout.specs.Layout.{Format, any, upTo, address, userData, field, done, cut, kept, messageType, Reached, reached, halted, readFrom}
-use Rattle.layout.proofs.Steps.{message-goes-on, message-differs, message-ends, octet-goes-on, octet-ends, span-goes-on, span-ends, address-goes-on, address-ends, done-reached, address-inside}
+use Rattle.layout.proofs.Steps.{message-goes-on, message-differs, message-ends, octet-goes-on, octet-ends, span-goes-on, span-ends, address-goes-on, address-ends, done-reached, address-inside, address-starts}
 use Rattle.deliver.specs.declared.reading.DeliverFields.{DeliverFields}
 use Rattle.deliver.specs.declared.reading.DeliverFound.{DeliverFound}
 use Rattle.deliver.specs.Layout.{Fields, bits, fields}
@@ -95,9 +95,10 @@ module _ (s : List ℕ) where
       no-address d = sym (message-goes-on s start e 0 bits refl afterFirst m ∙ address-ends s p d (afterAddress (kept bits b)))
 
       pub to-address : {oa : ℕ} {q : Place} → addressSpan s p ≡ gives (oa, q)
-          → (oa + addressSize (drop oa s) ≤ length s) × (readFrom (afterAddress (kept bits b) (canonicalAddress (cut address (drop oa s)))) s (q .at) ≡ readFrom fields s 0)
+          → (oa + addressSize (drop oa s) ≤ length s) × (readFrom (afterAddress (kept bits b) (canonicalAddress (cut address (drop oa s)))) s (q .at) ≡ readFrom fields s 0) × (oa ≡ 1)
       unfolding fields afterAddress afterCoding
       to-address d = (
         address-inside s p d (omega (arith, octet-read s start e)) .0,
         sym (message-goes-on s start e 0 bits refl afterFirst m ∙ address-goes-on s p d (afterAddress (kept bits b))),
+        omega (arith, octet-read s start e, address-starts s p d),
       )

@@ -3,8 +3,8 @@ use Prim.Native.Nat.{ℕ, _+_}
 use mathlib.Core.Bool.{Bool, false, _||_}
 use mathlib.Core.List.{List, [], _∷_}
 use lib.Dec.{ltb}
-use lib.ListN.{length}
-use Rattle.octets.specs.Answers.{Said}
+use lib.ListN.{length, drop}
+use Rattle.octets.specs.Answers.{Said, outcomeSays}
 use Rattle.octets.specs.Choice.{if_then_else_, flag}
 use Rattle.octets.specs.Lent.{Making, refused}
 use Rattle.octets.specs.declared.Refusal.the-variants.{LengthTooLarge}
@@ -12,11 +12,12 @@ use Rattle.coding.specs.Coding.{dataWith, dataOf, clearedData, TypedData}
 use Rattle.coding.specs.declared.UserData.{UserData}
 use Rattle.time.specs.Time.{timeIn, digitsOf, clearedTime, capitalTime, TypedTime}
 use Rattle.time.specs.declared.Time.{Time}
-use Rattle.address.specs.Address.{addressIn, addressWith, textHeld, clearedAddress, TypedAddress}
+use Rattle.address.specs.Address.{addressIn, addressWith, septetsRead, textHeld, clearedAddress, TypedAddress}
 use Rattle.address.specs.declared.SMSAddress.{SMSAddress}
-use Rattle.layout.specs.Layout.{Format, Layout, plain, done, _then_, isSet, messageType}
+use Rattle.layout.specs.Layout.{Format, Layout, plain, done, _then_, address as addressKind, isSet, messageType, cut}
 use Rattle.deliver.specs.Layout.{Fields, fields}
 use Rattle.deliver.specs.Writing.{making}
+use Rattle.deliver.specs.declared.DeliverRead.{DeliverRead}
 use Rattle.deliver.specs.declared.SmsDeliver.{SmsDeliver}
 
 -- ---- reading
@@ -61,6 +62,14 @@ blank = record {
   «tp_user_data_length» = 0;
   «tp_user_data» = dataWith [];
 }
+
+-- what an answer of the reader says: its outcome and the record, and beside them how many escapes were replaced
+abbrev pub deliverReadSays : DeliverRead → (Said Unit × SmsDeliver) × ℕ
+deliverReadSays r = ((outcomeSays (r .outcome), r .message), r .«replaced_escapes»)
+
+-- what is read as text in a string: the originating address, after the first octet, where its type is 5. User data stay octets
+abbrev pub textsRead : List ℕ → SmsDeliver → List (List ℕ)
+textsRead s r = septetsRead (cut addressKind (drop 1 s)) ∷ []
 
 -- ---- writing
 

@@ -1,5 +1,6 @@
 -- What only functions of this crate say to each other: the rest of the layout from a field on, and fields by their places in a string.
 use Prim.Native.Nat.{ℕ, _+_, _≤_}
+use mathlib.Core.Path.{_≡_}
 use mathlib.Core.List.{List}
 use lib.ListN.{length, take, drop}
 use Rattle.coding.specs.Coding.{codingOf, dataOctets}
@@ -36,8 +37,8 @@ abbrev pub foundSays : List ℕ → DeliverFound → Reached Fields
 foundSays s (DeliverFound.Whole p) = reached (fieldsAt s p) (p .«data» + p .octets)
 foundSays s (DeliverFound.Refused why) = halted why
 
--- the places lie in the string
-abbrev pub Inside : List ℕ → DeliverFound → Type 0
-Inside s (DeliverFound.Whole p) =
-    (p .address + addressSize (drop (p .address) s) ≤ length s) × (p .timestamp + 7 ≤ length s) × (p .«data» + p .octets ≤ length s) × (p .octets ≤ 255)
-Inside s (DeliverFound.Refused why) = Unit
+-- the places lie in the string, the address's is the given one
+abbrev pub Inside : List ℕ → ℕ → DeliverFound → Type 0
+Inside s at (DeliverFound.Whole p) =
+    (p .address + addressSize (drop (p .address) s) ≤ length s) × (p .timestamp + 7 ≤ length s) × (p .«data» + p .octets ≤ length s) × (p .octets ≤ 255) × (p .address ≡ at)
+Inside s at (DeliverFound.Refused why) = Unit

@@ -4,12 +4,13 @@ pub mod writing;
 
 ghost use mathlib.Core.Path.{_≡_};
 ghost use Prim.Native.Nat.{_+_};
-ghost use Rattle.octets.specs.Answers.{refuses, outcomeSays, writtenSays};
+ghost use Rattle.octets.specs.Answers.{refuses, writtenSays};
 ghost use Rattle.octets.specs.Choice.{flag};
 ghost use Rattle.octets.specs.Lent.{lend};
-ghost use Rattle.layout.specs.Layout.{read, answer};
+ghost use Rattle.gsm7.specs.Reading.{replacedInAll};
+ghost use Rattle.layout.specs.Layout.{read, answer, replacedOf};
 ghost use Rattle.deliver.specs.Internal.{fieldsAt, Inside};
-ghost use Rattle.deliver.specs.Deliver.{delivered, deliver, blank as blankMessage, delivering};
+ghost use Rattle.deliver.specs.Deliver.{delivered, deliver, blank as blankMessage, deliverReadSays, textsRead, delivering};
 use crate::reading::DeliverFields;
 use crate::reading::DeliverFound;
 use address::SMSAddress;
@@ -34,10 +35,11 @@ pub struct SmsDeliver {
     pub tp_user_data: UserData,
 }
 
-// What reading gives: the message, blank on a refusal.
+// What reading gives: the message, blank on a refusal, and the number of escapes in its text that led to no character of the extension table.
 pub struct DeliverRead {
     pub outcome: Outcome,
     pub message: SmsDeliver,
+    pub replaced_escapes: usize,
 }
 
 // The blank message.
@@ -61,29 +63,34 @@ fn blank() -> SmsDeliver
 }
 
 // The message of fields that are there.
-fn message(data: &[u8], f: DeliverFields) -> SmsDeliver
-    requires { ⌜ Inside (now «data») (DeliverFound.Whole f) ⌝ }
-    ensures { λ r. ⌜ r ≡ delivered (fieldsAt (now («data» .entry)) f) ⌝ }
+fn message(data: &[u8], f: DeliverFields) -> DeliverRead
+    requires { ⌜ Inside (now «data») 1 (DeliverFound.Whole f) ⌝ }
+    ensures { λ r. ⌜ r ≡ record { outcome = Outcome.Done; message = delivered (fieldsAt (now («data» .entry)) f); «replaced_escapes» = replacedInAll (textsRead (now («data» .entry)) (delivered (fieldsAt (now («data» .entry)) f))) } ⌝ }
 {
     let start = f.data;
     let end = start + f.octets;
     let first = f.first;
-    let originator = address::address_at(data, f.address);
+    let read = address::address_at(data, f.address);
+    let originator = read.address;
     let timestamp = time::time_at(data, f.timestamp);
     let user_data = coding::data_with(&data[start..end]);
-    SmsDeliver {
-        tp_rp: first / 128 % 2 == 1,
-        tp_udhi: first / 64 % 2 == 1,
-        tp_sri: first / 32 % 2 == 1,
-        tp_lp: first / 8 % 2 == 1,
-        tp_mms: first / 4 % 2 == 1,
-        tp_mti: first % 4,
-        tp_originating_address: originator,
-        tp_pid: f.pid,
-        tp_dcs: f.dcs,
-        tp_service_centre_timestamp: timestamp,
-        tp_user_data_length: f.udl,
-        tp_user_data: user_data,
+    DeliverRead {
+        outcome: Outcome::Done,
+        message: SmsDeliver {
+            tp_rp: first / 128 % 2 == 1,
+            tp_udhi: first / 64 % 2 == 1,
+            tp_sri: first / 32 % 2 == 1,
+            tp_lp: first / 8 % 2 == 1,
+            tp_mms: first / 4 % 2 == 1,
+            tp_mti: first % 4,
+            tp_originating_address: originator,
+            tp_pid: f.pid,
+            tp_dcs: f.dcs,
+            tp_service_centre_timestamp: timestamp,
+            tp_user_data_length: f.udl,
+            tp_user_data: user_data,
+        },
+        replaced_escapes: read.replaced,
     }
 }
 
@@ -136,17 +143,15 @@ impl SmsDeliver {
 
     // Reads a message.
     pub fn decode(data: &[u8]) -> DeliverRead
-        ensures { λ r. ⌜ (outcomeSays (r .outcome), r .message) ≡ answer blankMessage (read deliver (now («data» .entry))) ⌝ }
+        ensures { λ r. ⌜ deliverReadSays r ≡ (answer blankMessage (read deliver (now («data» .entry))), replacedOf (textsRead (now («data» .entry))) (read deliver (now («data» .entry)))) ⌝ }
     {
         match reading::fields_of(data) {
             DeliverFound::Refused(r) => DeliverRead {
                 outcome: Outcome::Refused(r),
                 message: blank(),
+                replaced_escapes: 0,
             },
-            DeliverFound::Whole(f) => DeliverRead {
-                outcome: Outcome::Done,
-                message: message(data, f),
-            },
+            DeliverFound::Whole(f) => message(data, f),
         }
     }
 }

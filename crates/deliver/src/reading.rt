@@ -41,7 +41,7 @@ fn after_coding(
     place: Place,
 ) -> DeliverFound
     requires { ⌜ (address + addressSize (drop address (now «data»)) ≤ length (now «data»)) × (place .at ≤ length (now «data»)) ⌝ }
-    ensures { λ r. ⌜ (foundSays (now («data» .entry)) r ≡ readFrom (afterCoding (kept bits first) (canonicalAddress (cut addressKind (drop address (now («data» .entry))))) pid dcs) (now («data» .entry)) (place .at)) × Inside (now («data» .entry)) r ⌝ }
+    ensures { λ r. ⌜ (foundSays (now («data» .entry)) r ≡ readFrom (afterCoding (kept bits first) (canonicalAddress (cut addressKind (drop address (now («data» .entry))))) pid dcs) (now («data» .entry)) (place .at)) × Inside (now («data» .entry)) address r ⌝ }
 {
     let Span::There(timestamp, place2) = place.span(data, 7) else {
         return DeliverFound::Refused(Refusal::OctetsEnd);
@@ -68,7 +68,7 @@ fn after_coding(
 // What follows the address.
 fn after_address(data: &[u8], first: u8, address: usize, place: Place) -> DeliverFound
     requires { ⌜ address + addressSize (drop address (now «data»)) ≤ length (now «data») ⌝ }
-    ensures { λ r. ⌜ (foundSays (now («data» .entry)) r ≡ readFrom (afterAddress (kept bits first) (canonicalAddress (cut addressKind (drop address (now («data» .entry)))))) (now («data» .entry)) (place .at)) × Inside (now («data» .entry)) r ⌝ }
+    ensures { λ r. ⌜ (foundSays (now («data» .entry)) r ≡ readFrom (afterAddress (kept bits first) (canonicalAddress (cut addressKind (drop address (now («data» .entry)))))) (now («data» .entry)) (place .at)) × Inside (now («data» .entry)) address r ⌝ }
 {
     let Octet::Read(pid, place2) = place.octet(data) else {
         return DeliverFound::Refused(Refusal::OctetsEnd);
@@ -81,7 +81,7 @@ fn after_address(data: &[u8], first: u8, address: usize, place: Place) -> Delive
 
 // The fields of a message.
 pub fn fields_of(data: &[u8]) -> DeliverFound
-    ensures { λ r. ⌜ (foundSays (now («data» .entry)) r ≡ readFrom fields (now («data» .entry)) 0) × Inside (now («data» .entry)) r ⌝ }
+    ensures { λ r. ⌜ (foundSays (now («data» .entry)) r ≡ readFrom fields (now («data» .entry)) 0) × Inside (now («data» .entry)) 1 r ⌝ }
 {
     let start = Place { at: 0 };
     let Octet::Read(first, place) = start.octet(data) else {

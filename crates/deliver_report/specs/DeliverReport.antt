@@ -2,9 +2,9 @@
 use Prim.Native.Nat.{ℕ}
 use mathlib.Core.Path.{_≡_, refl}
 use mathlib.Core.Bool.{Bool, true, false}
-use mathlib.Core.List.{[], _∷_}
+use mathlib.Core.List.{List, [], _∷_}
 use lib.Dec.{ltb}
-use Rattle.octets.specs.Answers.{Said, refuses, fine}
+use Rattle.octets.specs.Answers.{Said, outcomeSays, refuses, fine}
 use Rattle.octets.specs.Checks.{found}
 use Rattle.octets.specs.Choice.{if_then_else_}
 use Rattle.octets.specs.Lent.{Making, refused}
@@ -19,6 +19,7 @@ use Rattle.parameters.specs.declared.OptionalOctet.the-variants.{Absent, Presen
 use Rattle.deliver_report.specs.Layout.{deliverReported, format}
 use Rattle.deliver_report.specs.Writing.{making}
 use Rattle.deliver_report.specs.declared.SmsDeliverReport.{SmsDeliverReport}
+use Rattle.deliver_report.specs.declared.DeliverReportRead.{DeliverReportRead}
 
 -- ---- reading
 
@@ -52,6 +53,14 @@ known-reports : (read error (0x04 ∷ []) ≡ reached stopped 1) × (read error 
     × (canonicalOf ack (0x40 ∷ 0x85 ∷ 0x00 ∷ 0x11 ∷ 0x02 ∷ 0x41 ∷ 0x21 ∷ []) ≡ 0x40 ∷ 0x85 ∷ 0x11 ∷ 0x02 ∷ 0x41 ∷ 0x21 ∷ [])
 unfolding format read readFrom reading after stops canonicalOf fieldsOf parameters kept indicatorSize codingOf characterSet dataOctets
 known-reports = (refl, refl, refl, refl, refl, refl)
+
+-- what an answer of a reader says: its outcome and the record, and beside them how many escapes were replaced
+abbrev pub deliverReportReadSays : DeliverReportRead → (Said Unit × SmsDeliverReport) × ℕ
+deliverReportReadSays r = ((outcomeSays (r .outcome), r .message), r .«replaced_escapes»)
+
+-- what is read as text in a string: nothing. User data stay octets
+abbrev pub textsRead : List ℕ → SmsDeliverReport → List (List ℕ)
+textsRead s r = []
 
 -- ---- writing
 

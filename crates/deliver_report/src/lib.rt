@@ -4,12 +4,12 @@ pub mod writing;
 ghost use mathlib.Core.Path.{_≡_};
 ghost use Prim.Native.Nat.{_-_, _≤_};
 ghost use lib.ListN.{length, take, drop};
-ghost use Rattle.octets.specs.Answers.{refuses, outcomeSays, writtenSays};
+ghost use Rattle.octets.specs.Answers.{refuses, writtenSays};
 ghost use Rattle.octets.specs.Lent.{lend};
-ghost use Rattle.layout.specs.Layout.{read, readFrom, answer};
+ghost use Rattle.layout.specs.Layout.{read, readFrom, answer, replacedOf};
 ghost use Rattle.deliver_report.specs.Layout.{deliverReported};
 ghost use Rattle.deliver_report.specs.Internal.{afterCause};
-ghost use Rattle.deliver_report.specs.DeliverReport.{causeAlone, blank as blankReport, stopped as stoppedReport, ack, error, standardLimit, deliverReportingWithin, deliverReporting, deliverReportingToStandard};
+ghost use Rattle.deliver_report.specs.DeliverReport.{causeAlone, blank as blankReport, stopped as stoppedReport, ack, error, deliverReportReadSays, textsRead, standardLimit, deliverReportingWithin, deliverReporting, deliverReportingToStandard};
 use coding::UserData;
 use octets::Octet;
 use octets::Outcome;
@@ -39,15 +39,16 @@ pub struct SmsDeliverReport {
     pub tp_user_data: UserData,
 }
 
-// What reading gives: the message, blank on a refusal.
+// What reading gives: the message, blank on a refusal, and the number of escapes in its text that led to no character of the extension table. The kind has no text: 0.
 pub struct DeliverReportRead {
     pub outcome: Outcome,
     pub message: SmsDeliverReport,
+    pub replaced_escapes: usize,
 }
 
 // A report with a cause or none, and nothing else.
 fn cause_alone(outcome: Outcome, cause: OptionalOctet) -> DeliverReportRead
-    ensures { λ r. ⌜ r ≡ record { outcome = outcome; message = causeAlone cause } ⌝ }
+    ensures { λ r. ⌜ r ≡ record { outcome = outcome; message = causeAlone cause; «replaced_escapes» = 0 } ⌝ }
 {
     DeliverReportRead {
         outcome,
@@ -60,19 +61,20 @@ fn cause_alone(outcome: Outcome, cause: OptionalOctet) -> DeliverReportRead
             tp_user_data_length: OptionalOctet::Absent,
             tp_user_data: coding::no_data(),
         },
+        replaced_escapes: 0,
     }
 }
 
 // A refusal, with the blank report.
 fn refused(why: Refusal) -> DeliverReportRead
-    ensures { λ r. ⌜ r ≡ record { outcome = Outcome.Refused why; message = blankReport } ⌝ }
+    ensures { λ r. ⌜ r ≡ record { outcome = Outcome.Refused why; message = blankReport; «replaced_escapes» = 0 } ⌝ }
 {
     cause_alone(Outcome::Refused(why), OptionalOctet::Absent)
 }
 
 // A report that is read no further: its cause is unspecified.
 fn stopped() -> DeliverReportRead
-    ensures { λ r. ⌜ r ≡ record { outcome = Outcome.Done; message = stoppedReport } ⌝ }
+    ensures { λ r. ⌜ r ≡ record { outcome = Outcome.Done; message = stoppedReport; «replaced_escapes» = 0 } ⌝ }
 {
     cause_alone(
         Outcome::Done,
@@ -93,7 +95,7 @@ fn report(
     end: usize,
 ) -> DeliverReportRead
     requires { ⌜ (n ≤ end) × (end ≤ length (now «data»)) × (n ≤ 255) ⌝ }
-    ensures { λ r. ⌜ r ≡ record { outcome = Outcome.Done; message = deliverReported udhi cause indicator (record { pid = pid; dcs = dcs; udl = udl; ud = take n (drop (end - n) (now («data» .entry))) }) } ⌝ }
+    ensures { λ r. ⌜ r ≡ record { outcome = Outcome.Done; message = deliverReported udhi cause indicator (record { pid = pid; dcs = dcs; udl = udl; ud = take n (drop (end - n) (now («data» .entry))) }); «replaced_escapes» = 0 } ⌝ }
 {
     let start = end - n;
     DeliverReportRead {
@@ -107,12 +109,13 @@ fn report(
             tp_user_data_length: udl,
             tp_user_data: coding::data_with(&data[start..end]),
         },
+        replaced_escapes: 0,
     }
 }
 
 // What follows first octet and cause.
 fn after_cause(data: &[u8], place: Place, udhi: bool, cause: OptionalOctet) -> DeliverReportRead
-    ensures { λ r. ⌜ (outcomeSays (r .outcome), r .message) ≡ answer blankReport (readFrom (afterCause udhi cause) (now («data» .entry)) (place .at)) ⌝ }
+    ensures { λ r. ⌜ deliverReportReadSays r ≡ (answer blankReport (readFrom (afterCause udhi cause) (now («data» .entry)) (place .at)), replacedOf (textsRead (now («data» .entry))) (readFrom (afterCause udhi cause) (now («data» .entry)) (place .at))) ⌝ }
 {
     let Octet::Read(indicator, place2) = parameters::reading::read_indicator(data, place) else {
         return refused(Refusal::OctetsEnd);
@@ -140,7 +143,7 @@ fn standard_limit(cause: OptionalOctet) -> usize
 impl SmsDeliverReport {
     // The layout carried in an RP-ACK (no TP-Failure-Cause).
     pub fn decode_for_rp_ack(data: &[u8]) -> DeliverReportRead
-        ensures { λ r. ⌜ (outcomeSays (r .outcome), r .message) ≡ answer blankReport (read ack (now («data» .entry))) ⌝ }
+        ensures { λ r. ⌜ deliverReportReadSays r ≡ (answer blankReport (read ack (now («data» .entry))), replacedOf (textsRead (now («data» .entry))) (read ack (now («data» .entry)))) ⌝ }
     {
         let start = Place { at: 0 };
         let Octet::Read(first, place) = start.octet(data) else {
@@ -155,7 +158,7 @@ impl SmsDeliverReport {
     // The layout carried in an RP-ERROR (TP-Failure-Cause present). Where an unused bit of the first octet is set the
     // rest is not examined, and the cause reads as "Unspecified error cause".
     pub fn decode_for_rp_error(data: &[u8]) -> DeliverReportRead
-        ensures { λ r. ⌜ (outcomeSays (r .outcome), r .message) ≡ answer blankReport (read error (now («data» .entry))) ⌝ }
+        ensures { λ r. ⌜ deliverReportReadSays r ≡ (answer blankReport (read error (now («data» .entry))), replacedOf (textsRead (now («data» .entry))) (read error (now («data» .entry)))) ⌝ }
     {
         let start = Place { at: 0 };
         let Octet::Read(first, place) = start.octet(data) else {

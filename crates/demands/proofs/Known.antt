@@ -7,8 +7,8 @@ use Rattle.octets.specs.SemiOctets.{semiOctets, inPairs}
 use Rattle.octets.specs.Texts.{codes}
 use Rattle.coding.specs.Coding.{codingOf, characterSet, dataWith}
 use Rattle.septets.specs.Septets.{numberOf, lowestDigits, septetsIn, packedSeptets}
-use Rattle.gsm7.specs.Alphabet.{rowWith, indexOf, character, escaped}
-use Rattle.gsm7.specs.Reading.{utf8, textOf, afterEscape, unpacked, textGiven}
+use Rattle.gsm7.specs.Alphabet.{rowWith, indexOf, character, escaped, replaced}
+use Rattle.gsm7.specs.Reading.{utf8, textOf, afterEscape, replacedIn, replacedAfter, unpacked, textGiven}
 use Rattle.gsm7.specs.Writing.{extendedCode, codeOf, same, twoOctets, threeOctets, firstCharacter, before, startingWith, scan}
 use Rattle.gsm7.specs.Packing.{packedAfter, packing}
 use Rattle.user_data_header.specs.Header.{unpackedWithHeader, packingWithHeader, headerGiven}
@@ -22,5 +22,5 @@ use Rattle.deliver_report.specs.Layout.{format, deliverReported}
 use Rattle.demands.specs.Rows.{Holds, All, none, _also_, rows}
 
 pub known : All rows
-unfolding Holds codingOf characterSet numberOf lowestDigits septetsIn packedSeptets rowWith indexOf character escaped utf8 textOf afterEscape unpacked textGiven extendedCode codeOf same twoOctets threeOctets firstCharacter before startingWith scan packedAfter packing unpackedWithHeader packingWithHeader headerGiven codes each timeOctets timeDigits timestamp inCalendar hexDigit hexValue semiOctets inPairs digitCharacters digitCharacter digitValue isDigit withoutF valueText textIn addressIn addressWith addressOctets canonicalAddress addressMaking encoding pad dataWith read readFrom reading after stops kept indicatorSize parameters format deliverReported
+unfolding Holds codingOf characterSet numberOf lowestDigits septetsIn packedSeptets rowWith indexOf character escaped replaced utf8 textOf afterEscape replacedIn replacedAfter unpacked textGiven extendedCode codeOf same twoOctets threeOctets firstCharacter before startingWith scan packedAfter packing unpackedWithHeader packingWithHeader headerGiven codes each timeOctets timeDigits timestamp inCalendar hexDigit hexValue semiOctets inPairs digitCharacters digitCharacter digitValue isDigit withoutF valueText textIn addressIn addressWith addressOctets canonicalAddress addressMaking encoding pad dataWith read readFrom reading after stops kept indicatorSize parameters format deliverReported
 known = refl also refl also refl also refl also refl also refl also refl also refl also refl also refl also refl also refl also refl also refl also refl also refl also refl also refl also refl also refl also none

@@ -9,3 +9,4 @@ pub mod SubmitWritten
 pub mod SubmitBack
 pub mod SubmitLimits
 pub mod Known
+pub mod Replaced

@@ -22,8 +22,8 @@ use Rattle.user_data_header.specs.Header.{unpackedWithHeader, packingWithHeader
 pub data Row : Type 0 where
   -- a DCS and its coding
   coding : ℕ → UserDataCoding → Row
-  -- octets and a count of septets, read as text
-  reads : List ℕ → ℕ → List ℕ → Row
+  -- octets and a count of septets, read as text; and how many escapes are replaced in it
+  reads : List ℕ → ℕ → List ℕ → ℕ → Row
   -- a text, its octets and their count of septets
   packs : List ℕ → List ℕ → ℕ → Row
   -- a header and a text; what stands after the header, and the count of septets: packed, and read back
@@ -46,10 +46,10 @@ pub data Row : Type 0 where
 -- what a row says
 unfoldable pub Holds : Row → Type 0
 Holds (coding dcs c) = codingOf dcs ≡ c
-Holds (reads octets n text) = unpacked octets 0 n ≡ textGiven text
+Holds (reads octets n text k) = unpacked octets 0 n ≡ textGiven text k
 Holds (packs text octets n) = packing [] text ≡ made octets (packedAs octets n)
 Holds (packsAfter header text octets n) = packingWithHeader header text ≡ made (header ++ octets) (packedAs (header ++ octets) n)
-Holds (readsAfter header text octets n) = unpackedWithHeader (header ++ octets) n ≡ headerGiven header text
+Holds (readsAfter header text octets n) = unpackedWithHeader (header ++ octets) n ≡ headerGiven header text 0
 Holds (time ds octets) = timeOctets ds ≡ octets
 Holds (digits octets ds) = timeDigits octets ≡ ds
 Holds (zone z ds) = drop 12 (timestamp 24 2 15 12 30 45 z .1) ≡ ds
@@ -67,8 +67,8 @@ rows =
     -- "€" is 9B 32, 2 septets
     packs (0xe2 ∷ 0x82 ∷ 0xac ∷ []) (0x9b ∷ 0x32 ∷ []) 2 ∷
     -- 9B 0D and 9B 20, 2 septets: space; "A"
-    reads (0x9b ∷ 0x0d ∷ []) 2 (0x20 ∷ []) ∷
-    reads (0x9b ∷ 0x20 ∷ []) 2 (0x41 ∷ []) ∷
+    reads (0x9b ∷ 0x0d ∷ []) 2 (0x20 ∷ []) 1 ∷
+    reads (0x9b ∷ 0x20 ∷ []) 2 (0x41 ∷ []) 1 ∷
     -- header 05 00 03 01 02 01 and "A": the header, 82; 8 septets
     packsAfter (0x05 ∷ 0x00 ∷ 0x03 ∷ 0x01 ∷ 0x02 ∷ 0x01 ∷ []) (0x41 ∷ []) (0x82 ∷ []) 8 ∷
     readsAfter (0x05 ∷ 0x00 ∷ 0x03 ∷ 0x01 ∷ 0x02 ∷ 0x01 ∷ []) (0x41 ∷ []) (0x82 ∷ []) 8 ∷

@@ -8,9 +8,11 @@ use crate::lines::octets_line;
 use crate::lines::reference_line;
 use crate::lines::refused_line;
 use crate::lines::relative_line;
+use crate::lines::stand_ins_line;
 use crate::lines::status_line;
 use crate::lines::time_line;
 use crate::lines::words_line;
+use crate::user_data::Shown;
 use crate::user_data::optional_user_data;
 use crate::user_data::user_data;
 use output::Output;
@@ -26,22 +28,40 @@ use tpdu::ValidityPeriod;
 use wording::labels;
 use wording::refusals::refusal_number;
 
-// ---- records: each function takes the number of the reader's refusal too, which is 0 if there is none
+// ---- records: each function takes the number of the reader's refusal too, which is 0 if there is none, and the number
+// of escapes that the reader replaced, at most 145 in an address and 255 in user data
 
-fn deliver(out: &mut Output, at: usize, refusal: u8, message: SmsDeliver) -> usize {
+// A line for the characters that stand in for others: those that the reader counted, and those of the user data, which
+// were unpacked to be shown.
+fn stand_ins(out: &mut Output, shown: Shown, replaced: usize) -> usize {
+    stand_ins_line(
+        out,
+        shown.end,
+        shown.replaced as u32 + replaced as u16 as u32,
+    )
+}
+
+fn deliver(
+    out: &mut Output,
+    at: usize,
+    refusal: u8,
+    message: SmsDeliver,
+    replaced: usize,
+) -> usize {
     if refusal != 0 {
         return refused_line(out, at, refusal);
     }
     let p1 = address_line(out, at, labels::FROM, message.tp_originating_address);
     let p2 = time_line(out, p1, labels::TIME, message.tp_service_centre_timestamp);
-    user_data(
+    let shown = user_data(
         out,
         p2,
         message.tp_udhi,
         message.tp_dcs,
         message.tp_user_data_length,
         message.tp_user_data,
-    )
+    );
+    stand_ins(out, shown, replaced)
 }
 
 fn destination(out: &mut Output, at: usize, is_held: bool, address: SMSAddress) -> usize {
@@ -90,19 +110,21 @@ fn before_user_data(out: &mut Output, at: usize, message: SmsSubmit) -> usize {
     report(out, p3, message.tp_srr)
 }
 
-fn submit(out: &mut Output, at: usize, refusal: u8, message: SmsSubmit) -> usize {
+// The reader has counted its user data too.
+fn submit(out: &mut Output, at: usize, refusal: u8, message: SmsSubmit, replaced: usize) -> usize {
     if refusal != 0 {
         return refused_line(out, at, refusal);
     }
     let next = before_user_data(out, at, message);
-    user_data(
+    let shown = user_data(
         out,
         next,
         message.tp_udhi,
         message.tp_dcs,
         message.tp_user_data_length,
         message.tp_user_data_raw,
-    )
+    );
+    stand_ins_line(out, shown.end, replaced as u16 as u32)
 }
 
 // No line without a cause.
@@ -113,7 +135,13 @@ fn cause(out: &mut Output, at: usize, cause: OptionalOctet) -> usize {
     }
 }
 
-fn submit_report(out: &mut Output, at: usize, refusal: u8, message: SmsSubmitReport) -> usize {
+fn submit_report(
+    out: &mut Output,
+    at: usize,
+    refusal: u8,
+    message: SmsSubmitReport,
+    replaced: usize,
+) -> usize {
     if refusal != 0 {
         return refused_line(out, at, refusal);
     }
@@ -123,10 +151,17 @@ fn submit_report(out: &mut Output, at: usize, refusal: u8, message: SmsSubmitRep
     let udhi = message.tp_udhi == 1;
     let p1 = cause(out, at, failure);
     let p2 = time_line(out, p1, labels::TIME, message.tp_service_centre_timestamp);
-    optional_user_data(out, p2, udhi, dcs, udl, message.tp_user_data)
+    let shown = optional_user_data(out, p2, udhi, dcs, udl, message.tp_user_data);
+    stand_ins(out, shown, replaced)
 }
 
-fn deliver_report(out: &mut Output, at: usize, refusal: u8, message: SmsDeliverReport) -> usize {
+fn deliver_report(
+    out: &mut Output,
+    at: usize,
+    refusal: u8,
+    message: SmsDeliverReport,
+    replaced: usize,
+) -> usize {
     if refusal != 0 {
         return refused_line(out, at, refusal);
     }
@@ -134,7 +169,8 @@ fn deliver_report(out: &mut Output, at: usize, refusal: u8, message: SmsDeliverR
     let dcs = message.tp_dcs;
     let udl = message.tp_user_data_length;
     let next = cause(out, at, failure);
-    optional_user_data(out, next, message.tp_udhi, dcs, udl, message.tp_user_data)
+    let shown = optional_user_data(out, next, message.tp_udhi, dcs, udl, message.tp_user_data);
+    stand_ins(out, shown, replaced)
 }
 
 // When a message was sent, when it was done with, and how.
@@ -144,7 +180,13 @@ fn fate(out: &mut Output, at: usize, sent: Time, done: Time, status: u8) -> usiz
     status_line(out, p2, status)
 }
 
-fn status_report(out: &mut Output, at: usize, refusal: u8, message: SmsStatusReport) -> usize {
+fn status_report(
+    out: &mut Output,
+    at: usize,
+    refusal: u8,
+    message: SmsStatusReport,
+    replaced: usize,
+) -> usize {
     if refusal != 0 {
         return refused_line(out, at, refusal);
     }
@@ -159,7 +201,8 @@ fn status_report(out: &mut Output, at: usize, refusal: u8, message: SmsStatusRep
         message.tp_discharge_time,
         message.tp_status,
     );
-    optional_user_data(out, p3, message.tp_udhi, dcs, udl, message.tp_user_data)
+    let shown = optional_user_data(out, p3, message.tp_udhi, dcs, udl, message.tp_user_data);
+    stand_ins(out, shown, replaced)
 }
 
 // ---- messages: the kind, and what its reader gives
@@ -167,7 +210,13 @@ fn status_report(out: &mut Output, at: usize, refusal: u8, message: SmsStatusRep
 fn read_deliver(octets: &[u8], out: &mut Output, at: usize) -> usize {
     let read = SmsDeliver::decode(octets);
     let outcome = read.outcome;
-    deliver(out, at, refusal_number(outcome), read.message)
+    deliver(
+        out,
+        at,
+        refusal_number(outcome),
+        read.message,
+        read.replaced_escapes,
+    )
 }
 
 pub fn show_deliver(octets: &[u8], out: &mut Output, at: usize) -> usize {
@@ -178,7 +227,13 @@ pub fn show_deliver(octets: &[u8], out: &mut Output, at: usize) -> usize {
 fn read_submit(octets: &[u8], out: &mut Output, at: usize) -> usize {
     let read = tpdu::decode_sms_submit_tpdu(octets);
     let outcome = read.outcome;
-    submit(out, at, refusal_number(outcome), read.message)
+    submit(
+        out,
+        at,
+        refusal_number(outcome),
+        read.message,
+        read.replaced_escapes,
+    )
 }
 
 pub fn show_submit(octets: &[u8], out: &mut Output, at: usize) -> usize {
@@ -189,7 +244,13 @@ pub fn show_submit(octets: &[u8], out: &mut Output, at: usize) -> usize {
 fn read_submit_report_ack(octets: &[u8], out: &mut Output, at: usize) -> usize {
     let read = SmsSubmitReport::decode_for_rp_ack(octets);
     let outcome = read.outcome;
-    submit_report(out, at, refusal_number(outcome), read.message)
+    submit_report(
+        out,
+        at,
+        refusal_number(outcome),
+        read.message,
+        read.replaced_escapes,
+    )
 }
 
 pub fn show_submit_report_ack(octets: &[u8], out: &mut Output, at: usize) -> usize {
@@ -200,7 +261,13 @@ pub fn show_submit_report_ack(octets: &[u8], out: &mut Output, at: usize) -> usi
 fn read_submit_report_error(octets: &[u8], out: &mut Output, at: usize) -> usize {
     let read = SmsSubmitReport::decode_for_rp_error(octets);
     let outcome = read.outcome;
-    submit_report(out, at, refusal_number(outcome), read.message)
+    submit_report(
+        out,
+        at,
+        refusal_number(outcome),
+        read.message,
+        read.replaced_escapes,
+    )
 }
 
 pub fn show_submit_report_error(octets: &[u8], out: &mut Output, at: usize) -> usize {
@@ -211,7 +278,13 @@ pub fn show_submit_report_error(octets: &[u8], out: &mut Output, at: usize) -> u
 fn read_deliver_report_ack(octets: &[u8], out: &mut Output, at: usize) -> usize {
     let read = SmsDeliverReport::decode_for_rp_ack(octets);
     let outcome = read.outcome;
-    deliver_report(out, at, refusal_number(outcome), read.message)
+    deliver_report(
+        out,
+        at,
+        refusal_number(outcome),
+        read.message,
+        read.replaced_escapes,
+    )
 }
 
 pub fn show_deliver_report_ack(octets: &[u8], out: &mut Output, at: usize) -> usize {
@@ -222,7 +295,13 @@ pub fn show_deliver_report_ack(octets: &[u8], out: &mut Output, at: usize) -> us
 fn read_deliver_report_error(octets: &[u8], out: &mut Output, at: usize) -> usize {
     let read = SmsDeliverReport::decode_for_rp_error(octets);
     let outcome = read.outcome;
-    deliver_report(out, at, refusal_number(outcome), read.message)
+    deliver_report(
+        out,
+        at,
+        refusal_number(outcome),
+        read.message,
+        read.replaced_escapes,
+    )
 }
 
 pub fn show_deliver_report_error(octets: &[u8], out: &mut Output, at: usize) -> usize {
@@ -233,7 +312,13 @@ pub fn show_deliver_report_error(octets: &[u8], out: &mut Output, at: usize) -> 
 fn read_status_report(octets: &[u8], out: &mut Output, at: usize) -> usize {
     let read = SmsStatusReport::decode(octets);
     let outcome = read.outcome;
-    status_report(out, at, refusal_number(outcome), read.message)
+    status_report(
+        out,
+        at,
+        refusal_number(outcome),
+        read.message,
+        read.replaced_escapes,
+    )
 }
 
 pub fn show_status_report(octets: &[u8], out: &mut Output, at: usize) -> usize {

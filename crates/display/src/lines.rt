@@ -137,6 +137,21 @@ pub fn cause_line(out: &mut Output, at: usize, cause: u8) -> usize {
     line_end(out, end)
 }
 
+// ---- characters that stand in for others
+
+// How many characters stand in for others; no line where none does.
+pub fn stand_ins_line(out: &mut Output, at: usize, n: u32) -> usize {
+    if n == 0 {
+        return at;
+    }
+    let start = put_label(out, at, labels::NOTE);
+    let next = output::put_decimal(out, start, n as u64);
+    if n == 1 {
+        return output::put(out, next, b" character stands in for another\n");
+    }
+    output::put(out, next, b" characters stand in for others\n")
+}
+
 // ---- refusals, by their number
 
 pub fn refused_line(out: &mut Output, at: usize, refusal: u8) -> usize {

@@ -14,6 +14,18 @@ use wording::elements::put_elements;
 use wording::labels;
 use wording::refusals::refusal_number;
 
+// User data that were shown: the place after them, and how many escapes were replaced in their text, which has at most
+// 255 septets.
+pub struct Shown {
+    pub end: usize,
+    pub replaced: u16,
+}
+
+// Shown up to a place, with no text in septets.
+fn up_to(end: usize) -> Shown {
+    Shown { end, replaced: 0 }
+}
+
 // ---- headers; no refusal is number 0
 
 // A header in hexadecimal, and a line for each of its elements, or why it has none that can be read.
@@ -39,12 +51,16 @@ fn text_or_data(out: &mut Output, at: usize, refusal: u8, text: &[u8], data: &[u
     unread_line(out, at, labels::DATA, data, refusal)
 }
 
-fn septets(out: &mut Output, at: usize, udl: u8, data: &[u8]) -> usize {
+fn septets(out: &mut Output, at: usize, udl: u8, data: &[u8]) -> Shown {
     let read = tpdu::unpack_gsm7(data, udl as usize);
     let text = read.text;
     let outcome = read.outcome;
     let refusal = refusal_number(outcome);
-    text_or_data(out, at, refusal, between(&text, 0, read.text_length), data)
+    let end = text_or_data(out, at, refusal, between(&text, 0, read.text_length), data);
+    Shown {
+        end,
+        replaced: read.replaced_escapes as u16,
+    }
 }
 
 // The header of a text that was read.
@@ -55,20 +71,24 @@ fn header(out: &mut Output, at: usize, refusal: u8, octets: &[u8]) -> usize {
     at
 }
 
-fn header_and_septets(out: &mut Output, at: usize, udl: u8, data: &[u8]) -> usize {
+fn header_and_septets(out: &mut Output, at: usize, udl: u8, data: &[u8]) -> Shown {
     let read = tpdu::unpack_gsm7_with_header(data, udl as usize);
     let octets = read.header;
     let text = read.text;
     let outcome = read.outcome;
     let refusal = refusal_number(outcome);
     let next = header(out, at, refusal, between(&octets, 0, read.header_length));
-    text_or_data(
+    let end = text_or_data(
         out,
         next,
         refusal,
         between(&text, 0, read.text_length),
         data,
-    )
+    );
+    Shown {
+        end,
+        replaced: read.replaced_escapes as u16,
+    }
 }
 
 // ---- other codings
@@ -109,7 +129,7 @@ fn header_and_text(
     coding: UserDataCoding,
     udl: u8,
     data: &[u8],
-) -> usize {
+) -> Shown {
     match coding {
         UserDataCoding::Gsm7Bit => {
             if udhi {
@@ -120,9 +140,9 @@ fn header_and_text(
         }
         _ => {
             if udhi {
-                header_and_octets(out, at, coding, data)
+                up_to(header_and_octets(out, at, coding, data))
             } else {
-                whole_octets(out, at, coding, data)
+                up_to(whole_octets(out, at, coding, data))
             }
         }
     }
@@ -136,7 +156,7 @@ pub fn user_data(
     dcs: u8,
     udl: u8,
     data: UserData,
-) -> usize {
+) -> Shown {
     let octets = data.octets;
     let held = between(&octets, 0, data.length);
     let next = coding_line(out, at, dcs);
@@ -167,9 +187,9 @@ pub fn optional_user_data(
     dcs: OptionalOctet,
     udl: OptionalOctet,
     data: UserData,
-) -> usize {
+) -> Shown {
     match udl {
         OptionalOctet::Present(n) => user_data(out, at, udhi, or_zero(dcs), n, data),
-        OptionalOctet::Absent => coding_held(out, at, dcs),
+        OptionalOctet::Absent => up_to(coding_held(out, at, dcs)),
     }
 }

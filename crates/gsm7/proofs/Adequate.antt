@@ -19,13 +19,13 @@ use Rattle.octets.proofs.Table.{below}
 use Rattle.septets.specs.Septets.{Digits, septetsIn, packedSeptets}
 use Rattle.septets.proofs.Inverse.{unpack-pack}
 use Rattle.gsm7.specs.Alphabet.{alphabet, extension, row, character}
-use Rattle.gsm7.specs.Reading.{utf8, textOf, afterEscape}
+use Rattle.gsm7.specs.Reading.{utf8, textOf, afterEscape, replacedIn, replacedAfter}
 use Rattle.gsm7.specs.Writing.{same, codeOf, before, startingWith, scan, septetsOf, twoOctets, threeOctets, firstCharacter}
 use Rattle.gsm7.specs.Characters.{Entry, plain, extended, octetsFor, septetsFor, spelled, coded}
 use Rattle.gsm7.proofs.Utf8.{utf8-one, utf8-two, utf8-three}
 use Rattle.gsm7.proofs.FirstCharacter.{two, three, two-read, three-read}
 use Rattle.gsm7.proofs.Scanning.{first-width, scan-read}
-use Rattle.gsm7.proofs.Tables.{Says, code-says, same-is, alphabet-one-to-one, extension-coded, extension-shown, extension-small}
+use Rattle.gsm7.proofs.Tables.{Says, code-says, same-is, alphabet-one-to-one, extension-coded, extension-shown, extension-small, extension-listed}
 
 -- a second and a third octet are at least 128
 utf8-second : (c a b : ℕ) (r : List ℕ) → utf8 c ≡ a ∷ b ∷ r → 128 ≤ b
@@ -181,6 +181,13 @@ read-coded [] = refl
 read-coded (plain code h n ∷ es) = rw (ne-eqb code 0x1b n, read-coded es)
 read-coded (extended place h ∷ es) = rw (extension-shown place h, read-coded es)
 
+-- no escape of it is replaced
+none-replaced : (es : List Entry) → replacedIn (coded es) ≡ 0
+unfolding replacedIn replacedAfter coded
+none-replaced [] = refl
+none-replaced (plain code h n ∷ es) = rw (ne-eqb code 0x1b n, none-replaced es)
+none-replaced (extended place h ∷ es) = rw (extension-listed place h, none-replaced es)
+
 digits-cons : (k : ℕ) (ss : List ℕ) → k < 128 → Digits 7 ss → Digits 7 (k ∷ ss)
 digits-cons k ss h d zero = h
 digits-cons k ss h d (suc i) = d i
@@ -201,6 +208,10 @@ adequate text ss = (entries-of text ss, λ w. ap septetsOf (sym (w .1)) ∙ writ
 pub text-septets-text : (text ss : List ℕ) → septetsOf text ≡ some ss → textOf ss ≡ text
 text-septets-text text ss e = let w = entries-of text ss e in ap textOf (sym (w .2)) ∙ read-coded (w .0) ∙ w .1
 
+-- no escape in the septets of a text is replaced
+pub written-none-replaced : (text ss : List ℕ) → septetsOf text ≡ some ss → replacedIn ss ≡ 0
+written-none-replaced text ss e = let w = entries-of text ss e in ap replacedIn (sym (w .2)) ∙ none-replaced (w .0)
+
 -- the septets of a text are septets
 pub septets-digits : (text ss : List ℕ) → septetsOf text ≡ some ss → Digits 7 ss
 septets-digits text ss e = let w = entries-of text ss e in subst (Digits 7) (w .2) (coded-septets (w .0))
@@ -208,3 +219,6 @@ septets-digits text ss e = let w = entries-of text ss e in subst (Digits 7) (w .
 -- a text packed and unpacked again
 pub text-packed-text : (f : ℕ) (text ss : List ℕ) → septetsOf text ≡ some ss → textOf (septetsIn (packedSeptets f ss) f (length ss)) ≡ text
 text-packed-text f text ss e = rw (unpack-pack f ss (septets-digits text ss e)) (text-septets-text text ss e)
+
+pub packed-none-replaced : (f : ℕ) (text ss : List ℕ) → septetsOf text ≡ some ss → replacedIn (septetsIn (packedSeptets f ss) f (length ss)) ≡ 0
+packed-none-replaced f text ss e = rw (unpack-pack f ss (septets-digits text ss e)) (written-none-replaced text ss e)

@@ -1,7 +1,7 @@
--- What holds of every text that is read: it has at most two octets a septet, and is characters of the two tables, one after the other.
+-- What holds of every text that is read: it has at most two octets a septet, and is characters of the two tables, one after the other; what is counted in it, and what it tells that nothing is.
 -- Assumes nothing.
 use Prim.Native.Nat.{ℕ, suc, _+_, _*_, _<_, _≤_}
-use mathlib.Core.Path.{_≡_, refl, ap}
+use mathlib.Core.Path.{_≡_, refl, sym, ap, ap₂, _∙_}
 use mathlib.Core.Bool.{Bool, true, false}
 use mathlib.Core.List.{List, [], _∷_, _++_, append-nil}
 use mathlib.Core.Option.{Option, none, some}
@@ -13,11 +13,11 @@ use Rattle.octets.specs.Choice.{if_then_else_}
 use Rattle.septets.specs.Septets.{Digits, septetsIn}
 use Rattle.septets.proofs.Inverse.{septets-septets, length-septets}
 use Rattle.gsm7.specs.declared.decode.Extension.{Extension}
-use Rattle.gsm7.specs.Alphabet.{extension, rowWith, character, characterOr, escaped}
-use Rattle.gsm7.specs.Reading.{utf8, textOf, afterEscape}
+use Rattle.gsm7.specs.Alphabet.{extension, rowWith, character, characterOr, escaped, oneWithout, replaced}
+use Rattle.gsm7.specs.Reading.{utf8, textOf, afterEscape, replacedIn, replacedAfter}
 use Rattle.gsm7.specs.Characters.{Entry, plain, extended, octetsFor, septetsFor, spelled, coded}
 use Rattle.gsm7.proofs.Rows.{Stands, row-stands}
-use Rattle.gsm7.proofs.TableSizes.{short, short-escaped}
+use Rattle.gsm7.proofs.TableSizes.{short, short-escaped, replaced-small}
 use Rattle.gsm7.proofs.Utf8.{utf8-one}
 
 tail : (s : ℕ) (ss : List ℕ) → Digits 7 (s ∷ ss) → Digits 7 ss
@@ -90,3 +90,45 @@ readables (s ∷ ss) d =
 -- every octet of text that is read is that of a character of the tables
 pub read-spelled : (ss : List ℕ) → Digits 7 ss → (es : List Entry) × (spelled es ≡ textOf ss) × (length (coded es) ≤ length ss)
 read-spelled ss d = readables ss d .0
+
+-- ---- the escapes that are replaced are at most the septets
+
+few-replaced : (ss : List ℕ) → (replacedIn ss ≤ length ss) × (replacedAfter ss ≤ length ss + 1)
+unfolding replacedIn replacedAfter
+few-replaced [] = (omega arith, omega arith)
+few-replaced (s ∷ ss) = (by-test (eqb s 0x1b) (few-replaced ss), omega (arith, replaced-small s, few-replaced ss .0))
+  where
+    by-test : (t : Bool) → (replacedIn ss ≤ length ss) × (replacedAfter ss ≤ length ss + 1) → (if t then replacedAfter ss else replacedIn ss) ≤ suc (length ss)
+    by-test true h = omega arith
+    by-test false h = omega arith
+
+pub replaced-at-most : (ss : List ℕ) → replacedIn ss ≤ length ss
+replaced-at-most ss = few-replaced ss .0
+
+-- ---- septets in which none is replaced are the codes of entries of the tables
+
+abbrev Coded : List ℕ → Type 0
+Coded ss = (es : List Entry) × (coded es ≡ ss)
+
+-- a code of the extension table, after an escape
+listed : (t : ℕ) → replaced t ≡ 0 → {ss : List ℕ} → Coded ss → Coded (0x1b ∷ t ∷ ss)
+unfolding replaced coded
+listed t none-is {ss} w = by-row (rowWith (λ (e : Extension). e .code) t extension) (row-stands (λ (e : Extension). e .code) t extension) none-is
+  where
+    by-row : (o : Option Extension) → Stands (λ (e : Extension). e .code) t extension o → oneWithout o ≡ 0 → Coded (0x1b ∷ t ∷ ss)
+    by-row none s e = absurd (omega arith)
+    by-row (some r) s e = (extended (s .0) (s .1) ∷ w .0, ap₂ (λ (k : ℕ) (ks : List ℕ). 0x1b ∷ k ∷ ks) (ap (λ (e : Extension). e .code) (s .2) ∙ s .3) (w .1))
+
+codes-in : (ss : List ℕ) → Digits 7 ss → (replacedIn ss ≡ 0 → Coded ss) × (replacedAfter ss ≡ 0 → Coded (0x1b ∷ ss))
+unfolding replacedIn replacedAfter coded
+codes-in [] d = ((λ e. ([], refl)), λ e. absurd (omega arith))
+codes-in (s ∷ ss) d =
+    let r = codes-in ss (tail s ss d) in
+    (by-test (eqb s 0x1b) refl r, λ e. listed s (omega arith) (r .0 (omega arith)))
+  where
+    by-test : (t : Bool) → eqb s 0x1b ≡ t → (replacedIn ss ≡ 0 → Coded ss) × (replacedAfter ss ≡ 0 → Coded (0x1b ∷ ss)) → (if t then replacedAfter ss else replacedIn ss) ≡ 0 → Coded (s ∷ ss)
+    by-test true p r e = rw (eqb-true s 0x1b p) (r .1 e)
+    by-test false p r e = let w = r .0 e in (plain s (d 0) (eqb-false s 0x1b p) ∷ w .0, ap (λ (ks : List ℕ). s ∷ ks) (w .1))
+
+pub unreplaced-coded : (ss : List ℕ) → Digits 7 ss → replacedIn ss ≡ 0 → (es : List Entry) × (coded es ≡ ss)
+unreplaced-coded ss d = codes-in ss d .0

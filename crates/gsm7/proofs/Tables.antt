@@ -15,7 +15,7 @@ use Rattle.octets.specs.declared.Refusal.the-variants.{NotInAlphabet}
 use Rattle.octets.proofs.Choice.{and-true}
 use Rattle.octets.proofs.Table.{below}
 use Rattle.gsm7.specs.declared.decode.Extension.{Extension}
-use Rattle.gsm7.specs.Alphabet.{alphabet, extension, row, rowWith, indexOf, character, escaped}
+use Rattle.gsm7.specs.Alphabet.{alphabet, extension, row, rowWith, indexOf, character, escaped, replaced}
 use Rattle.gsm7.specs.Characters.{Entry, plain, extended, octetsFor, septetsFor}
 use Rattle.gsm7.specs.Reading.{utf8}
 use Rattle.gsm7.specs.Writing.{same, codeOf, escapeAndCode, extendedCode}
@@ -105,18 +105,19 @@ abbrev septetsOfRow : Extension → List ℕ
 septetsOfRow e = 0x1b ∷ e .code ∷ []
 
 extension-test : Extension → Bool
-extension-test e = sameCode (codeOf (e .character)) (gives (septetsOfRow e)) && (eqb (escaped (e .code)) (e .character) && ltb (e .code) 128)
+extension-test e = sameCode (codeOf (e .character)) (gives (septetsOfRow e)) && (eqb (escaped (e .code)) (e .character) && (ltb (e .code) 128 && eqb (replaced (e .code)) 0))
 
 module _ (i : ℕ) (h : i < 10) where
   abbrev e : Extension
   e = getD extension i (row 0 0)
 
-  tested : (codeOf (e .character) ≡ gives (septetsOfRow e)) × (escaped (e .code) ≡ e .character) × (e .code < 128)
-  unfolding extension-test codeOf indexOf escaped character extendedCode rowWith same
+  tested : (codeOf (e .character) ≡ gives (septetsOfRow e)) × (escaped (e .code) ≡ e .character) × (e .code < 128) × (replaced (e .code) ≡ 0)
+  unfolding extension-test codeOf indexOf escaped replaced character extendedCode rowWith same
   tested =
       let (coded, more) = and-true (sameCode (codeOf (e .character)) (gives (septetsOfRow e))) _ (below (λ i. extension-test (getD extension i (row 0 0))) 10 refl i h) in
-      let (shown, small) = and-true (eqb (escaped (e .code)) (e .character)) _ more in
-      (same-septets (e .character) (septetsOfRow e) coded, eqb-true _ _ shown, ltb-true _ _ small)
+      let (shown, last) = and-true (eqb (escaped (e .code)) (e .character)) _ more in
+      let (small, listed) = and-true (ltb (e .code) 128) _ last in
+      (same-septets (e .character) (septetsOfRow e) coded, eqb-true _ _ shown, ltb-true _ _ small, eqb-true _ _ listed)
 
   pub extension-coded : codeOf (e .character) ≡ gives (septetsOfRow e)
   extension-coded = tested .0
@@ -126,3 +127,6 @@ module _ (i : ℕ) (h : i < 10) where
 
   pub extension-small : e .code < 128
   extension-small = tested .2
+
+  pub extension-listed : replaced (e .code) ≡ 0
+  extension-listed = tested .3

@@ -60,7 +60,15 @@ characterOr other (some e) = e .character
 unfoldable pub escaped : ℕ → ℕ
 escaped code = characterOr (character code) (rowWith (λ (e : Extension). e .code) code extension)
 
--- 41 is A, 1B 65 is the euro sign, 1B 41 is A
-known-characters : (character 0x41 ≡ 0x41) × (escaped 0x65 ≡ 0x20ac) × (escaped 0x41 ≡ 0x41)
-unfolding character escaped rowWith
-known-characters = (refl, refl, refl)
+-- 1 where an escape and the code lead to no character of the extension table, so that the one shown stands in for another; else 0
+abbrev pub oneWithout : Option Extension → ℕ
+oneWithout none = 1
+oneWithout (some e) = 0
+
+unfoldable pub replaced : ℕ → ℕ
+replaced code = oneWithout (rowWith (λ (e : Extension). e .code) code extension)
+
+-- 41 is A, 1B 65 is the euro sign, 1B 41 is A, in place of another; so is the space of 1B 1B
+known-characters : (character 0x41 ≡ 0x41) × (escaped 0x65 ≡ 0x20ac) × (escaped 0x41 ≡ 0x41) × (replaced 0x65 ≡ 0) × (replaced 0x41 ≡ 1) × (replaced 0x1b ≡ 1)
+unfolding character escaped replaced rowWith
+known-characters = (refl, refl, refl, refl, refl, refl)

@@ -5,11 +5,11 @@ ghost use mathlib.Core.Bool.{true};
 ghost use mathlib.Core.List.{[], _∷_};
 ghost use lib.ListN.{length, getD};
 ghost use Rattle.octets.specs.Lent.{Wrote};
-ghost use Rattle.gsm7.specs.Alphabet.{alphabet as defaultAlphabet, extension, row, character, escaped};
+ghost use Rattle.gsm7.specs.Alphabet.{alphabet as defaultAlphabet, extension, row, character, escaped, replaced};
 ghost use Rattle.octets.specs.declared.Refusal.the-variants.{LengthTooLarge, TooFewOctets};
 ghost use Rattle.septets.specs.Septets.{septetsIn, inWindow};
 ghost use Rattle.gsm7.specs.Internal.{plain, fourPlain, fourCharacters};
-ghost use Rattle.gsm7.specs.Reading.{utf8, textOf, unpackedSays, textGiven, textRefused, unpacked};
+ghost use Rattle.gsm7.specs.Reading.{utf8, textOf, replacedIn, unpackedSays, textGiven, textRefused, unpacked};
 use octets::Outcome;
 use octets::Refusal;
 use septets::BitPlace;
@@ -198,11 +198,24 @@ const EXTENSION: [Extension; 10] = [
     },
 ];
 
-// The text of counted septets.
+// The text of counted septets, and the number of escapes in them that led to no character of the extension table.
 pub struct Unpacked {
     pub outcome: Outcome,
     pub text: [u8; 510],
     pub text_length: usize,
+    pub replaced_escapes: usize,
+}
+
+// Text that was written: the place after it, and the number of escapes in it that led to no character of the extension table.
+pub struct TextPut {
+    pub end: usize,
+    pub replaced: usize,
+}
+
+// The character of a code that follows an escape; `replaced` is 1 where it is none of the extension table, else 0.
+struct AfterEscape {
+    character: u16,
+    replaced: usize,
 }
 
 // The row at a place of the extension table.
@@ -222,19 +235,25 @@ fn default_character(alphabet: &[u16; 128], code: u8) -> u16
 }
 
 // The character of a code that follows an escape.
-fn escaped_character(alphabet: &[u16; 128], code: u8) -> u16
+fn escaped_character(alphabet: &[u16; 128], code: u8) -> AfterEscape
     requires { ⌜ (code < 128) × (now alphabet ≡ defaultAlphabet) ⌝ }
-    ensures { λ r. ⌜ r ≡ escaped code ⌝ }
+    ensures { λ r. ⌜ r ≡ record { character = escaped code; replaced = replaced code } ⌝ }
 {
     let mut i = 0;
     while i < 10 {
         let e = extension_row(i);
         if e.code == code {
-            return e.character;
+            return AfterEscape {
+                character: e.character,
+                replaced: 0,
+            };
         }
         i += 1;
     }
-    default_character(alphabet, code)
+    AfterEscape {
+        character: default_character(alphabet, code),
+        replaced: 1,
+    }
 }
 
 // The character of a septet of a window.
@@ -307,13 +326,20 @@ fn put(text: &mut [u8], at: usize, c: u16) -> usize
     put_two(text, at + 1, (128 + c / 64 % 64) as u8, c)
 }
 
-// Writes the text of the counted septets, from `fill` bits into the octets, at `at`; the place after it. What follows an escape that is the last septet counted is not looked at.
-pub fn unpack_septets(data: &[u8], fill: usize, septets: usize, text: &mut [u8], at: usize) -> usize
+// Writes the text of the counted septets, from `fill` bits into the octets, at `at`. What follows an escape that is the last septet counted is not looked at.
+pub fn unpack_septets(
+    data: &[u8],
+    fill: usize,
+    septets: usize,
+    text: &mut [u8],
+    at: usize,
+) -> TextPut
     requires { ⌜ (fill < 8) × (septets ≤ 255) × (at + length (textOf (septetsIn (now «data») fill septets)) ≤ length (now text)) ⌝ }
-    ensures { λ r. ⌜ Wrote at (textOf (septetsIn (now («data» .entry)) fill septets)) (now (text .entry)) r (now (text .exit)) ⌝ }
+    ensures { λ r. ⌜ Wrote at (textOf (septetsIn (now («data» .entry)) fill septets)) (now (text .entry)) (r .end) (now (text .exit)) × (r .replaced ≡ replacedIn (septetsIn (now («data» .entry)) fill septets)) ⌝ }
 {
     let alphabet = ALPHABET;
     let mut end = at;
+    let mut replaced = 0;
     let mut consumed = 0;
     let mut place = BitPlace {
         octet: 0,
@@ -325,10 +351,13 @@ pub fn unpack_septets(data: &[u8], fill: usize, septets: usize, text: &mut [u8],
         if code == GSM7_ESCAPE {
             if consumed + 1 == septets {
                 end = put(text, end, 0x20);
+                replaced += 1;
                 break;
             }
             let next = septets::septet_in(window, 1);
-            end = put(text, end, escaped_character(&alphabet, next));
+            let escaped = escaped_character(&alphabet, next);
+            end = put(text, end, escaped.character);
+            replaced += escaped.replaced;
             place = place.next().next();
             consumed += 2;
         } else if (consumed + 4 <= septets) & four_plain(&alphabet, window) {
@@ -341,20 +370,21 @@ pub fn unpack_septets(data: &[u8], fill: usize, septets: usize, text: &mut [u8],
             consumed += 1;
         }
     }
-    end
+    TextPut { end, replaced }
 }
 
 // The text of counted septets that are all there.
 fn whole_text(data: &[u8], septets: usize) -> Unpacked
     requires { ⌜ septets ≤ 255 ⌝ }
-    ensures { λ r. ⌜ unpackedSays r ≡ textGiven (textOf (septetsIn (now («data» .entry)) 0 septets)) ⌝ }
+    ensures { λ r. ⌜ unpackedSays r ≡ textGiven (textOf (septetsIn (now («data» .entry)) 0 septets)) (replacedIn (septetsIn (now («data» .entry)) 0 septets)) ⌝ }
 {
     let mut text = [0u8; 510];
-    let text_length = unpack_septets(data, 0, septets, &mut text, 0);
+    let put = unpack_septets(data, 0, septets, &mut text, 0);
     Unpacked {
         outcome: Outcome::Done,
         text,
-        text_length,
+        text_length: put.end,
+        replaced_escapes: put.replaced,
     }
 }
 
@@ -365,6 +395,7 @@ fn refused(why: Refusal) -> Unpacked
         outcome: Outcome::Refused(why),
         text: [0u8; 510],
         text_length: 0,
+        replaced_escapes: 0,
     }
 }
 

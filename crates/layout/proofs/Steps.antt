@@ -117,6 +117,11 @@ module _ (s : List ℕ) (p : Place) where
   unfolding addressSpan spanAt
   address-ends e next = whole-short address e next
 
+  -- it starts at the place
+  pub address-starts : {a : ℕ} {q : Place} → addressSpan s p ≡ gives (a, q) → a ≡ p .at
+  unfolding addressSpan spanAt
+  address-starts e = span-there s p _ e .1
+
   -- it lies in the string, from a place that does
   pub address-inside : {a : ℕ} {q : Place} → addressSpan s p ≡ gives (a, q) → p .at ≤ length s → (a + addressSize (drop a s) ≤ length s) × (q .at ≤ length s)
   unfolding addressSpan spanAt

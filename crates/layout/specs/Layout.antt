@@ -11,6 +11,7 @@ use Rattle.octets.specs.Answers.{Said, refuses, fine}
 use Rattle.octets.specs.Choice.{if_then_else_}
 use Rattle.octets.specs.declared.Refusal.{Refusal}
 use Rattle.octets.specs.declared.Refusal.the-variants.{OctetsEnd, WrongMessageType}
+use Rattle.gsm7.specs.Reading.{replacedInAll}
 use Rattle.address.specs.Address.{addressSize, canonicalAddress}
 
 -- ---- kinds of field
@@ -175,6 +176,11 @@ readFrom format s at = reading format (drop at s) at
 abbrev pub answer : {R : Type 0} → R → Reached R → Said Unit × R
 answer blank (reached r at) = (fine, r)
 answer blank (halted why) = (refuses why, blank)
+
+-- what stands beside the record: the number of escapes that were replaced in all that was read as text, 0 on a refusal. `texts` gives the septets of each text; it is no function of the canonical octets, in which what stood in for another stands for itself
+abbrev pub replacedOf : {R : Type 0} → (R → List (List ℕ)) → Reached R → ℕ
+replacedOf texts (reached r at) = replacedInAll (texts r)
+replacedOf texts (halted why) = 0
 
 -- ---- canonical octets, and what can't be written
 

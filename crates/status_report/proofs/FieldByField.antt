@@ -15,7 +15,7 @@ use Rattle.address.specs.Address.{addressSize, canonicalAddress}
 use Rattle.address.specs.Internal.{addressSpan}
 use Rattle.layout.specs.Layout.{Format, any, address, field, one, cut, kept, messageType, Reached, reached, halted, readFrom}
 use Rattle.layout.specs.Internal.{indicatorAt, placed}
-use Rattle.layout.proofs.Steps.{message-goes-on, message-differs, message-ends, octet-goes-on, octet-ends, span-goes-on, span-ends, address-goes-on, address-ends, indicator-goes-on, indicator-ends, end-reached, end-not-reached, then-goes-on, then-ends, done-reached, address-inside}
+use Rattle.layout.proofs.Steps.{message-goes-on, message-differs, message-ends, octet-goes-on, octet-ends, span-goes-on, span-ends, address-goes-on, address-ends, indicator-goes-on, indicator-ends, end-reached, end-not-reached, then-goes-on, then-ends, done-reached, address-inside, address-starts}
 use Rattle.parameters.specs.Parameters.{Parameters}
 use Rattle.parameters.specs.declared.OptionalOctet.{OptionalOctet}
 use Rattle.parameters.specs.declared.OptionalOctet.the-variants.{Absent, Present}
@@ -102,8 +102,8 @@ module _ (s : List ℕ) where
         no-address d = sym (message-goes-on s start e 2 bits refl afterFirst m ∙ octet-goes-on s p e₂ _ ∙ address-ends s p₂ d (afterAddress (kept bits b) mr))
 
         pub to-address : {ra : ℕ} {q : Place} → addressSpan s p₂ ≡ gives (ra, q)
-            → (ra + addressSize (drop ra s) ≤ length s) × (q .at ≤ length s) × (readFrom (afterAddress (kept bits b) mr (canonicalAddress (cut address (drop ra s)))) s (q .at) ≡ readFrom fields s 0)
+            → (ra + addressSize (drop ra s) ≤ length s) × (q .at ≤ length s) × (readFrom (afterAddress (kept bits b) mr (canonicalAddress (cut address (drop ra s)))) s (q .at) ≡ readFrom fields s 0) × (ra ≡ 2)
         unfolding fields afterAddress afterStatus
         to-address d =
             let (room, past) = address-inside s p₂ d (omega (arith, octet-read s p e₂)) in
-            (room, past, sym (message-goes-on s start e 2 bits refl afterFirst m ∙ octet-goes-on s p e₂ _ ∙ address-goes-on s p₂ d (afterAddress (kept bits b) mr)))
+            (room, past, sym (message-goes-on s start e 2 bits refl afterFirst m ∙ octet-goes-on s p e₂ _ ∙ address-goes-on s p₂ d (afterAddress (kept bits b) mr)), omega (arith, octet-read s start e, octet-read s p e₂, address-starts s p₂ d))

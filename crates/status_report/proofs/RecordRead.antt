@@ -3,19 +3,22 @@
 use Prim.Native.Nat.{ℕ, _+_, _-_, _/_, _%_}
 use mathlib.Core.Path.{_≡_, refl, sym}
 use mathlib.Core.List.{List}
+use native.Mathlib.Nat.{add-zero}
 use lib.Dec.{eqb}
 use lib.ListN.{take, drop}
 use Rattle.octets.specs.Each.{Octets}
-use Rattle.octets.specs.Answers.{Said, refuses, fine}
+use Rattle.octets.specs.Answers.{Said, refuses}
+use Rattle.octets.specs.declared.Outcome.{Outcome}
 use Rattle.octets.specs.declared.Refusal.{Refusal}
 use Rattle.octets.proofs.Laws.{part-is}
 use Rattle.coding.specs.Coding.{dataWith}
 use Rattle.coding.specs.declared.UserData.{UserData}
 use Rattle.time.specs.Time.{timeIn}
 use Rattle.time.specs.declared.Time.{Time}
-use Rattle.address.specs.Address.{addressIn, addressSize}
+use Rattle.gsm7.specs.Reading.{replacedIn, replacedInAll}
+use Rattle.address.specs.Address.{addressIn, addressSize, septetsRead}
 use Rattle.address.specs.declared.SMSAddress.{SMSAddress}
-use Rattle.layout.specs.Layout.{done, read, readFrom, answer}
+use Rattle.layout.specs.Layout.{done, read, readFrom, answer, replacedOf}
 use Rattle.layout.proofs.Fields.{address-there}
 use Rattle.layout.proofs.FirstOctet.{kept-bit}
 use Rattle.layout.proofs.Steps.{done-reached, then-goes-on, then-ends}
@@ -24,45 +27,53 @@ use Rattle.status_report.specs.Internal.{fieldsAt, foundSays, Inside}
 use Rattle.status_report.specs.declared.reading.StatusReportFields.{StatusReportFields}
 use Rattle.status_report.specs.declared.reading.StatusReportFound.{StatusReportFound}
 use Rattle.status_report.specs.declared.SmsStatusReport.{SmsStatusReport}
-use Rattle.status_report.specs.StatusReport.{statusReported, format, statusReport, blank}
+use Rattle.status_report.specs.declared.StatusReportRead.{StatusReportRead}
+use Rattle.status_report.specs.StatusReport.{statusReported, format, statusReport, blank, statusReportReadSays, textsRead}
 
 -- ---- the answer
 
 -- what fields that were found, or a refusal, come to
-pub answer-refused : (s : List ℕ) (why : Refusal) (r : SmsStatusReport) → foundSays s (StatusReportFound.Refused why) ≡ readFrom fields s 0 → r ≡ blank
-    → _≡_ {A = Said Unit × SmsStatusReport} (refuses why, r) (answer blank (read statusReport s))
+abbrev Answers : List ℕ → (Said Unit × SmsStatusReport) × ℕ → Type 0
+Answers s a = a ≡ (answer blank (read statusReport s), replacedOf (textsRead s) (read statusReport s))
+
+pub answer-refused : (s : List ℕ) (why : Refusal) (r : SmsStatusReport) → foundSays s (StatusReportFound.Refused why) ≡ readFrom fields s 0 → r ≡ blank → Answers s ((refuses why, r), 0)
 unfolding read format
 answer-refused s why r e is = rw (then-ends s fields 0 (sym e) (λ x. done (statusReported x)), is)
 
-pub answer-done : (s : List ℕ) (f : StatusReportFields) (r : SmsStatusReport) → foundSays s (StatusReportFound.Whole f) ≡ readFrom fields s 0 → r ≡ statusReported (fieldsAt s f)
-    → _≡_ {A = Said Unit × SmsStatusReport} (fine, r) (answer blank (read statusReport s))
+pub answer-done : (s : List ℕ) (f : StatusReportFields) (r : StatusReportRead) → foundSays s (StatusReportFound.Whole f) ≡ readFrom fields s 0
+    → (let m = statusReported (fieldsAt s f) in r ≡ record { outcome = Outcome.Done; message = m; «replaced_escapes» = replacedInAll (textsRead s m) }) → Answers s (statusReportReadSays r)
 unfolding read format
 answer-done s f r e is = rw (then-goes-on s fields 0 (sym e) (λ x. done (statusReported x)), done-reached, is)
 
 -- ---- the record
 
-pub message-is : (s : List ℕ) → Octets s → (f : StatusReportFields) → Inside s (StatusReportFound.Whole f)
+pub message-is : (s : List ℕ) → Octets s → (f : StatusReportFields) → Inside s 2 (StatusReportFound.Whole f)
     → (a : SMSAddress) → a ≡ addressIn (take (addressSize (drop (f .address) s)) (drop (f .address) s)) → (t : Time) → t ≡ timeIn (take 7 (drop (f .timestamp) s)) → (u : Time) → u ≡ timeIn (take 7 (drop (f .discharge) s))
     → (d : UserData) → d ≡ dataWith (take (f .«data» + f .octets - f .«data») (drop (f .«data») s))
-    → _≡_ {A = SmsStatusReport} (record {
-      «tp_udhi» = eqb (f .first / 64 % 2) 1;
-      «tp_srq» = eqb (f .first / 32 % 2) 1;
-      «tp_lp» = eqb (f .first / 8 % 2) 1;
-      «tp_mms» = eqb (f .first / 4 % 2) 1;
-      «tp_mr» = f .mr;
-      «tp_recipient_address» = a;
-      «tp_service_centre_timestamp» = t;
-      «tp_discharge_time» = u;
-      «tp_status» = f .status;
-      «tp_parameter_indicator» = f .indicator;
-      «tp_pid» = f .pid;
-      «tp_dcs» = f .dcs;
-      «tp_user_data_length» = f .udl;
-      «tp_user_data» = d;
+    → (n : ℕ) → n ≡ replacedIn (septetsRead (take (addressSize (drop (f .address) s)) (drop (f .address) s)))
+    → (let m = statusReported (fieldsAt s f) in _≡_ {A = StatusReportRead} (record {
+      outcome = Outcome.Done;
+      message = record {
+        «tp_udhi» = eqb (f .first / 64 % 2) 1;
+        «tp_srq» = eqb (f .first / 32 % 2) 1;
+        «tp_lp» = eqb (f .first / 8 % 2) 1;
+        «tp_mms» = eqb (f .first / 4 % 2) 1;
+        «tp_mr» = f .mr;
+        «tp_recipient_address» = a;
+        «tp_service_centre_timestamp» = t;
+        «tp_discharge_time» = u;
+        «tp_status» = f .status;
+        «tp_parameter_indicator» = f .indicator;
+        «tp_pid» = f .pid;
+        «tp_dcs» = f .dcs;
+        «tp_user_data_length» = f .udl;
+        «tp_user_data» = d;
+      };
+      «replaced_escapes» = n;
     })
-    (statusReported (fieldsAt s f))
-unfolding statusReported fieldsAt
-message-is s o f inside a ea t et u eu d ed =
+    (record { outcome = Outcome.Done; message = m; «replaced_escapes» = replacedInAll (textsRead s m) }))
+unfolding statusReported fieldsAt replacedInAll
+message-is s o f inside a ea t et u eu d ed n en =
     rw (
       kept-bit bits refl 6 refl (f .first),
       kept-bit bits refl 5 refl (f .first),
@@ -74,4 +85,7 @@ message-is s o f inside a ea t et u eu d ed =
       eu,
       ed,
       part-is (f .«data») (f .octets) s,
+      en,
+      inside .5,
+      add-zero,
     )

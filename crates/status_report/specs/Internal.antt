@@ -1,5 +1,6 @@
 -- What only functions of this crate say to each other: the rest of the layout from a field on, fields by their places in a string, and the octets of values that were checked.
 use Prim.Native.Nat.{ℕ, _+_, _≤_}
+use mathlib.Core.Path.{_≡_}
 use mathlib.Core.List.{List, [], _∷_, _++_}
 use lib.ListN.{length, take, drop}
 use Rattle.octets.specs.Answers.{Said}
@@ -52,11 +53,12 @@ abbrev pub foundSays : List ℕ → StatusReportFound → Reached Fields
 foundSays s (StatusReportFound.Whole p) = reached (fieldsAt s p) (p .«data» + p .octets)
 foundSays s (StatusReportFound.Refused why) = halted why
 
--- the places lie in the string
-abbrev pub Inside : List ℕ → StatusReportFound → Type 0
-Inside s (StatusReportFound.Whole p) =
+-- the places lie in the string, the address's is the given one
+abbrev pub Inside : List ℕ → ℕ → StatusReportFound → Type 0
+Inside s at (StatusReportFound.Whole p) =
     (p .address + addressSize (drop (p .address) s) ≤ length s) × (p .timestamp + 7 ≤ length s) × (p .discharge + 7 ≤ length s) × (p .«data» + p .octets ≤ length s) × (p .octets ≤ 255)
-Inside s (StatusReportFound.Refused why) = Unit
+    × (p .address ≡ at)
+Inside s at (StatusReportFound.Refused why) = Unit
 
 -- ---- writing: values, the address's text, the digits of both times, the user data
 

@@ -4,8 +4,8 @@ use mathlib.Core.Path.{_≡_, refl}
 use mathlib.Core.Bool.{Bool, false, _||_}
 use mathlib.Core.List.{List, [], _∷_, _++_}
 use lib.Dec.{eqb, ltb}
-use lib.ListN.{length}
-use Rattle.octets.specs.Answers.{Said, refuses, fine}
+use lib.ListN.{length, drop}
+use Rattle.octets.specs.Answers.{Said, outcomeSays, refuses, fine}
 use Rattle.octets.specs.Checks.{Check, _unless_, found, checked}
 use Rattle.octets.specs.Choice.{if_then_else_, flag}
 use Rattle.octets.specs.Lent.{Making, refused}
@@ -14,10 +14,10 @@ use Rattle.coding.specs.Coding.{codingOf, characterSet, dataOctets, dataWith, d
 use Rattle.coding.specs.declared.UserData.{UserData}
 use Rattle.time.specs.Time.{isTime, timeOctets, timeIn, digitsOf, clearedTime, capitalTime, TypedTime}
 use Rattle.time.specs.declared.Time.{Time}
-use Rattle.address.specs.Address.{addressIn, addressWith, textHeld, clearedAddress, TypedAddress}
+use Rattle.address.specs.Address.{addressIn, addressWith, septetsRead, textHeld, clearedAddress, TypedAddress}
 use Rattle.address.specs.Writing.{addressOctets, octetsOr, addressChecks}
 use Rattle.address.specs.declared.SMSAddress.{SMSAddress}
-use Rattle.layout.specs.Layout.{Format, Layout, plain, done, _then_, isSet}
+use Rattle.layout.specs.Layout.{Format, Layout, plain, done, _then_, address as addressKind, isSet, cut}
 use Rattle.parameters.specs.Checking.{indicatorChecks, dataWithin}
 use Rattle.parameters.specs.Optional.{octetsHeld}
 use Rattle.parameters.specs.Parameters.{Parameters, parametersOctets}
@@ -25,6 +25,7 @@ use Rattle.parameters.specs.declared.OptionalOctet.{OptionalOctet}
 use Rattle.parameters.specs.declared.OptionalOctet.the-variants.{Absent, Present}
 use Rattle.status_report.specs.Layout.{Fields, fields}
 use Rattle.status_report.specs.declared.SmsStatusReport.{SmsStatusReport}
+use Rattle.status_report.specs.declared.StatusReportRead.{StatusReportRead}
 
 -- ---- reading
 
@@ -72,6 +73,14 @@ blank = record {
   «tp_user_data_length» = Absent;
   «tp_user_data» = dataWith [];
 }
+
+-- what an answer of the reader says: its outcome and the record, and beside them how many escapes were replaced
+abbrev pub statusReportReadSays : StatusReportRead → (Said Unit × SmsStatusReport) × ℕ
+statusReportReadSays r = ((outcomeSays (r .outcome), r .message), r .«replaced_escapes»)
+
+-- what is read as text in a string: the recipient address, after first octet and reference, where its type is 5. User data stay octets
+abbrev pub textsRead : List ℕ → SmsStatusReport → List (List ℕ)
+textsRead s r = septetsRead (cut addressKind (drop 2 s)) ∷ []
 
 -- ---- writing
 

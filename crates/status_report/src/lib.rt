@@ -3,11 +3,12 @@ pub mod reading;
 pub mod writing;
 
 ghost use mathlib.Core.Path.{_≡_};
-ghost use Rattle.octets.specs.Answers.{refuses, outcomeSays, writtenSays};
+ghost use Rattle.octets.specs.Answers.{refuses, writtenSays};
 ghost use Rattle.octets.specs.Lent.{lend};
-ghost use Rattle.layout.specs.Layout.{read, answer};
+ghost use Rattle.gsm7.specs.Reading.{replacedInAll};
+ghost use Rattle.layout.specs.Layout.{read, answer, replacedOf};
 ghost use Rattle.status_report.specs.Internal.{fieldsAt, Inside};
-ghost use Rattle.status_report.specs.StatusReport.{statusReported, statusReport, blank as blankMessage, firstWith, statusReportingWithin, statusReporting, statusReportingToStandard};
+ghost use Rattle.status_report.specs.StatusReport.{statusReported, statusReport, blank as blankMessage, statusReportReadSays, textsRead, firstWith, statusReportingWithin, statusReporting, statusReportingToStandard};
 use crate::reading::MTI_STATUS_REPORT;
 use crate::reading::StatusReportFields;
 use crate::reading::StatusReportFound;
@@ -40,10 +41,11 @@ pub struct SmsStatusReport {
     pub tp_user_data: UserData,
 }
 
-// What reading gives: the message, blank on a refusal.
+// What reading gives: the message, blank on a refusal, and the number of escapes in its text that led to no character of the extension table.
 pub struct StatusReportRead {
     pub outcome: Outcome,
     pub message: SmsStatusReport,
+    pub replaced_escapes: usize,
 }
 
 // The blank message.
@@ -69,9 +71,9 @@ fn blank() -> SmsStatusReport
 }
 
 // The message of fields that are there.
-fn message(data: &[u8], f: StatusReportFields) -> SmsStatusReport
-    requires { ⌜ Inside (now «data») (StatusReportFound.Whole f) ⌝ }
-    ensures { λ r. ⌜ r ≡ statusReported (fieldsAt (now («data» .entry)) f) ⌝ }
+fn message(data: &[u8], f: StatusReportFields) -> StatusReportRead
+    requires { ⌜ Inside (now «data») 2 (StatusReportFound.Whole f) ⌝ }
+    ensures { λ r. ⌜ r ≡ record { outcome = Outcome.Done; message = statusReported (fieldsAt (now («data» .entry)) f); «replaced_escapes» = replacedInAll (textsRead (now («data» .entry)) (statusReported (fieldsAt (now («data» .entry)) f))) } ⌝ }
 {
     let start = f.data;
     let end = start + f.octets;
@@ -80,25 +82,30 @@ fn message(data: &[u8], f: StatusReportFields) -> SmsStatusReport
     let pid = f.pid;
     let dcs = f.dcs;
     let udl = f.udl;
-    let recipient = address::address_at(data, f.address);
+    let read = address::address_at(data, f.address);
+    let recipient = read.address;
     let timestamp = time::time_at(data, f.timestamp);
     let discharge_time = time::time_at(data, f.discharge);
     let user_data = coding::data_with(&data[start..end]);
-    SmsStatusReport {
-        tp_udhi: first / 64 % 2 == 1,
-        tp_srq: first / 32 % 2 == 1,
-        tp_lp: first / 8 % 2 == 1,
-        tp_mms: first / 4 % 2 == 1,
-        tp_mr: f.mr,
-        tp_recipient_address: recipient,
-        tp_service_centre_timestamp: timestamp,
-        tp_discharge_time: discharge_time,
-        tp_status: f.status,
-        tp_parameter_indicator: indicator,
-        tp_pid: pid,
-        tp_dcs: dcs,
-        tp_user_data_length: udl,
-        tp_user_data: user_data,
+    StatusReportRead {
+        outcome: Outcome::Done,
+        message: SmsStatusReport {
+            tp_udhi: first / 64 % 2 == 1,
+            tp_srq: first / 32 % 2 == 1,
+            tp_lp: first / 8 % 2 == 1,
+            tp_mms: first / 4 % 2 == 1,
+            tp_mr: f.mr,
+            tp_recipient_address: recipient,
+            tp_service_centre_timestamp: timestamp,
+            tp_discharge_time: discharge_time,
+            tp_status: f.status,
+            tp_parameter_indicator: indicator,
+            tp_pid: pid,
+            tp_dcs: dcs,
+            tp_user_data_length: udl,
+            tp_user_data: user_data,
+        },
+        replaced_escapes: read.replaced,
     }
 }
 
@@ -172,17 +179,15 @@ impl SmsStatusReport {
 
     // Reads a message.
     pub fn decode(data: &[u8]) -> StatusReportRead
-        ensures { λ r. ⌜ (outcomeSays (r .outcome), r .message) ≡ answer blankMessage (read statusReport (now («data» .entry))) ⌝ }
+        ensures { λ r. ⌜ statusReportReadSays r ≡ (answer blankMessage (read statusReport (now («data» .entry))), replacedOf (textsRead (now («data» .entry))) (read statusReport (now («data» .entry)))) ⌝ }
     {
         match reading::fields_of(data) {
             StatusReportFound::Refused(r) => StatusReportRead {
                 outcome: Outcome::Refused(r),
                 message: blank(),
+                replaced_escapes: 0,
             },
-            StatusReportFound::Whole(f) => StatusReportRead {
-                outcome: Outcome::Done,
-                message: message(data, f),
-            },
+            StatusReportFound::Whole(f) => message(data, f),
         }
     }
 }

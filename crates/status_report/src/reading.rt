@@ -49,7 +49,7 @@ fn after_status(
     place: Place,
 ) -> StatusReportFound
     requires { ⌜ (address + addressSize (drop address (now «data»)) ≤ length (now «data»)) × (timestamp + 7 ≤ length (now «data»)) × (discharge + 7 ≤ length (now «data»)) × (place .at ≤ length (now «data»)) ⌝ }
-    ensures { λ r. ⌜ (foundSays (now («data» .entry)) r ≡ readFrom (afterStatus (fieldsWith (kept bits first) mr (canonicalAddress (cut addressKind (drop address (now («data» .entry))))) (take 7 (drop timestamp (now («data» .entry)))) (take 7 (drop discharge (now («data» .entry)))) status)) (now («data» .entry)) (place .at)) × Inside (now («data» .entry)) r ⌝ }
+    ensures { λ r. ⌜ (foundSays (now («data» .entry)) r ≡ readFrom (afterStatus (fieldsWith (kept bits first) mr (canonicalAddress (cut addressKind (drop address (now («data» .entry))))) (take 7 (drop timestamp (now («data» .entry)))) (take 7 (drop discharge (now («data» .entry)))) status)) (now («data» .entry)) (place .at)) × Inside (now («data» .entry)) address r ⌝ }
 {
     let at = place.at;
     if at >= data.len() {
@@ -98,7 +98,7 @@ fn after_status(
 // What follows the address.
 fn after_address(data: &[u8], first: u8, mr: u8, address: usize, place: Place) -> StatusReportFound
     requires { ⌜ (address + addressSize (drop address (now «data»)) ≤ length (now «data»)) × (place .at ≤ length (now «data»)) ⌝ }
-    ensures { λ r. ⌜ (foundSays (now («data» .entry)) r ≡ readFrom (afterAddress (kept bits first) mr (canonicalAddress (cut addressKind (drop address (now («data» .entry)))))) (now («data» .entry)) (place .at)) × Inside (now («data» .entry)) r ⌝ }
+    ensures { λ r. ⌜ (foundSays (now («data» .entry)) r ≡ readFrom (afterAddress (kept bits first) mr (canonicalAddress (cut addressKind (drop address (now («data» .entry)))))) (now («data» .entry)) (place .at)) × Inside (now («data» .entry)) address r ⌝ }
 {
     let Span::There(timestamp, place2) = place.span(data, 7) else {
         return StatusReportFound::Refused(Refusal::OctetsEnd);
@@ -123,7 +123,7 @@ fn after_address(data: &[u8], first: u8, mr: u8, address: usize, place: Place) -
 
 // The fields of a message.
 pub fn fields_of(data: &[u8]) -> StatusReportFound
-    ensures { λ r. ⌜ (foundSays (now («data» .entry)) r ≡ readFrom fields (now («data» .entry)) 0) × Inside (now («data» .entry)) r ⌝ }
+    ensures { λ r. ⌜ (foundSays (now («data» .entry)) r ≡ readFrom fields (now («data» .entry)) 0) × Inside (now («data» .entry)) 2 r ⌝ }
 {
     let start = Place { at: 0 };
     let Octet::Read(first, place) = start.octet(data) else {

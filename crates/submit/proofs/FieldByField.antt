@@ -22,7 +22,7 @@ use Rattle.coding.proofs.Laws.{data-at-most}
 use Rattle.address.specs.Address.{addressSize, canonicalAddress}
 use Rattle.address.specs.Internal.{addressSpan}
 use Rattle.layout.specs.Layout.{Format, any, upTo, address, userData, isSet, field, require, done, cut, kept, messageType, Reached, reached, halted, readFrom}
-use Rattle.layout.proofs.Steps.{message-goes-on, message-differs, message-ends, octet-goes-on, octet-ends, span-goes-on, span-ends, address-goes-on, address-ends, require-holds, require-fails, done-reached, address-inside}
+use Rattle.layout.proofs.Steps.{message-goes-on, message-differs, message-ends, octet-goes-on, octet-ends, span-goes-on, span-ends, address-goes-on, address-ends, require-holds, require-fails, done-reached, address-inside, address-starts}
 use Rattle.validity_period.specs.Validity.{periodSize}
 use Rattle.submit.specs.Layout.{Fields, formatIn, headerSize, inCount, bits, fields}
 use Rattle.submit.specs.Internal.{afterCoding, afterFirst}
@@ -139,3 +139,7 @@ module _ (s : List ℕ) where
               -- the address and the place lie in the string
               pub room : (da + addressSize (drop da s) ≤ length s) × (p₅ .at ≤ length s)
               room = (address-inside s p₂ e₃ (omega (arith, octet-read s p e₂)) .0, omega (arith, octet-read s p₄ e₅))
+
+          -- the address stands after first octet and reference
+          pub address-third : da ≡ 2
+          address-third = omega (arith, octet-read s start e₁, octet-read s p e₂, address-starts s p₂ e₃)

@@ -48,12 +48,12 @@ abbrev pub foundSays : List ℕ → SubmitFound → Reached Fields
 foundSays s (SubmitFound.Whole p) = reached (fieldsAt s p) (p .«data» + p .octets)
 foundSays s (SubmitFound.Refused why) = halted why
 
--- the places lie in the string, validity and data are as long as the format and the UDL say, and the header fits the data and the UDL
-abbrev pub Inside : List ℕ → SubmitFound → Type 0
-Inside s (SubmitFound.Whole p) =
+-- the places lie in the string, the address's is the given one; validity and data are as long as the format and the UDL say, and the header fits the data and the UDL
+abbrev pub Inside : List ℕ → ℕ → SubmitFound → Type 0
+Inside s at (SubmitFound.Whole p) =
     (p .address + addressSize (drop (p .address) s) ≤ length s) × (p .validity + p .«validity_octets» ≤ length s) × (p .«validity_octets» ≡ periodSize (formatIn (p .first))) × (p .«data» + p .octets ≤ length s) × (p .octets ≤ 255)
-    × (p .octets ≡ dataOctets (codingOf (p .dcs)) (p .udl)) × (p .header ≡ headerSize (isSet 6 (p .first)) (take (p .octets) (drop (p .«data») s))) × (p .header ≤ p .octets) × (inCount (codingOf (p .dcs)) (p .udl) (p .header) ≡ true)
-Inside s (SubmitFound.Refused why) = Unit
+    × (p .octets ≡ dataOctets (codingOf (p .dcs)) (p .udl)) × (p .header ≡ headerSize (isSet 6 (p .first)) (take (p .octets) (drop (p .«data») s))) × (p .header ≤ p .octets) × (inCount (codingOf (p .dcs)) (p .udl) (p .header) ≡ true) × (p .address ≡ at)
+Inside s at (SubmitFound.Refused why) = Unit
 
 -- ---- writing
 

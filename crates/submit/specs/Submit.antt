@@ -20,10 +20,10 @@ use Rattle.gsm7.specs.Alphabet.{character}
 use Rattle.gsm7.specs.Reading.{utf8, textOf, afterEscape}
 use Rattle.time.specs.Time.{timeIn, digitsOf, clearedTime, capitalTime, TypedTime}
 use Rattle.time.specs.declared.Time.{Time}
-use Rattle.address.specs.Address.{addressIn, addressWith, textHeld, clearedAddress, TypedAddress}
+use Rattle.address.specs.Address.{addressIn, addressWith, septetsRead, textHeld, clearedAddress, TypedAddress}
 use Rattle.address.specs.Writing.{addressOctets, octetsOr, addressChecks}
 use Rattle.address.specs.declared.SMSAddress.{SMSAddress}
-use Rattle.layout.specs.Layout.{Format, Layout, plain, Reached, reached, halted, done, _then_, isSet, messageType}
+use Rattle.layout.specs.Layout.{Format, Layout, plain, Reached, reached, halted, done, _then_, address as addressKind, isSet, messageType, cut}
 use Rattle.validity_period.specs.Validity.{periodIn, ofFormat, formatOf, isAbsolute, periodOctets, timeHolds}
 use Rattle.validity_period.specs.declared.ValidityPeriod.{ValidityPeriod}
 use Rattle.submit.specs.Layout.{Fields, formatIn, headerSize, inCount, fields}
@@ -45,6 +45,18 @@ known-readable : (readable Gsm7Bit 1 0 (0x41 ∷ []) ≡ 0x41 ∷ []) × (readab
     × (readable EightBit 2 2 (0x01 ∷ 0x41 ∷ []) ≡ 0x01 ∷ 0x41 ∷ [])
 unfolding readable textOf afterEscape utf8 character septetsIn numberOf lowestDigits
 known-readable = (refl, refl, refl)
+
+-- the septets of user data that are read as text: in 7-bit coding those after the header, in other codings none
+unfoldable pub dataSeptets : UserDataCoding → ℕ → ℕ → List ℕ → List ℕ
+dataSeptets Gsm7Bit udl h ud = septetsIn (drop h ud) (fillBits h) (udl - headerSeptets h)
+dataSeptets EightBit udl h ud = []
+dataSeptets Ucs2 udl h ud = []
+dataSeptets Compressed udl h ud = []
+
+-- an escape and "A" alone; after the header 01 1B, which is no text; 8-bit data
+known-septets : (dataSeptets Gsm7Bit 2 0 (0x9b ∷ 0x20 ∷ []) ≡ 0x1b ∷ 0x41 ∷ []) × (dataSeptets Gsm7Bit 5 2 (0x01 ∷ 0x1b ∷ 0x60 ∷ 0x13 ∷ 0x04 ∷ []) ≡ 0x1b ∷ 0x41 ∷ []) × (dataSeptets EightBit 2 0 (0x9b ∷ 0x20 ∷ []) ≡ [])
+unfolding dataSeptets septetsIn numberOf lowestDigits
+known-septets = (refl, refl, refl)
 
 unfoldable pub textWith : List ℕ → SubmitText
 textWith xs = record { octets = pad 510 xs; length = length xs }
@@ -108,14 +120,20 @@ blank = record {
   «tp_user_data» = textWith [];
 }
 
--- what an answer of the reader says: its outcome and the record, and beside them how many octets were read
-abbrev pub submitReadSays : SubmitRead → (Said Unit × SmsSubmit) × ℕ
-submitReadSays r = ((outcomeSays (r .outcome), r .message), r .«octets_read»)
+-- what an answer of the reader says: its outcome and the record, and beside them how many octets were read, and how many escapes were replaced
+abbrev pub submitReadSays : SubmitRead → (Said Unit × SmsSubmit) × ℕ × ℕ
+submitReadSays r = ((outcomeSays (r .outcome), r .message), r .«octets_read», r .«replaced_escapes»)
 
--- that number, 0 on a refusal
+-- the number of octets, 0 on a refusal
 abbrev pub octetsTaken : {R : Type 0} → Reached R → ℕ
 octetsTaken (reached r at) = at
 octetsTaken (halted why) = 0
+
+-- what is read as text in a string: the destination address, after first octet and reference, where its type is 5; and in 7-bit coding what follows the header of the user data, which are as the record holds them
+abbrev pub textsRead : List ℕ → SmsSubmit → List (List ℕ)
+textsRead s r =
+    let ud = dataOf (r .«tp_user_data_raw») in
+    septetsRead (cut addressKind (drop 2 s)) ∷ dataSeptets (codingOf (r .«tp_dcs»)) (r .«tp_user_data_length») (headerSize (r .«tp_udhi») ud) ud ∷ []
 
 -- ---- writing
 

@@ -5,18 +5,18 @@ pub mod writing;
 ghost use mathlib.Core.Path.{_≡_};
 ghost use mathlib.Core.Bool.{true};
 ghost use mathlib.Core.List.{[], _++_};
-ghost use Prim.Native.Nat.{_-_, _≤_};
+ghost use Prim.Native.Nat.{_+_, _-_, _≤_};
 ghost use lib.ListN.{length, take, drop};
 ghost use Rattle.octets.specs.Answers.{refuses, writtenSays};
 ghost use Rattle.octets.specs.Choice.{lengthIf};
 ghost use Rattle.octets.specs.Lent.{Wrote, lend};
 ghost use Rattle.coding.specs.Coding.{dataOctets};
 ghost use Rattle.septets.specs.Septets.{headerSeptets, fillBits, septetsIn};
-ghost use Rattle.gsm7.specs.Reading.{textOf};
-ghost use Rattle.layout.specs.Layout.{read, answer};
+ghost use Rattle.gsm7.specs.Reading.{textOf, replacedIn, replacedInAll};
+ghost use Rattle.layout.specs.Layout.{read, answer, replacedOf};
 ghost use Rattle.submit.specs.Layout.{inCount};
 ghost use Rattle.submit.specs.Internal.{fieldsAt, Inside};
-ghost use Rattle.submit.specs.Submit.{submit, submitted, blank as blankMessage, octetsTaken, submitReadSays, readable, textWith, submitting};
+ghost use Rattle.submit.specs.Submit.{submit, submitted, blank as blankMessage, octetsTaken, submitReadSays, textsRead, readable, dataSeptets, textWith, submitting};
 use crate::reading::MTI_SUBMIT;
 use crate::reading::SubmitFields;
 use crate::reading::SubmitFound;
@@ -25,6 +25,7 @@ use address::SMSAddress;
 use address::writing::AddressCheck;
 use coding::UserData;
 use coding::UserDataCoding;
+use gsm7::decode::TextPut;
 use octets::Checked;
 use octets::Outcome;
 use octets::Refusal;
@@ -61,11 +62,12 @@ pub struct SmsSubmit {
     pub tp_user_data: SubmitText,
 }
 
-// What reading gives: the message and the number of octets read, blank and 0 on a refusal.
+// What reading gives: the message, the number of octets read, and the number of escapes in its text that led to no character of the extension table; blank and 0 on a refusal.
 pub struct SubmitRead {
     pub outcome: Outcome,
     pub message: SmsSubmit,
     pub octets_read: usize,
+    pub replaced_escapes: usize,
 }
 
 // The blank message.
@@ -95,10 +97,10 @@ fn blank() -> SmsSubmit
     }
 }
 
-// Stores a header of h octets and the text after it; their number of octets.
-fn put_with_header(septets: usize, h: usize, data: &[u8], text: &mut [u8; 510]) -> usize
+// Stores a header of h octets and the text after it.
+fn put_with_header(septets: usize, h: usize, data: &[u8], text: &mut [u8; 510]) -> TextPut
     requires { ⌜ (h ≤ length (now «data»)) × (headerSeptets h ≤ septets) × (septets ≤ 255) × (length (now text) ≡ 510) ⌝ }
-    ensures { λ r. ⌜ Wrote 0 (take h (now («data» .entry)) ++ textOf (septetsIn (drop h (now («data» .entry))) (fillBits h) (septets - headerSeptets h))) (now (text .entry)) r (now (text .exit)) ⌝ }
+    ensures { λ r. ⌜ Wrote 0 (take h (now («data» .entry)) ++ textOf (septetsIn (drop h (now («data» .entry))) (fillBits h) (septets - headerSeptets h))) (now (text .entry)) (r .end) (now (text .exit)) × (r .replaced ≡ replacedIn (septetsIn (drop h (now («data» .entry))) (fillBits h) (septets - headerSeptets h))) ⌝ }
 {
     let in_header = septets::header_septets(h);
     let at = octets::put_octets(text, 0, &data[..h]);
@@ -111,22 +113,33 @@ fn put_with_header(septets: usize, h: usize, data: &[u8], text: &mut [u8; 510]) 
     )
 }
 
-// Stores the readable form of user data; its number of octets.
+// Stores user data as they stand.
+fn put_raw(data: &[u8], text: &mut [u8; 510]) -> TextPut
+    requires { ⌜ length (now «data») ≤ length (now text) ⌝ }
+    ensures { λ r. ⌜ Wrote 0 (now («data» .entry)) (now (text .entry)) (r .end) (now (text .exit)) × (r .replaced ≡ 0) ⌝ }
+{
+    TextPut {
+        end: octets::put_octets(text, 0, data),
+        replaced: 0,
+    }
+}
+
+// Stores the readable form of user data.
 fn put_readable(
     coding: UserDataCoding,
     udl: u8,
     h: usize,
     data: &[u8],
     text: &mut [u8; 510],
-) -> usize
+) -> TextPut
     requires { ⌜ (h ≤ length (now «data»)) × (inCount coding udl h ≡ true) × (length (now «data») ≡ dataOctets coding udl) × (length (now text) ≡ 510) ⌝ }
-    ensures { λ r. ⌜ Wrote 0 (readable coding udl h (now («data» .entry))) (now (text .entry)) r (now (text .exit)) ⌝ }
+    ensures { λ r. ⌜ Wrote 0 (readable coding udl h (now («data» .entry))) (now (text .entry)) (r .end) (now (text .exit)) × (r .replaced ≡ replacedIn (dataSeptets coding udl h (now («data» .entry)))) ⌝ }
 {
     match coding {
         UserDataCoding::Gsm7Bit => put_with_header(udl as usize, h, data, text),
-        UserDataCoding::EightBit => octets::put_octets(text, 0, data),
-        UserDataCoding::Ucs2 => octets::put_octets(text, 0, data),
-        UserDataCoding::Compressed => octets::put_octets(text, 0, data),
+        UserDataCoding::EightBit => put_raw(data, text),
+        UserDataCoding::Ucs2 => put_raw(data, text),
+        UserDataCoding::Compressed => put_raw(data, text),
     }
 }
 
@@ -140,20 +153,10 @@ fn no_text() -> SubmitText
     }
 }
 
-// The readable form of user data.
-fn text_in(coding: UserDataCoding, udl: u8, h: usize, data: &[u8]) -> SubmitText
-    requires { ⌜ (h ≤ length (now «data»)) × (inCount coding udl h ≡ true) × (length (now «data») ≡ dataOctets coding udl) ⌝ }
-    ensures { λ r. ⌜ r ≡ textWith (readable coding udl h (now («data» .entry))) ⌝ }
-{
-    let mut octets = [0u8; 510];
-    let n = put_readable(coding, udl, h, data, &mut octets);
-    SubmitText { octets, length: n }
-}
-
 // The message of fields that are there.
-fn message(data: &[u8], f: SubmitFields) -> SmsSubmit
-    requires { ⌜ Inside (now «data») (SubmitFound.Whole f) ⌝ }
-    ensures { λ r. ⌜ r ≡ submitted (fieldsAt (now («data» .entry)) f) ⌝ }
+fn message(data: &[u8], f: SubmitFields) -> SubmitRead
+    requires { ⌜ Inside (now «data») 2 (SubmitFound.Whole f) ⌝ }
+    ensures { λ r. ⌜ r ≡ record { outcome = Outcome.Done; message = submitted (fieldsAt (now («data» .entry)) f); «octets_read» = f .«data» + f .octets; «replaced_escapes» = replacedInAll (textsRead (now («data» .entry)) (submitted (fieldsAt (now («data» .entry)) f))) } ⌝ }
 {
     let first = f.first;
     let dcs = f.dcs;
@@ -162,49 +165,58 @@ fn message(data: &[u8], f: SubmitFields) -> SmsSubmit
     let format = first / 8 % 4;
     let validity = f.validity;
     let start = f.data;
+    let end = start + f.octets;
     let vp = &data[validity..validity + f.validity_octets];
-    let ud = &data[start..start + f.octets];
-    SmsSubmit {
-        tp_rp: first / 128 % 2 == 1,
-        tp_udhi: first / 64 % 2 == 1,
-        tp_srr: first / 32 % 2 == 1,
-        tp_mti: first % 4,
-        tp_rd: first / 4 % 2 == 1,
-        tp_vpf: format,
-        tp_mr: f.mr,
-        has_destination_address: true,
-        tp_destination_address: address::address_at(data, f.address),
-        tp_pid: f.pid,
-        tp_dcs: dcs,
-        tp_validity_period: validity_period::period_in(format, vp),
-        validity_period_digits: validity_period::digits_in(format, vp),
-        validity_period_octets: validity_period::enhanced_in(format, vp),
-        tp_user_data_length: udl,
-        tp_user_data_raw: coding::data_with(ud),
-        has_user_data_header: first / 64 % 2 == 1,
-        tp_user_data_header: coding::data_with(&ud[..h]),
-        tp_user_data: text_in(coding::user_data_coding(dcs), udl, h, ud),
+    let ud = &data[start..end];
+    let read = address::address_at(data, f.address);
+    let destination = read.address;
+    let in_address = read.replaced;
+    let mut octets = [0u8; 510];
+    let put = put_readable(coding::user_data_coding(dcs), udl, h, ud, &mut octets);
+    let replaced_escapes = in_address + put.replaced;
+    SubmitRead {
+        outcome: Outcome::Done,
+        message: SmsSubmit {
+            tp_rp: first / 128 % 2 == 1,
+            tp_udhi: first / 64 % 2 == 1,
+            tp_srr: first / 32 % 2 == 1,
+            tp_mti: first % 4,
+            tp_rd: first / 4 % 2 == 1,
+            tp_vpf: format,
+            tp_mr: f.mr,
+            has_destination_address: true,
+            tp_destination_address: destination,
+            tp_pid: f.pid,
+            tp_dcs: dcs,
+            tp_validity_period: validity_period::period_in(format, vp),
+            validity_period_digits: validity_period::digits_in(format, vp),
+            validity_period_octets: validity_period::enhanced_in(format, vp),
+            tp_user_data_length: udl,
+            tp_user_data_raw: coding::data_with(ud),
+            has_user_data_header: first / 64 % 2 == 1,
+            tp_user_data_header: coding::data_with(&ud[..h]),
+            tp_user_data: SubmitText {
+                octets,
+                length: put.end,
+            },
+        },
+        octets_read: end,
+        replaced_escapes,
     }
 }
 
 // Reads a message.
 pub fn decode_sms_submit_tpdu(data: &[u8]) -> SubmitRead
-    ensures { λ r. ⌜ submitReadSays r ≡ (answer blankMessage (read submit (now («data» .entry))), octetsTaken (read submit (now («data» .entry)))) ⌝ }
+    ensures { λ r. ⌜ submitReadSays r ≡ (answer blankMessage (read submit (now («data» .entry))), octetsTaken (read submit (now («data» .entry))), replacedOf (textsRead (now («data» .entry))) (read submit (now («data» .entry)))) ⌝ }
 {
     match reading::fields_of(data) {
         SubmitFound::Refused(r) => SubmitRead {
             outcome: Outcome::Refused(r),
             message: blank(),
             octets_read: 0,
+            replaced_escapes: 0,
         },
-        SubmitFound::Whole(f) => {
-            let octets_read = f.data + f.octets;
-            SubmitRead {
-                outcome: Outcome::Done,
-                message: message(data, f),
-                octets_read,
-            }
-        }
+        SubmitFound::Whole(f) => message(data, f),
     }
 }
 

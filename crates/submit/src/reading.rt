@@ -72,7 +72,7 @@ fn after_coding(
     place: Place,
 ) -> SubmitFound
     requires { ⌜ (address + addressSize (drop address (now «data»)) ≤ length (now «data»)) × (place .at ≤ length (now «data»)) ⌝ }
-    ensures { λ r. ⌜ (foundSays (now («data» .entry)) r ≡ readFrom (afterCoding first mr (canonicalAddress (cut addressKind (drop address (now («data» .entry))))) pid dcs) (now («data» .entry)) (place .at)) × Inside (now («data» .entry)) r ⌝ }
+    ensures { λ r. ⌜ (foundSays (now («data» .entry)) r ≡ readFrom (afterCoding first mr (canonicalAddress (cut addressKind (drop address (now («data» .entry))))) pid dcs) (now («data» .entry)) (place .at)) × Inside (now («data» .entry)) address r ⌝ }
 {
     let validity_octets = validity_period::validity_octets(first / 8 % 4);
     let Span::There(validity, place2) = place.span(data, validity_octets) else {
@@ -110,7 +110,7 @@ fn after_coding(
 
 // The fields of a message.
 pub fn fields_of(data: &[u8]) -> SubmitFound
-    ensures { λ r. ⌜ (foundSays (now («data» .entry)) r ≡ readFrom fields (now («data» .entry)) 0) × Inside (now («data» .entry)) r ⌝ }
+    ensures { λ r. ⌜ (foundSays (now («data» .entry)) r ≡ readFrom fields (now («data» .entry)) 0) × Inside (now («data» .entry)) 2 r ⌝ }
 {
     let start = Place { at: 0 };
     let Octet::Read(first, place) = start.octet(data) else {

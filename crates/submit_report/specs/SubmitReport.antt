@@ -2,9 +2,9 @@
 use Prim.Native.Nat.{ℕ}
 use mathlib.Core.Path.{_≡_, refl}
 use mathlib.Core.Bool.{Bool, true, false, _||_}
-use mathlib.Core.List.{[], _∷_}
+use mathlib.Core.List.{List, [], _∷_}
 use lib.Dec.{ltb}
-use Rattle.octets.specs.Answers.{Said, refuses, fine}
+use Rattle.octets.specs.Answers.{Said, outcomeSays, refuses, fine}
 use Rattle.octets.specs.Checks.{found}
 use Rattle.octets.specs.Choice.{if_then_else_}
 use Rattle.octets.specs.Lent.{Making, refused}
@@ -22,6 +22,7 @@ use Rattle.parameters.specs.declared.OptionalOctet.the-variants.{Absent, Presen
 use Rattle.submit_report.specs.Layout.{submitReported, format}
 use Rattle.submit_report.specs.Writing.{making}
 use Rattle.submit_report.specs.declared.SmsSubmitReport.{SmsSubmitReport}
+use Rattle.submit_report.specs.declared.SubmitReportRead.{SubmitReportRead}
 
 -- ---- reading
 
@@ -55,6 +56,14 @@ known-reports : (read error (0x05 ∷ []) ≡ reached stopped 1) × (canonicalOf
     ≡ reached (submitReported 1 (Present 0x80) 0x81 (0x42 ∷ 0x20 ∷ 0x51 ∷ 0x21 ∷ 0x03 ∷ 0x54 ∷ 0x00 ∷ []) (record { pid = Present 0x11; dcs = Absent; udl = Absent; ud = [] })) 12)
 unfolding format read readFrom reading after stops canonicalOf fieldsOf parameters kept indicatorSize
 known-reports = (refl, refl, refl, refl, refl)
+
+-- what an answer of a reader says: its outcome and the record, and beside them how many escapes were replaced
+abbrev pub submitReportReadSays : SubmitReportRead → (Said Unit × SmsSubmitReport) × ℕ
+submitReportReadSays r = ((outcomeSays (r .outcome), r .message), r .«replaced_escapes»)
+
+-- what is read as text in a string: nothing. User data stay octets
+abbrev pub textsRead : List ℕ → SmsSubmitReport → List (List ℕ)
+textsRead s r = []
 
 -- ---- writing
 

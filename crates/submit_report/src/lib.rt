@@ -4,12 +4,12 @@ pub mod writing;
 ghost use mathlib.Core.Path.{_≡_};
 ghost use Prim.Native.Nat.{_+_, _-_, _≤_};
 ghost use lib.ListN.{length, take, drop};
-ghost use Rattle.octets.specs.Answers.{refuses, outcomeSays, writtenSays};
+ghost use Rattle.octets.specs.Answers.{refuses, writtenSays};
 ghost use Rattle.octets.specs.Lent.{lend};
-ghost use Rattle.layout.specs.Layout.{read, readFrom, answer};
+ghost use Rattle.layout.specs.Layout.{read, readFrom, answer, replacedOf};
 ghost use Rattle.submit_report.specs.Layout.{submitReported};
 ghost use Rattle.submit_report.specs.Internal.{afterCause};
-ghost use Rattle.submit_report.specs.SubmitReport.{causeAlone, blank as blankReport, stopped as stoppedReport, ack, error, standardLimit, submitReportingWithin, submitReporting, submitReportingToStandard};
+ghost use Rattle.submit_report.specs.SubmitReport.{causeAlone, blank as blankReport, stopped as stoppedReport, ack, error, submitReportReadSays, textsRead, standardLimit, submitReportingWithin, submitReporting, submitReportingToStandard};
 use crate::writing::MTI_SUBMIT;
 use coding::UserData;
 use octets::Octet;
@@ -42,15 +42,16 @@ pub struct SmsSubmitReport {
     pub tp_user_data: UserData,
 }
 
-// What reading gives: the message, blank on a refusal.
+// What reading gives: the message, blank on a refusal, and the number of escapes in its text that led to no character of the extension table. The kind has no text: 0.
 pub struct SubmitReportRead {
     pub outcome: Outcome,
     pub message: SmsSubmitReport,
+    pub replaced_escapes: usize,
 }
 
 // A report with a cause or none, and nothing else.
 fn cause_alone(outcome: Outcome, cause: OptionalOctet) -> SubmitReportRead
-    ensures { λ r. ⌜ r ≡ record { outcome = outcome; message = causeAlone cause } ⌝ }
+    ensures { λ r. ⌜ r ≡ record { outcome = outcome; message = causeAlone cause; «replaced_escapes» = 0 } ⌝ }
 {
     SubmitReportRead {
         outcome,
@@ -64,19 +65,20 @@ fn cause_alone(outcome: Outcome, cause: OptionalOctet) -> SubmitReportRead
             tp_user_data_length: OptionalOctet::Absent,
             tp_user_data: coding::no_data(),
         },
+        replaced_escapes: 0,
     }
 }
 
 // A refusal, with the blank report.
 fn refused(why: Refusal) -> SubmitReportRead
-    ensures { λ r. ⌜ r ≡ record { outcome = Outcome.Refused why; message = blankReport } ⌝ }
+    ensures { λ r. ⌜ r ≡ record { outcome = Outcome.Refused why; message = blankReport; «replaced_escapes» = 0 } ⌝ }
 {
     cause_alone(Outcome::Refused(why), OptionalOctet::Absent)
 }
 
 // A report that is read no further: its cause is unspecified.
 fn stopped() -> SubmitReportRead
-    ensures { λ r. ⌜ r ≡ record { outcome = Outcome.Done; message = stoppedReport } ⌝ }
+    ensures { λ r. ⌜ r ≡ record { outcome = Outcome.Done; message = stoppedReport; «replaced_escapes» = 0 } ⌝ }
 {
     cause_alone(
         Outcome::Done,
@@ -98,7 +100,7 @@ fn report(
     end: usize,
 ) -> SubmitReportRead
     requires { ⌜ (scts + 7 ≤ length (now «data»)) × (n ≤ end) × (end ≤ length (now «data»)) × (n ≤ 255) ⌝ }
-    ensures { λ r. ⌜ r ≡ record { outcome = Outcome.Done; message = submitReported udhi cause indicator (take 7 (drop scts (now («data» .entry)))) (record { pid = pid; dcs = dcs; udl = udl; ud = take n (drop (end - n) (now («data» .entry))) }) } ⌝ }
+    ensures { λ r. ⌜ r ≡ record { outcome = Outcome.Done; message = submitReported udhi cause indicator (take 7 (drop scts (now («data» .entry)))) (record { pid = pid; dcs = dcs; udl = udl; ud = take n (drop (end - n) (now («data» .entry))) }); «replaced_escapes» = 0 } ⌝ }
 {
     let start = end - n;
     SubmitReportRead {
@@ -113,12 +115,13 @@ fn report(
             tp_user_data_length: udl,
             tp_user_data: coding::data_with(&data[start..end]),
         },
+        replaced_escapes: 0,
     }
 }
 
 // What follows first octet and cause.
 fn after_cause(data: &[u8], place: Place, udhi: u8, cause: OptionalOctet) -> SubmitReportRead
-    ensures { λ r. ⌜ (outcomeSays (r .outcome), r .message) ≡ answer blankReport (readFrom (afterCause udhi cause) (now («data» .entry)) (place .at)) ⌝ }
+    ensures { λ r. ⌜ submitReportReadSays r ≡ (answer blankReport (readFrom (afterCause udhi cause) (now («data» .entry)) (place .at)), replacedOf (textsRead (now («data» .entry))) (readFrom (afterCause udhi cause) (now («data» .entry)) (place .at))) ⌝ }
 {
     let Octet::Read(indicator, place2) = parameters::reading::read_indicator(data, place) else {
         return refused(Refusal::OctetsEnd);
@@ -149,7 +152,7 @@ fn standard_limit(cause: OptionalOctet) -> usize
 impl SmsSubmitReport {
     // The layout carried in an RP-ACK (no TP-Failure-Cause).
     pub fn decode_for_rp_ack(data: &[u8]) -> SubmitReportRead
-        ensures { λ r. ⌜ (outcomeSays (r .outcome), r .message) ≡ answer blankReport (read ack (now («data» .entry))) ⌝ }
+        ensures { λ r. ⌜ submitReportReadSays r ≡ (answer blankReport (read ack (now («data» .entry))), replacedOf (textsRead (now («data» .entry))) (read ack (now («data» .entry)))) ⌝ }
     {
         let start = Place { at: 0 };
         let Octet::Read(first, place) = start.octet(data) else {
@@ -164,7 +167,7 @@ impl SmsSubmitReport {
     // The layout carried in an RP-ERROR (TP-Failure-Cause present). Where an unused bit of the first octet is set the
     // rest is not examined, and the cause reads as "Unspecified error cause".
     pub fn decode_for_rp_error(data: &[u8]) -> SubmitReportRead
-        ensures { λ r. ⌜ (outcomeSays (r .outcome), r .message) ≡ answer blankReport (read error (now («data» .entry))) ⌝ }
+        ensures { λ r. ⌜ submitReportReadSays r ≡ (answer blankReport (read error (now («data» .entry))), replacedOf (textsRead (now («data» .entry))) (read error (now («data» .entry)))) ⌝ }
     {
         let start = Place { at: 0 };
         let Octet::Read(first, place) = start.octet(data) else {

@@ -12,7 +12,7 @@ use Rattle.octets.specs.Arrays.{pad}
 use Rattle.octets.specs.Lent.{refused, Wrote}
 use Rattle.octets.specs.declared.Refusal.the-variants.{LengthTooLarge, HeaderNotWhole, HeaderPassesCount, TooFewOctets}
 use Rattle.septets.specs.Septets.{septetsIn, octetCount, headerSeptets}
-use Rattle.gsm7.specs.Reading.{textOf}
+use Rattle.gsm7.specs.Reading.{textOf, replacedIn}
 use Rattle.gsm7.specs.Packing.{packing}
 use Rattle.gsm7.proofs.DecodingLaws.{text-fits}
 use Rattle.octets.proofs.Laws.{sets-zeros}
@@ -39,7 +39,7 @@ module _ (os : List ℕ) (n : ℕ) where
         unfolding unpackedWithHeader
         read-few short = rw (le-ltb 255 n few, ← h-is, ← s-is, le-ltb _ _ whole, le-ltb _ _ fits, length-drop, lt-ltb _ _ short)
 
-        pub read-done : octetCount (s * 7 - h * 8) (n - s) ≤ length os - h → unpackedWithHeader os n ≡ headerGiven (take h os) (textOf (septetsIn (drop h os) (s * 7 - h * 8) (n - s)))
+        pub read-done : octetCount (s * 7 - h * 8) (n - s) ≤ length os - h → let ss = septetsIn (drop h os) (s * 7 - h * 8) (n - s) in unpackedWithHeader os n ≡ headerGiven (take h os) (textOf ss) (replacedIn ss)
         unfolding unpackedWithHeader
         read-done enough = rw (le-ltb 255 n few, ← h-is, ← s-is, le-ltb _ _ whole, le-ltb _ _ fits, length-drop, le-ltb _ _ enough)
 
@@ -53,11 +53,11 @@ module _ (header text : List ℕ) where
   packing-good h = rw (eq-eqb _ _ h)
 
 -- a header of h octets, and the text of what runs from there to the end, in their arrays
-pub both-stored : (os : List ℕ) (h fill septets : ℕ) → h ≤ length os → septets ≤ 255 → {n : ℕ} {header array : List ℕ} → header ≡ pad 255 (take h os)
-    → Wrote 0 (textOf (septetsIn (take (length os - h) (drop h os)) fill septets)) (replicate 510 0) n array
-    → _≡_ {A = SaidHeader} (fine, header, h, array, n) (headerGiven (take h os) (textOf (septetsIn (drop h os) fill septets)))
+pub both-stored : (os : List ℕ) (h fill septets : ℕ) → h ≤ length os → septets ≤ 255 → {n m : ℕ} {header array : List ℕ} → header ≡ pad 255 (take h os)
+    → (let ss = septetsIn (take (length os - h) (drop h os)) fill septets in Wrote 0 (textOf ss) (replicate 510 0) n array × (m ≡ replacedIn ss))
+    → (let ss = septetsIn (drop h os) fill septets in _≡_ {A = SaidHeader} (fine, header, h, array, n, m) (headerGiven (take h os) (textOf ss) (replacedIn ss)))
 unfolding headerGiven
 both-stored os h fill septets whole few e w =
     let text = textOf (septetsIn (drop h os) fill septets) in
     let to-end : take (length os - h) (drop h os) ≡ drop h os = take-all (length os - h) (drop h os) (rw length-drop (le-refl _)) in
-    rw (e, length-take-le h os whole, w .place, w .list, to-end, zero-add, sets-zeros 510 text (text-fits (drop h os) fill septets few))
+    rw (e, length-take-le h os whole, w .0 .place, w .0 .list, w .1, to-end, zero-add, sets-zeros 510 text (text-fits (drop h os) fill septets few))

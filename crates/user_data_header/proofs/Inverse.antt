@@ -15,10 +15,10 @@ use Rattle.octets.specs.Lent.{made}
 use Rattle.octets.specs.declared.Refusal.{Refusal}
 use Rattle.septets.specs.Septets.{packedSeptets, septetsIn, headerSeptets, fillBits, octetCount}
 use Rattle.septets.proofs.Inverse.{length-packed, septets-septets, length-septets}
-use Rattle.gsm7.specs.Reading.{textOf}
+use Rattle.gsm7.specs.Reading.{textOf, replacedIn}
 use Rattle.gsm7.specs.Writing.{septetsOf}
 use Rattle.gsm7.specs.Packing.{SaidCounts, packedAs}
-use Rattle.gsm7.proofs.Adequate.{text-packed-text}
+use Rattle.gsm7.proofs.Adequate.{text-packed-text, packed-none-replaced}
 use Rattle.gsm7.specs.Packing.{octetsAfter}
 use Rattle.gsm7.proofs.PackingCases.{packing-made, packing-done}
 use Rattle.gsm7.proofs.EncodingLaws.{read-writable}
@@ -33,9 +33,9 @@ whole-header header text xs a p = by-test (eqb (length header) (headerOctets hea
     by-test true e = eqb-true _ _ e
     by-test false e = let r = packing-bad header text (eqb-false _ _ e) in let z : _≡_ {A = ℕ} 0 1 = cc in absurd (omega arith)
 
--- what was packed reads back as the same header and text
+-- what was packed reads back as the same header and text, none replaced
 after-reads : (header text ss : List ℕ) → length header ≡ headerOctets header → septetsOf text ≡ some ss → headerSeptets (length header) + length ss ≤ 255
-    → unpackedWithHeader (octetsAfter header ss) (headerSeptets (length header) + length ss) ≡ headerGiven header text
+    → unpackedWithHeader (octetsAfter header ss) (headerSeptets (length header) + length ss) ≡ headerGiven header text 0
 after-reads header text ss long e few =
     let h = length header in
     let packed = packedSeptets (fillBits h) ss in
@@ -47,21 +47,21 @@ after-reads header text ss long e few =
     let rest : drop h os ≡ packed = drop-at header packed h refl in
     let enough : octetCount (fillBits h) (n - headerSeptets h) ≤ length os - h = rw left (omega arith) in
     read-done os n few (sym first) (omega arith) refl (omega arith) enough
-    ∙ rw (left, rest, take-at header packed h refl) (ap (headerGiven header) (text-packed-text (fillBits h) text ss e))
+    ∙ rw (left, rest, take-at header packed h refl) (ap₂ (headerGiven header) (text-packed-text (fillBits h) text ss e) (packed-none-replaced (fillBits h) text ss e))
 
 pub packed-reads : (header text xs : List ℕ) (said : Said Unit) (octets septets : ℕ) → packingWithHeader header text ≡ made xs (said, octets, septets)
-    → unpackedWithHeader xs septets ≡ headerGiven header text
+    → unpackedWithHeader xs septets ≡ headerGiven header text 0
 packed-reads header text xs said octets septets p =
     let a : SaidCounts = (said, octets, septets) in
     let long = whole-header header text xs a p in
     let m = packing-made header text xs a (sym (packing-good header text long) ∙ p) in
     ap₂ unpackedWithHeader (m .3) (ap (λ (b : SaidCounts). b .2) (m .4)) ∙ after-reads header text (m .0) long (m .1) (m .2)
 
--- what was read can be packed, in no more septets, and then reads as the same header and text
+-- what was read can be packed, in no more septets, and then reads as the same header and text, none replaced
 abbrev Packs : List ℕ → ℕ → Type 0
 Packs os n =
-    (header : List ℕ) × (text : List ℕ) × (xs : List ℕ) × (k : ℕ) × (unpackedWithHeader os n ≡ headerGiven header text) × (packingWithHeader header text ≡ made xs (packedAs xs k))
-    × (k ≤ n) × (unpackedWithHeader xs k ≡ headerGiven header text)
+    (header : List ℕ) × (text : List ℕ) × (m : ℕ) × (xs : List ℕ) × (k : ℕ) × (unpackedWithHeader os n ≡ headerGiven header text m) × (packingWithHeader header text ≡ made xs (packedAs xs k))
+    × (k ≤ n) × (unpackedWithHeader xs k ≡ headerGiven header text 0)
 
 module _ (os : List ℕ) (n : ℕ) where
   abbrev h : ℕ
@@ -83,7 +83,7 @@ module _ (os : List ℕ) (n : ℕ) where
       let k = headerSeptets (length header) + length (w .0) in
       let under : k ≤ n = rw size (omega (arith, w .2, length-septets (drop h os) (fillBits h) (n - headerSeptets h))) in
       let made-is : packingWithHeader header text ≡ made xs (packedAs xs k) = packing-good header text (size ∙ rw first) ∙ packing-done header text (w .0) (w .1) (omega arith) in
-      (header, text, xs, k, read-done os n few refl whole refl fits enough, made-is, under, packed-reads header text xs fine (length xs) k made-is)
+      (header, text, replacedIn ss, xs, k, read-done os n few refl whole refl fits enough, made-is, under, packed-reads header text xs fine (length xs) k made-is)
 
   pub read-packs : unpackedWithHeader os n .0 ≡ fine → Packs os n
   read-packs d =

@@ -5,20 +5,21 @@ ghost use lib.ListN.{length, take, drop};
 ghost use Rattle.octets.specs.Lent.{lend};
 ghost use Rattle.octets.specs.declared.Refusal.the-variants.{LengthTooLarge, HeaderNotWhole, HeaderPassesCount, TooFewOctets};
 ghost use Rattle.septets.specs.Septets.{septetsIn};
-ghost use Rattle.gsm7.specs.Reading.{textOf};
+ghost use Rattle.gsm7.specs.Reading.{textOf, replacedIn};
 ghost use Rattle.gsm7.specs.Packing.{packedSays, notPacked};
 ghost use Rattle.user_data_header.specs.Header.{headerOctets, unpackedWithHeaderSays, headerGiven, headerRefused, unpackedWithHeader, packingWithHeader};
 use gsm7::packing::Packed;
 use octets::Outcome;
 use octets::Refusal;
 
-// A header, its length octet included, and the text after it.
+// A header, its length octet included, and the text after it, with the number of escapes in it that led to no character of the extension table.
 pub struct UnpackedWithHeader {
     pub outcome: Outcome,
     pub header: [u8; 255],
     pub header_length: usize,
     pub text: [u8; 510],
     pub text_length: usize,
+    pub replaced_escapes: usize,
 }
 
 fn refused(why: Refusal) -> UnpackedWithHeader
@@ -30,6 +31,7 @@ fn refused(why: Refusal) -> UnpackedWithHeader
         header_length: 0,
         text: [0u8; 510],
         text_length: 0,
+        replaced_escapes: 0,
     }
 }
 
@@ -67,16 +69,17 @@ pub fn header_octets(data: &[u8]) -> usize
 // A header of `h` octets, and the text of the septets that start `fill` bits after it, which are all there.
 fn header_and_text(data: &[u8], h: usize, fill: usize, septets: usize) -> UnpackedWithHeader
     requires { ⌜ (h ≤ length (now «data»)) × (h ≤ 255) × (fill < 8) × (septets ≤ 255) ⌝ }
-    ensures { λ r. ⌜ unpackedWithHeaderSays r ≡ headerGiven (take h (now («data» .entry))) (textOf (septetsIn (drop h (now («data» .entry))) fill septets)) ⌝ }
+    ensures { λ r. ⌜ unpackedWithHeaderSays r ≡ headerGiven (take h (now («data» .entry))) (textOf (septetsIn (drop h (now («data» .entry))) fill septets)) (replacedIn (septetsIn (drop h (now («data» .entry))) fill septets)) ⌝ }
 {
     let mut text = [0u8; 510];
-    let text_length = gsm7::decode::unpack_septets(&data[h..], fill, septets, &mut text, 0);
+    let put = gsm7::decode::unpack_septets(&data[h..], fill, septets, &mut text, 0);
     UnpackedWithHeader {
         outcome: Outcome::Done,
         header: octets::stored_octets(&data[..h]),
         header_length: h,
         text,
-        text_length,
+        text_length: put.end,
+        replaced_escapes: put.replaced,
     }
 }
 

@@ -34,6 +34,8 @@ pub const REFUSED: usize = 14;
 
 pub const ELEMENT: usize = 15;
 
+pub const NOTE: usize = 16;
+
 // The start of a line: two spaces, the label, and spaces up to the value.
 pub fn put_label(out: &mut Output, at: usize, label: usize) -> usize {
     let labels = b"\
@@ -52,7 +54,8 @@ pub fn put_label(out: &mut Output, at: usize, label: usize) -> usize {
         text      \n\
         data      \n\
         refused   \n\
-        element   \n";
+        element   \n\
+        note      \n";
     let indent = output::put(out, at, b"  ");
     output::put(out, indent, entry(labels, label))
 }

@@ -14,7 +14,8 @@ use Rattle.octets.specs.Lent.{Wrote}
 use Rattle.octets.proofs.Laws.{sets-zeros, part-is, part-size}
 use Rattle.octets.proofs.Each.{octets-take, octets-drop}
 use Rattle.address.specs.declared.SMSAddress.{SMSAddress}
-use Rattle.address.specs.Address.{typeOfNumber, planOf, valueText, addressWith, textIn, addressIn, addressSize}
+use Rattle.address.specs.Address.{typeOfNumber, planOf, valueText, valueSeptets, addressWith, textIn, addressIn, septetsRead, addressSize}
+use Rattle.gsm7.specs.Reading.{replacedIn}
 use Rattle.address.proofs.Shapes.{read-fits}
 use Rattle.address.proofs.address_at.Statement.{statement}
 use Rattle.address.proofs.address_at.Tie as tie
@@ -51,6 +52,10 @@ module _ (d : List ℕ) (at : ℕ) where
       let fits = read-fits ton 0 (getD d at 0) value small octets .3 in
       rw (type-octet, length-octet, value-octets, ← value-is, w .list, w .place, zero-add, sets-zeros 290 (valueText ton (getD d at 0) value) fits)
 
+  septets-are : (value : List ℕ) → value ≡ take ((getD d at 0 + 1) / 2) (drop (at + 2) d) → valueSeptets (typeOfNumber (getD d (at + 1) 0)) (getD d at 0) value ≡ septetsRead field
+  unfolding septetsRead
+  septets-are value value-is = rw (type-octet, length-octet, value-octets, ← value-is)
+
 -- a part of octets is octets
 cut-octets : (d : List ℕ) → Octets d → (n k : ℕ) → Octets (take n (drop k d))
 cut-octets d o n k = octets-take n (drop k d) (octets-drop k d o)
@@ -71,7 +76,9 @@ returns c =
     let d = now (a .«data») in
     let known = c .before .before .before .before .shared-slice-known2 .given in
     let x = (getD d (a .at) 0 + 1) / 2 in
-    whole d (a .at) (c .value-text .last .1 .1 .1 .0) (c .value-text .result) _ (known (a .at) .fits) (cut-octets d (λ i. known i .fits) (a .at + 2 + x - (a .at + 2)) (a .at + 2)) (part-is (a .at + 2) x d) (c .value-text .ensures)
+    let value-is = part-is (a .at + 2) x d in
+    let w = c .value-text .ensures in
+    (whole d (a .at) (c .value-text .last .1 .1 .1 .0) (c .value-text .result .end) _ (known (a .at) .fits) (cut-octets d (λ i. known i .fits) (a .at + 2 + x - (a .at + 2)) (a .at + 2)) value-is (w .0), w .1 ∙ ap replacedIn (septets-are d (a .at) _ value-is))
 
 pub address-at-spec : {M : Type 1} → statement M
 address-at-spec =

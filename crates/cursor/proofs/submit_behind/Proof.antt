@@ -71,7 +71,7 @@ found : (s : RefT (List ℕ)) (count : ℕ) (c d : Cursor) (t : SubmitRead) → 
 found s count c d t e f h =
     let o : d .octets ≡ s = f .0 ∙ e .0 in
     let p : d .place ≡ behindPlace (now s) 0 count = f .1 ∙ ap (λ (x : RefT (List ℕ)). behindPlace (now x) (c .place) count) (e .0) ∙ ap (λ (n : ℕ). behindPlace (now s) n count) (e .1) in
-    h ∙ ap (λ (x : RefT (List ℕ)). submitFrom (now x) (d .place)) o ∙ ap (λ x. (answer blank x, octetsTaken x)) (from-there (now s) count p submit)
+    h ∙ ap (λ (x : RefT (List ℕ)). submitFrom (now x) (d .place)) o ∙ from-there (now s) count p (λ x. submitFrom x 0)
 
 module _ {M : Type 1} (𝓤 : URA M) (H : Heap 𝓤) (A : Atoms 𝓤) (mem : Memory → SProp 𝓤) (run : Routine → Fun 𝓤) where
   -- the contracts that the proof cites

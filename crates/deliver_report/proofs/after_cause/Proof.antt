@@ -3,6 +3,7 @@
 use mathlib.Core.Path.{sym, ap, _∙_}
 use borrow.Author.Needs.{needs}
 use Rattle.octets.specs.Answers.{octetSays}
+use Rattle.gsm7.specs.Reading.{replacedInAll}
 use Rattle.parameters.specs.Internal.{parametersSays}
 use Rattle.parameters.proofs.StepsOfReader.{parameters-after}
 use Rattle.deliver_report.proofs.FieldByField.{no-indicator, no-parameters, all-there}
@@ -30,6 +31,7 @@ report-requires c κs =
     (found .start, found .end, found .few)
 
 returns-3 : tie.Need-returns-3
+unfolding replacedInAll
 returns-3 c =
     let p = c .before .before .before .before in
     let i = p .before .before in

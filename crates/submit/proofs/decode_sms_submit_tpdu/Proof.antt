@@ -5,19 +5,14 @@ use Rattle.submit.proofs.RecordRead.{answer-refused, answer-done}
 use Rattle.submit.proofs.decode_sms_submit_tpdu.Statement.{statement}
 use Rattle.submit.proofs.decode_sms_submit_tpdu.Tie as tie
 
-add-octets-read : tie.Need-add-octets-read
-add-octets-read c = let inside = rw (c .before .before .f .given .1) at (c .before .before .before .before .fields-of .ensures .1) in search (needs, inside .3)
-
 message-requires : tie.Need-message-requires
-message-requires c κs = rw (c .before .before .f .given .1) at (c .before .before .before .before .fields-of .ensures .1)
+message-requires c κs = rw (c .before .f .given .1) at (c .before .before .before .fields-of .ensures .1)
 
 returns : tie.Need-returns
 returns c = answer-refused _ _ _ (rw (c .before .before .r .given .1) at (c .before .before .before .before .fields-of .ensures .0)) (c .blank .ensures)
 
 returns-2 : tie.Need-returns-2
-returns-2 c =
-    let f = c .before .before .before in
-    answer-done _ _ _ (rw (f .f .given .1) at (f .before .before .fields-of .ensures .0)) (c .message .ensures)
+returns-2 c = answer-done _ _ _ (rw (c .before .before .f .given .1) at (c .before .before .before .before .fields-of .ensures .0)) (c .message .ensures)
 
 pub decode-sms-submit-tpdu-spec : {M : Type 1} → statement M
 decode-sms-submit-tpdu-spec =
@@ -27,7 +22,6 @@ decode-sms-submit-tpdu-spec =
     (λ c. search needs)
     (λ c κs. tt)
     (λ c. search needs)
-    add-octets-read
     message-requires
     returns
     returns-2)

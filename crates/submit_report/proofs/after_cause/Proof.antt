@@ -3,6 +3,7 @@
 use mathlib.Core.Path.{sym, ap, _∙_}
 use borrow.Author.Needs.{needs}
 use Rattle.octets.specs.Answers.{octetSays, spanSays}
+use Rattle.gsm7.specs.Reading.{replacedInAll}
 use Rattle.parameters.specs.Internal.{parametersSays}
 use Rattle.submit_report.proofs.FieldByField.{no-indicator, no-time, no-parameters, time-inside, parameters-inside, all-there}
 use Rattle.submit_report.proofs.after_cause.Statement.{statement}
@@ -39,6 +40,7 @@ report-requires c κs =
     (time-inside _ _ indicated timed .0, found .start, found .end, found .few)
 
 returns-4 : tie.Need-returns-4
+unfolding replacedInAll
 returns-4 c =
     let p = c .before .before .before .before in
     let t = p .before .before in

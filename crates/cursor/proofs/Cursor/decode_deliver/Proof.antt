@@ -5,7 +5,7 @@ use contract.Running.{givenOf}
 use denote.Struct.Laws.{lawful}
 use Rattle.deliver.proofs.DeliverRead.{the-row, the-type}
 use Rattle.deliver.proofs.DeliverRead.Laws.{mir, the-laws}
-use Rattle.octets.specs.Answers.{outcomeSays}
+use Rattle.deliver.specs.Deliver.{deliverReadSays}
 use Rattle.cursor.specs.From.{deliverFrom}
 use Rattle.cursor.proofs.from_place.deliver_at.Symbol as callee
 use Rattle.cursor.proofs.from_place.deliver_at.Met.{met}
@@ -17,5 +17,5 @@ use Rattle.cursor.proofs.Cursor.decode_deliver.Code as code
 pub decode-deliver-spec : {M : Type 1} → statement M
 unfolding code.routine
 decode-deliver-spec 𝓤 H 𝓜 𝓖 𝓡 =
-    goes-through the-row mir refl (λ r. (outcomeSays (r .outcome), r .message)) deliverFrom callee.name 𝓤 H 𝓜 𝓖 𝓡 code.env name
+    goes-through the-row mir refl deliverReadSays deliverFrom callee.name 𝓤 H 𝓜 𝓖 𝓡 code.env name
     (lawful the-type the-laws 𝓤 H (𝓖 .A) (givenOf 𝓤 H 𝓜 𝓖)) (code.unfolded 𝓤 H 𝓜 𝓡) callee.routine code.calls-cursor·from-place·deliver-at (met 𝓤 H 𝓜 𝓖 𝓡)

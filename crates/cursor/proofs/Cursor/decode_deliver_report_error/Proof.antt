@@ -5,7 +5,7 @@ use contract.Running.{givenOf}
 use denote.Struct.Laws.{lawful}
 use Rattle.deliver_report.proofs.DeliverReportRead.{the-row, the-type}
 use Rattle.deliver_report.proofs.DeliverReportRead.Laws.{mir, the-laws}
-use Rattle.octets.specs.Answers.{outcomeSays}
+use Rattle.deliver_report.specs.DeliverReport.{deliverReportReadSays}
 use Rattle.cursor.specs.From.{deliverReportErrorFrom}
 use Rattle.cursor.proofs.from_place.deliver_report_error_at.Symbol as callee
 use Rattle.cursor.proofs.from_place.deliver_report_error_at.Met.{met}
@@ -17,5 +17,5 @@ use Rattle.cursor.proofs.Cursor.decode_deliver_report_error.Code as cod
 pub decode-deliver-report-error-spec : {M : Type 1} → statement M
 unfolding code.routine
 decode-deliver-report-error-spec 𝓤 H 𝓜 𝓖 𝓡 =
-    goes-through the-row mir refl (λ r. (outcomeSays (r .outcome), r .message)) deliverReportErrorFrom callee.name 𝓤 H 𝓜 𝓖 𝓡 code.env name
+    goes-through the-row mir refl deliverReportReadSays deliverReportErrorFrom callee.name 𝓤 H 𝓜 𝓖 𝓡 code.env name
     (lawful the-type the-laws 𝓤 H (𝓖 .A) (givenOf 𝓤 H 𝓜 𝓖)) (code.unfolded 𝓤 H 𝓜 𝓡) callee.routine code.calls-cursor·from-place·deliver-report-error-at (met 𝓤 H 𝓜 𝓖 𝓡)

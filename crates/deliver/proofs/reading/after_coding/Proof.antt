@@ -1,6 +1,6 @@
 -- `deliver::reading::after_coding` meets its contract: field by field, as the line has them.
 -- Assumes nothing.
-use mathlib.Core.Path.{sym, _∙_, ap}
+use mathlib.Core.Path.{refl, sym, _∙_, ap}
 use mathlib.Core.List.{[]}
 use borrow.Author.Needs.{needs}
 use Rattle.octets.specs.Answers.{octetSays, spanSays}
@@ -34,7 +34,7 @@ returns-4 c =
     let size = size-told _ _ (d .before .before .before .user-data-octets .ensures) (d .before .before .before .before .user-data-coding .ensures) in
     let there = sym (d .before .before .span2 .ensures) ∙ ap spanSays (d .start .given .1) in
     let (time-in, data-in, few) = all-inside _ 0 [] 0 _ _ timed counted size there (λ i. t .before .before .before .shared-slice-known .given i .fits) (entry .pre .1) in
-    (all-there _ _ _ _ _ _ timed counted size there, (entry .pre .0, time-in, data-in, few))
+    (all-there _ _ _ _ _ _ timed counted size there, (entry .pre .0, time-in, data-in, few, refl))
 
 pub after-coding-spec : {M : Type 1} → statement M
 after-coding-spec =

@@ -26,7 +26,8 @@ returns-4 c =
     let i = a .before .before .before in
     let f = i .before .before in
     let r = c .after-address .ensures in
-    (r .0 ∙ to-address _ (sym (f .before .before .octet .ensures) ∙ ap octetSays (f .first .given .1)) (i .if1 .left) (sym (a .before .before .address-span .ensures) ∙ ap spanSays (a .address .given .1)) .1, r .1)
+    let t = to-address _ (sym (f .before .before .octet .ensures) ∙ ap octetSays (f .first .given .1)) (i .if1 .left) (sym (a .before .before .address-span .ensures) ∙ ap spanSays (a .address .given .1)) in
+    (r .0 ∙ t .1, rw (t .2) at (r .1))
 
 pub fields-of-spec : {M : Type 1} → statement M
 fields-of-spec =

@@ -5,8 +5,9 @@ use mathlib.Core.Path.{_≡_, refl, _∙_}
 use mathlib.Core.Option.{none, some}
 use native.Mathlib.Omega.{arith}
 use lib.ListN.{drop}
+use Rattle.gsm7.specs.declared.decode.AfterEscape.{AfterEscape}
 use Rattle.gsm7.specs.declared.decode.Extension.{Extension}
-use Rattle.gsm7.specs.Alphabet.{extension, rowWith, character, escaped}
+use Rattle.gsm7.specs.Alphabet.{extension, rowWith, character, escaped, replaced}
 use Rattle.gsm7.proofs.Rows.{row-here, row-next, row-end}
 use Rattle.gsm7.proofs.decode.escaped_character.Statement.{statement}
 use Rattle.gsm7.proofs.decode.escaped_character.Tie as tie
@@ -18,13 +19,16 @@ Inv-loop alphabet code i₀ i =
 abbrev μ-loop : tie.MeasureT-loop
 μ-loop alphabet code i₀ i = 10 - i
 
-found : (code : ℕ) {e : Extension} → rowWith (λ (e : Extension). e .code) code extension ≡ some e → e .character ≡ escaped code
-unfolding escaped
+abbrev Is : ℕ → ℕ → ℕ → Type 0
+Is code c n = _≡_ {A = AfterEscape} (record { character = c; replaced = n }) (record { character = escaped code; replaced = replaced code })
+
+found : (code : ℕ) {e : Extension} → rowWith (λ (e : Extension). e .code) code extension ≡ some e → Is code (e .character) 0
+unfolding escaped replaced
 found code p = rw p
 
-missed : (code : ℕ) → rowWith (λ (e : Extension). e .code) code extension ≡ none → character code ≡ escaped code
-unfolding escaped
-missed code p = rw p
+missed : (code : ℕ) {c : ℕ} → c ≡ character code → rowWith (λ (e : Extension). e .code) code extension ≡ none → Is code c 1
+unfolding escaped replaced
+missed code e p = rw (e, p)
 
 returns : tie.Need-returns Inv-loop μ-loop
 returns c =
@@ -39,7 +43,7 @@ loop-again c =
 returns-2 : tie.Need-returns-2 Inv-loop μ-loop
 returns-2 c =
     let l = c .before .before .loop in
-    c .default-character .ensures ∙ missed _ (l .inv .1 ∙ row-end (λ (e : Extension). e .code) _ extension (l .i) (omega arith))
+    missed _ (c .default-character .ensures) (l .inv .1 ∙ row-end (λ (e : Extension). e .code) _ extension (l .i) (omega arith))
 
 pub escaped-character-spec : {M : Type 1} → statement M
 escaped-character-spec =

@@ -14,4 +14,4 @@ whole-text-spec =
     (tie.spec
     (λ c. search needs)
     (λ c κs. (omega arith, c .before .before .pre, rw zero-add (text-fits _ _ _ (c .before .before .pre))))
-    (λ c. text-stored _ (text-fits _ _ _ (c .before .before .before .before .pre)) (c .before .unpack-septets .ensures)))
+    (λ c. text-stored _ _ (text-fits _ _ _ (c .before .before .before .before .pre)) (c .before .unpack-septets .ensures)))

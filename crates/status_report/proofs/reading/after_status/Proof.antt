@@ -1,6 +1,6 @@
 -- `status_report::reading::after_status` meets its contract: the end, or indicator and parameters.
 -- Assumes nothing.
-use mathlib.Core.Path.{_≡_, sym, _∙_, ap}
+use mathlib.Core.Path.{_≡_, refl, sym, _∙_, ap}
 use native.Mathlib.Omega.{arith}
 use borrow.Author.Needs.{needs}
 use denote.Ref.{now}
@@ -15,7 +15,7 @@ use Rattle.status_report.proofs.reading.after_status.Tie as tie
 
 returns : tie.Need-returns
 unfolding fieldsAt
-returns c = let p = c .before .before .pre in (ended _ _ _ (c .if1 .taken), (p .0, p .1, p .2, omega arith, omega arith))
+returns c = let p = c .before .before .pre in (ended _ _ _ (c .if1 .taken), (p .0, p .1, p .2, omega arith, omega arith, refl))
 
 returns-2 : tie.Need-returns-2
 returns-2 c = (no-indicator _ _ _ (c .before .before .before .if1 .left) (sym (c .before .before .read-indicator .ensures) ∙ ap octetSays (c .enum-told .given .1)), tt)
@@ -42,7 +42,7 @@ returns-4 c =
     let i = c .before .before .before .before .before .before in
     let p = i .before .before .before .before .before .pre in
     let f = found c in
-    (whole _ _ _ (i .before .before .before .if1 .left) (announced i) f, (p .0, p .1, p .2, omega (arith, f .start, f .end), f .few))
+    (whole _ _ _ (i .before .before .before .if1 .left) (announced i) f, (p .0, p .1, p .2, omega (arith, f .start, f .end), f .few, refl))
 
 pub after-status-spec : {M : Type 1} → statement M
 after-status-spec =

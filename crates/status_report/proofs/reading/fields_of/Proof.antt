@@ -38,6 +38,6 @@ fields-of-spec =
     (λ c. search needs)
     (λ c. search needs)
     (λ c. (no-address _ (first (c .before .before .before .before .before .before .before .before .before)) (c .before .before .before .before .before .before .before .if1 .left) (reference (c .before .before .before .before)) (sym (c .before .before .address-span .ensures) ∙ ap spanSays (c .enum-told3 .given .1)), tt))
-    (λ c κs. let (room, past, is) = to-address _ (first (c .before .before .before .before .before .before .before .before .before .before)) (c .before .before .before .before .before .before .before .before .if1 .left) (reference (c .before .before .before .before .before)) (address (c .before)) in (room, past))
+    (λ c κs. let (room, past, is, place) = to-address _ (first (c .before .before .before .before .before .before .before .before .before .before)) (c .before .before .before .before .before .before .before .before .if1 .left) (reference (c .before .before .before .before .before)) (address (c .before)) in (room, past))
     (λ c. let r = c .after-address .ensures in
-    let (room, past, is) = to-address _ (first (c .before .before .before .before .before .before .before .before .before .before .before)) (c .before .before .before .before .before .before .before .before .before .if1 .left) (reference (c .before .before .before .before .before .before)) (address (c .before .before)) in (r .0 ∙ is, r .1)))
+    let (room, past, is, place) = to-address _ (first (c .before .before .before .before .before .before .before .before .before .before .before)) (c .before .before .before .before .before .before .before .before .before .if1 .left) (reference (c .before .before .before .before .before .before)) (address (c .before .before)) in (r .0 ∙ is, rw place at (r .1))))

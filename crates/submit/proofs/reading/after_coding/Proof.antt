@@ -1,6 +1,6 @@
 -- `submit::reading::after_coding` meets its contract: field by field, as the layout has them.
 -- Assumes nothing.
-use mathlib.Core.Path.{_≡_, sym, _∙_, ap}
+use mathlib.Core.Path.{_≡_, refl, sym, _∙_, ap}
 use native.Mathlib.Omega.{arith}
 use borrow.Author.Needs.{needs}
 use borrow.Author.Tests.{not-true, not-false}
@@ -70,7 +70,7 @@ returns-6 c =
     let header = i .before .header-size .ensures .0 in
     let fits = in-count (c .before) ∙ not-false _ (c .if2 .left) in (
       all-there _ _ _ _ _ _ _ format (validity v) udl size (data-there d) header (i .if1 .left) fits,
-      (p .0, span-inside _ _ _ (validity v) (p .1) .0, format, span-inside _ _ _ (data-there d) (omega (arith, octet-read _ _ udl)) .0, data-few _ (λ j. known .shared-slice-known .given j .fits) _ udl _ size, size, header-is _ _ _ _ (data-there d) header, i .if1 .left, fits),
+      (p .0, span-inside _ _ _ (validity v) (p .1) .0, format, span-inside _ _ _ (data-there d) (omega (arith, octet-read _ _ udl)) .0, data-few _ (λ j. known .shared-slice-known .given j .fits) _ udl _ size, size, header-is _ _ _ _ (data-there d) header, i .if1 .left, fits, refl),
     )
 
 pub after-coding-spec : {M : Type 1} → statement M

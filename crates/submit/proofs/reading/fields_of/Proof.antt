@@ -7,7 +7,7 @@ use Rattle.octets.specs.Answers.{gives, octetSays, spanSays}
 use Rattle.octets.specs.Places.{octetAt}
 use Rattle.octets.proofs.Places.{start}
 use Rattle.address.specs.Internal.{addressSpan}
-use Rattle.submit.proofs.FieldByField.{no-first, other-type, no-mr, no-address, no-pid, no-dcs, to-dcs, room}
+use Rattle.submit.proofs.FieldByField.{no-first, other-type, no-mr, no-address, no-pid, no-dcs, to-dcs, room, address-third}
 use Rattle.submit.proofs.reading.fields_of.Statement.{statement}
 use Rattle.submit.proofs.reading.fields_of.Tie as tie
 
@@ -53,7 +53,7 @@ returns-7 c =
     let a = p .before .before .before .before in
     let m = a .before .before .before .before in
     let r = c .after-coding .ensures in
-    (r .0 ∙ to-dcs _ (first (m .before .before .before .before .before)) (m .before .before .before .if1 .left) (reference m) (address a) (identifier p) (coding (c .before .before)) (λ j. m .before .before .before .before .before .before .before .before .shared-slice-known .given j .fits), r .1)
+    (r .0 ∙ to-dcs _ (first (m .before .before .before .before .before)) (m .before .before .before .if1 .left) (reference m) (address a) (identifier p) (coding (c .before .before)) (λ j. m .before .before .before .before .before .before .before .before .shared-slice-known .given j .fits), rw (address-third _ (first (m .before .before .before .before .before)) (m .before .before .before .if1 .left) (reference m) (address a)) at (r .1))
 
 pub fields-of-spec : {M : Type 1} → statement M
 fields-of-spec =
