@@ -25,8 +25,8 @@ module _ {R : Type 0} (cleared : R → R) (outcomeOf : R → RpOutcome) (withOut
     by-held = record {
       held = held;
       as-equal = λ s t r q n m os ot e f.
-        let same : outcomeOf (cleared r) ≡ outcomeOf (cleared q) = kept r ∙ held s r n os e ∙ sym (held t q m ot f) ∙ sym (kept q) in
-        (ap (withOutcome RpAck), back (cleared r) (cleared q) same);
+          let same : outcomeOf (cleared r) ≡ outcomeOf (cleared q) = kept r ∙ held s r n os e ∙ sym (held t q m ot f) ∙ sym (kept q) in
+          (ap (withOutcome RpAck), back (cleared r) (cleared q) same);
     }
 
   module _ (format : Format R) (outcome : RpOutcome) (each : Makes (λ (r : R) (cs : List Field). outcomeOf r ≡ outcome) format) where
