@@ -7,6 +7,8 @@ tells little. A request is octets without its line end.
 
 import random
 
+import outcome
+
 READERS = [
     "deliver",
     "submit",
@@ -19,8 +21,8 @@ READERS = [
 KEYS = {
     "deliver": "rp udhi sri lp mms mti ton npi address pid dcs scts udl ud",
     "submit": "rp udhi srr vpf rd mti mr ton npi address pid dcs vp udl ud",
-    "submit-report": "udhi fcs pi scts pid dcs udl ud",
-    "deliver-report": "udhi fcs pi pid dcs udl ud",
+    "submit-report": "udhi fcs pi scts pid dcs udl ud outcome",
+    "deliver-report": "udhi fcs pi pid dcs udl ud outcome",
     "status-report": "udhi srq lp mms mr ton npi address scts dt st pi pid dcs udl ud",
 }
 KEYS = {kind: keys.split() for kind, keys in KEYS.items()}
@@ -562,7 +564,7 @@ def give_parameters(dice, record):
 
 def right_record(dice, kind):
     """A record of the kind that can be written."""
-    record = {key: flag(dice) for key in KEYS[kind]}
+    record = {key: flag(dice) for key in KEYS[kind] if key != "outcome"}
     for key in ("mr", "pid", "st", "fcs"):
         if key in record:
             record[key] = octet(dice).hex()
@@ -719,9 +721,12 @@ def writing(dice):
 
 
 def request_of(dice, kind, record):
-    keys = list(KEYS[kind])
+    keys = [key for key in KEYS[kind] if key != "outcome"]
     if dice.chance(0.1):
         keys.sort(key=lambda key: dice.draw())
+    if "outcome" in KEYS[kind]:
+        keys.append("outcome")
+        record["outcome"] = outcome.agreeing(record["fcs"])
     return f"enc-{kind} " + " ".join(f"{key}={record[key]}" for key in keys)
 
 

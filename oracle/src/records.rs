@@ -107,11 +107,13 @@ pub fn keys(kind: &[u8]) -> Option<Keys> {
             submit,
         ),
         b"submit-report" => (
-            &["udhi", "fcs", "pi", "scts", "pid", "dcs", "udl", "ud"],
+            &[
+                "udhi", "fcs", "pi", "scts", "pid", "dcs", "udl", "ud", "outcome",
+            ],
             submit_report,
         ),
         b"deliver-report" => (
-            &["udhi", "fcs", "pi", "pid", "dcs", "udl", "ud"],
+            &["udhi", "fcs", "pi", "pid", "dcs", "udl", "ud", "outcome"],
             deliver_report,
         ),
         b"status-report" => (
@@ -203,6 +205,13 @@ impl Given<'_> {
         Ok(text(&self.octets(key)?))
     }
 
+    /// The outcome of a report: the Rust's record has none.
+    fn outcome(&self, key: &str) -> Result<(), Failure> {
+        self.as_form(key, |value| {
+            matches!(value, b"ack" | b"error").then_some(())
+        })
+    }
+
     fn time(&self, key: &str) -> Result<String, Failure> {
         self.as_form(key, time)
     }
@@ -249,7 +258,7 @@ fn validity_period(value: &[u8]) -> Option<ValidityPeriod> {
 // Of several values that aren't of their form the first in the order of the table of keys is
 // told. So each function below takes the values in that order:
 //   rp udhi sri lp mms srr rd srq, mti vpf ton npi udl, mr pid dcs fcs pi st, address, scts dt,
-//   vp, ud
+//   vp, ud, outcome
 
 fn deliver(given: &Given) -> Result<Record, Failure> {
     let tp_rp = given.flag("rp")?;
@@ -330,6 +339,7 @@ fn submit_report(given: &Given) -> Result<Record, Failure> {
     let tp_parameter_indicator = given.octet("pi")?;
     let tp_service_centre_timestamp = given.time("scts")?;
     let tp_user_data = given.octets("ud")?;
+    given.outcome("outcome")?;
     Ok(Record::SubmitReport(SmsSubmitReport {
         tp_udhi,
         tp_failure_cause,
@@ -350,6 +360,7 @@ fn deliver_report(given: &Given) -> Result<Record, Failure> {
     let tp_failure_cause = given.optional_octet("fcs")?;
     let tp_parameter_indicator = given.octet("pi")?;
     let tp_user_data = given.octets("ud")?;
+    given.outcome("outcome")?;
     Ok(Record::DeliverReport(SmsDeliverReport {
         tp_udhi,
         tp_failure_cause,

@@ -4,6 +4,7 @@ use output::Output;
 use text_fields::lists::entry_number;
 use text_fields::slices::between;
 use tpdu::OptionalOctet;
+use tpdu::RpOutcome;
 use tpdu::SMSAddress;
 use tpdu::SmsDeliver;
 use tpdu::SmsDeliverReport;
@@ -245,10 +246,18 @@ fn cause_and_indicator(out: &mut Output, at: usize, fcs: OptionalOctet, pi: u8) 
     fields::octet(out, next, b" pi=", pi)
 }
 
+fn outcome(out: &mut Output, at: usize, o: RpOutcome) -> usize {
+    match o {
+        RpOutcome::RpAck => output::put(out, at, b" outcome=ack"),
+        RpOutcome::RpError => output::put(out, at, b" outcome=error"),
+    }
+}
+
 fn submit_report(out: &mut Output, at: usize, refusal: u8, m: SmsSubmitReport) -> usize {
     if refusal != 0 {
         return refused(out, at, refusal);
     }
+    let rp_outcome = m.rp_outcome;
     let cause = m.tp_failure_cause;
     let pid = m.tp_pid;
     let dcs = m.tp_dcs;
@@ -256,20 +265,23 @@ fn submit_report(out: &mut Output, at: usize, refusal: u8, m: SmsSubmitReport) -
     let p1 = fields::number(out, at, b"ok udhi=", m.tp_udhi);
     let p2 = cause_and_indicator(out, p1, cause, m.tp_parameter_indicator);
     let p3 = fields::time(out, p2, b" scts=", m.tp_service_centre_timestamp);
-    parameters(out, p3, pid, dcs, udl, m.tp_user_data)
+    let p4 = parameters(out, p3, pid, dcs, udl, m.tp_user_data);
+    outcome(out, p4, rp_outcome)
 }
 
 fn deliver_report(out: &mut Output, at: usize, refusal: u8, m: SmsDeliverReport) -> usize {
     if refusal != 0 {
         return refused(out, at, refusal);
     }
+    let rp_outcome = m.rp_outcome;
     let cause = m.tp_failure_cause;
     let pid = m.tp_pid;
     let dcs = m.tp_dcs;
     let udl = m.tp_user_data_length;
     let p1 = fields::flag(out, at, b"ok udhi=", m.tp_udhi);
     let p2 = cause_and_indicator(out, p1, cause, m.tp_parameter_indicator);
-    parameters(out, p2, pid, dcs, udl, m.tp_user_data)
+    let p3 = parameters(out, p2, pid, dcs, udl, m.tp_user_data);
+    outcome(out, p3, rp_outcome)
 }
 
 // What stands before the address in a STATUS-REPORT.

@@ -6,6 +6,7 @@ use request_line::keys;
 use request_line::keys::value;
 use request_line::values;
 use tpdu::OptionalOctet;
+use tpdu::RpOutcome;
 use tpdu::SMSAddress;
 use tpdu::SmsDeliver;
 use tpdu::SmsDeliverReport;
@@ -44,6 +45,13 @@ fn optional_octet(line: &[u8], key: usize) -> OptionalOctet {
         return OptionalOctet::Absent;
     }
     OptionalOctet::Present(octet(line, key))
+}
+
+fn outcome(line: &[u8]) -> RpOutcome {
+    if values::is_error(value(line, keys::OUTCOME)) {
+        return RpOutcome::RpError;
+    }
+    RpOutcome::RpAck
 }
 
 fn time(line: &[u8], key: usize) -> Time {
@@ -164,6 +172,7 @@ fn write_submit_report(line: &[u8], to_standard: bool, lent: &mut Lent) -> Writt
         tp_dcs: optional_octet(line, keys::DCS),
         tp_user_data_length: optional_number(line, keys::UDL),
         tp_user_data: ud,
+        rp_outcome: outcome(line),
     };
     if to_standard {
         return message.encode_to_standard(lent);
@@ -181,6 +190,7 @@ fn write_deliver_report(line: &[u8], to_standard: bool, lent: &mut Lent) -> Writ
         tp_dcs: optional_octet(line, keys::DCS),
         tp_user_data_length: optional_number(line, keys::UDL),
         tp_user_data: ud,
+        rp_outcome: outcome(line),
     };
     if to_standard {
         return message.encode_to_standard(lent);

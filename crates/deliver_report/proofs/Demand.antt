@@ -22,7 +22,10 @@ use Rattle.parameters.specs.Optional.{octetsHeld}
 use Rattle.parameters.specs.Parameters.{Parameters}
 use Rattle.parameters.specs.declared.OptionalOctet.{OptionalOctet}
 use Rattle.parameters.specs.declared.OptionalOctet.the-variants.{Absent, Present}
+use Rattle.parameters.specs.declared.RpOutcome.{RpOutcome}
+use Rattle.parameters.specs.declared.RpOutcome.the-variants.{RpAck, RpError}
 use Rattle.parameters.specs.Layout.{parameters}
+use Rattle.parameters.specs.Outcome.{outcomeAgrees}
 use Rattle.parameters.proofs.Checking.{answers}
 use Rattle.parameters.proofs.Made.{Held, parameters-make, joined-append, past-append}
 use Rattle.deliver_report.specs.Layout.{deliverReported, format}
@@ -50,9 +53,9 @@ pub standard-written-alike : (r q : SmsDeliverReport) → Typed r → Typed q �
 standard-written-alike r q f g e = written-alike _ r q f g e ∙ ap (λ (o : SmsDeliverReport). deliverReportingWithin (standardLimit (o .«tp_failure_cause»)) q) e
 
 -- a record that was made of fields is cleared
-pub made-cleared : (udhi : Bool) (cause : OptionalOctet) (pi : ℕ) (p : Parameters) → cleared (deliverReported udhi cause pi p) ≡ deliverReported udhi cause pi p
+pub made-cleared : (outcome : RpOutcome) (udhi : Bool) (cause : OptionalOctet) (pi : ℕ) (p : Parameters) → cleared (deliverReported outcome udhi cause pi p) ≡ deliverReported outcome udhi cause pi p
 unfolding deliverReported
-made-cleared udhi cause pi p = rw (data-cleared (p .ud))
+made-cleared outcome udhi cause pi p = rw (data-cleared (p .ud))
 
 -- ---- a record that was read: its octets, and how its checks fare
 
@@ -70,17 +73,17 @@ first-is x m = by (isSet 6 (kept bits x)) refl
     by true e = omega (arith, eqb-true (bit 6 (kept bits x)) 1 e, kept-bit bits refl 6 refl x, kept-type bits refl x)
     by false e = omega (arith, eqb-false (bit 6 (kept bits x)) 1 e, kept-bit bits refl 6 refl x, kept-type bits refl x)
 
-module _ (udhi : Bool) (cause : OptionalOctet) (pi : ℕ) (p : Parameters) where
+module _ (outcome : RpOutcome) (udhi : Bool) (cause : OptionalOctet) (agrees : outcomeAgrees outcome cause ≡ true) (pi : ℕ) (p : Parameters) where
   abbrev r : SmsDeliverReport
-  r = deliverReported udhi cause pi p
+  r = deliverReported outcome udhi cause pi p
 
   octets-held : octetsOf (cleared r) ≡ octetsIn udhi cause pi p
   unfolding deliverReported
-  octets-held = ap octetsOf (made-cleared udhi cause pi p) ∙ rw (data-held (p .ud))
+  octets-held = ap octetsOf (made-cleared outcome udhi cause pi p) ∙ rw (data-held (p .ud))
 
   its-making : length (p .ud) ≤ 255 → deliverReporting r ≡ making 140 udhi cause pi p
   unfolding deliverReported dataWith
-  its-making h = by-fields 140 r h ∙ rw (data-held (p .ud))
+  its-making h = by-fields 140 r h agrees ∙ rw (data-held (p .ud))
 
   -- indicator and parameters stand after the fields of first octet and cause
   module _ (front cs : List Field) (j : joined front ≡ flag udhi 64 ∷ octetsHeld cause) (n : anyPastLimit front ≡ false) (h : Held pi p cs) where
@@ -102,30 +105,30 @@ module _ (udhi : Bool) (cause : OptionalOctet) (pi : ℕ) (p : Parameters) where
 
 -- ---- the two layouts
 
-after-cause-makes : (udhi : Bool) (cause : OptionalOctet) (front : List Field) → joined front ≡ flag udhi 64 ∷ octetsHeld cause → anyPastLimit front ≡ false → Makes (λ r cs. Canonical r (front ++ cs)) (afterCause udhi cause)
-after-cause-makes udhi cause front j n pi low =
-    makes-then (Held pi) _ (parameters pi) _ (parameters-make pi) λ p cs h. rw append-nil (written udhi cause pi p front cs j n h)
+after-cause-makes : (outcome : RpOutcome) (udhi : Bool) (cause : OptionalOctet) → outcomeAgrees outcome cause ≡ true → (front : List Field) → joined front ≡ flag udhi 64 ∷ octetsHeld cause → anyPastLimit front ≡ false → Makes (λ r cs. Canonical r (front ++ cs)) (afterCause outcome udhi cause)
+after-cause-makes outcome udhi cause agrees front j n pi low =
+    makes-then (Held pi) _ (parameters pi) _ (parameters-make pi) λ p cs h. rw append-nil (written outcome udhi cause agrees pi p front cs j n h)
 
-ack-makes : Makes Canonical (format false)
+ack-makes : Makes Canonical (format RpAck)
 unfolding format
-ack-makes x low m = after-cause-makes _ Absent (standsAs (first bits) (kept bits x ∷ []) ∷ []) (ap (λ (n : ℕ). n ∷ []) (first-is x (eqb-true _ 0 m))) refl
+ack-makes x low m = after-cause-makes RpAck _ Absent refl (standsAs (first bits) (kept bits x ∷ []) ∷ []) (ap (λ (n : ℕ). n ∷ []) (first-is x (eqb-true _ 0 m))) refl
 
-error-makes : Makes Canonical (format true)
+error-makes : Makes Canonical (format RpError)
 unfolding format
 error-makes x low m cause small =
-    after-cause-makes _ (Present cause) (standsAs (first bits) (kept bits x ∷ []) ∷ standsAs octet (cause ∷ []) ∷ []) (ap (λ (n : ℕ). n ∷ cause ∷ []) (first-is x (eqb-true _ 0 m))) refl
+    after-cause-makes RpError _ (Present cause) refl (standsAs (first bits) (kept bits x ∷ []) ∷ standsAs octet (cause ∷ []) ∷ []) (ap (λ (n : ℕ). n ∷ cause ∷ []) (first-is x (eqb-true _ 0 m))) refl
 
 -- ---- demand 3
 
 pub ack-demand3 : Demand3 cleared ack deliverReporting false
-ack-demand3 = demand3 cleared deliverReporting octetsOf (format false) ack-makes
+ack-demand3 = demand3 cleared deliverReporting octetsOf (format RpAck) ack-makes
 
 -- the octets of the stopped RP-ERROR
 abbrev stands : List ℕ
 stands = 0x00 ∷ 0xff ∷ 0x00 ∷ []
 
 -- they are a string of the layout, which gives its record
-stands-in-format : (readFrom (format true) stands 0 ≡ reached stopped 3) × (joined (fieldsOf (format true) stands) ≡ stands) × (anyPastLimit (fieldsOf (format true) stands) ≡ false)
+stands-in-format : (readFrom (format RpError) stands 0 ≡ reached stopped 3) × (joined (fieldsOf (format RpError) stands) ≡ stands) × (anyPastLimit (fieldsOf (format RpError) stands) ≡ false)
 unfolding format readFrom reading after fieldsOf parameters kept indicatorSize
 stands-in-format = (refl, refl, refl)
 
@@ -134,16 +137,16 @@ unfolding each
 are-octets = octets-tested stands refl
 
 -- so it is beside the layout's records, and is written
-stands-beside : Stopped cleared deliverReporting (format true) stands stopped false
-stands-beside = let (e, j, n) = stands-in-format in rw n at (stopped-in-format cleared deliverReporting octetsOf (format true) error-makes stands stopped are-octets e j)
+stands-beside : Stopped cleared deliverReporting (format RpError) stands stopped false
+stands-beside = let (e, j, n) = stands-in-format in rw n at (stopped-in-format cleared deliverReporting octetsOf (format RpError) error-makes stands stopped are-octets e j)
 
 pub error-demand3 : Demand3 cleared error deliverReporting false
-error-demand3 = demand3-stopping cleared deliverReporting octetsOf (format true) error-makes 0 stands stopped false stands-beside
+error-demand3 = demand3-stopping cleared deliverReporting octetsOf (format RpError) error-makes 0 stands stopped false stands-beside
 
 -- ---- what the writer makes of a record that was read, whatever the buffer
 
 pub ack-answers : (s : List ℕ) → Octets s → (r : SmsDeliverReport) (n : ℕ) → read ack s ≡ reached r n → Answers (deliverReporting r) (canonicalOf ack s) (unwritable ack false s)
-ack-answers = answers-plain cleared deliverReporting octetsOf (format false) ack-makes
+ack-answers = answers-plain cleared deliverReporting octetsOf (format RpAck) ack-makes
 
 pub error-answers : (s : List ℕ) → Octets s → (r : SmsDeliverReport) (n : ℕ) → read error s ≡ reached r n → Answers (deliverReporting r) (canonicalOf error s) (unwritable error false s)
-error-answers = answers-stopping cleared deliverReporting octetsOf (format true) error-makes 0 stands stopped false stands-beside
+error-answers = answers-stopping cleared deliverReporting octetsOf (format RpError) error-makes 0 stands stopped false stands-beside

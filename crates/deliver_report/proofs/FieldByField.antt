@@ -17,6 +17,7 @@ use Rattle.parameters.specs.Layout.{parameters}
 use Rattle.parameters.specs.declared.OptionalOctet.{OptionalOctet}
 use Rattle.parameters.proofs.StepsOfReader.{Found, parameters-halted}
 use Rattle.parameters.proofs.Outcomes.{Outcomes, outcomes-of}
+use Rattle.parameters.specs.declared.RpOutcome.{RpOutcome}
 use Rattle.deliver_report.specs.Layout.{deliverReported, format}
 use Rattle.deliver_report.specs.Internal.{afterCause}
 use Rattle.deliver_report.specs.DeliverReport.{stopped, ack, error}
@@ -30,9 +31,9 @@ outcomes s = outcomes-of 0 _ (λ b. eqb b 1) afterCause stopped s
 
 -- ---- indicator and parameters
 
-module _ (s : List ℕ) (p : Place) (udhi : Bool) (cause : OptionalOctet) where
+module _ (s : List ℕ) (p : Place) (outcome : RpOutcome) (udhi : Bool) (cause : OptionalOctet) where
   abbrev afterwards : Reached SmsDeliverReport
-  afterwards = readFrom (afterCause udhi cause) s (p .at)
+  afterwards = readFrom (afterCause outcome udhi cause) s (p .at)
 
   pub no-indicator : indicatorAt s p ≡ refuses OctetsEnd → afterwards ≡ halted OctetsEnd
   no-indicator e = indicator-ends s p e _
@@ -42,5 +43,5 @@ module _ (s : List ℕ) (p : Place) (udhi : Bool) (cause : OptionalOctet) where
     no-parameters e = indicator-goes-on s p i _ ∙ then-ends s (parameters pi) (q .at) (parameters-halted s (q .at) pi e) _
 
     pub all-there : {n : ℕ} {pid dcs udl : OptionalOctet} {t : Place} → Found s (q .at) pi pid dcs udl n t
-        → afterwards ≡ reached (deliverReported udhi cause pi (record { pid = pid; dcs = dcs; udl = udl; ud = take n (drop (t .at - n) s) })) (t .at)
+        → afterwards ≡ reached (deliverReported outcome udhi cause pi (record { pid = pid; dcs = dcs; udl = udl; ud = take n (drop (t .at - n) s) })) (t .at)
     all-there found = indicator-goes-on s p i _ ∙ then-goes-on s (parameters pi) (q .at) (found .is) _ ∙ done-reached s _ _

@@ -3,3 +3,4 @@ pub mod FieldByField
 pub mod RecordWritten
 pub mod Demand
 pub mod Limits
+pub mod EntryPoint

@@ -5,51 +5,54 @@ use mathlib.Core.Bool.{Bool, true, false}
 use mathlib.Core.List.{List, [], _∷_}
 use lib.Dec.{ltb}
 use Rattle.octets.specs.Answers.{Said, outcomeSays, refuses, fine}
-use Rattle.octets.specs.Checks.{found}
+use Rattle.octets.specs.Checks.{_unless_, found, checked}
 use Rattle.octets.specs.Choice.{if_then_else_}
 use Rattle.octets.specs.Lent.{Making, refused}
-use Rattle.octets.specs.declared.Refusal.the-variants.{LengthTooLarge, OctetsEnd, WrongMessageType, UserDataTooLong}
+use Rattle.octets.specs.declared.Refusal.the-variants.{LengthTooLarge, OctetsEnd, WrongMessageType, UserDataTooLong, OutcomeDisagrees}
 use Rattle.coding.specs.Coding.{codingOf, characterSet, dataOctets, dataOf, clearedData, TypedData}
 use Rattle.layout.specs.Layout.{indicatorSize, kept, Layout, plain, stopping, stops, reached, halted, after, reading, readFrom, read, fieldsOf, canonicalOf}
 use Rattle.parameters.specs.Checking.{dataWithin}
 use Rattle.parameters.specs.Layout.{parameters}
+use Rattle.parameters.specs.Outcome.{outcomeAgrees}
 use Rattle.parameters.specs.Parameters.{Parameters, noParameters}
 use Rattle.parameters.specs.declared.OptionalOctet.{OptionalOctet}
 use Rattle.parameters.specs.declared.OptionalOctet.the-variants.{Absent, Present}
+use Rattle.parameters.specs.declared.RpOutcome.{RpOutcome}
+use Rattle.parameters.specs.declared.RpOutcome.the-variants.{RpAck, RpError}
 use Rattle.deliver_report.specs.Layout.{deliverReported, format}
-use Rattle.deliver_report.specs.Writing.{making}
+use Rattle.deliver_report.specs.Writing.{octetsIn, checksWithin}
 use Rattle.deliver_report.specs.declared.SmsDeliverReport.{SmsDeliverReport}
 use Rattle.deliver_report.specs.declared.DeliverReportRead.{DeliverReportRead}
 
 -- ---- reading
 
--- a cause or none, and nothing else: every number 0, UDHI off, no parameters
-abbrev pub causeAlone : OptionalOctet → SmsDeliverReport
-causeAlone cause = deliverReported false cause 0 noParameters
+-- an outcome, a cause or none, and nothing else: every number 0, UDHI off, no parameters
+abbrev pub causeAlone : RpOutcome → OptionalOctet → SmsDeliverReport
+causeAlone outcome cause = deliverReported outcome false cause 0 noParameters
 
--- the blank record: no cause either
+-- the blank record, whatever the entry point: RP-ACK, and no cause either
 abbrev pub blank : SmsDeliverReport
-blank = causeAlone Absent
+blank = causeAlone RpAck Absent
 
 -- the stopped RP-ERROR: UDHI 0, cause FF, indicator 0, nothing else
 abbrev pub stopped : SmsDeliverReport
-stopped = causeAlone (Present 0xff)
+stopped = causeAlone RpError (Present 0xff)
 
 -- the layouts in an RP-ACK and in an RP-ERROR
 abbrev pub ack : Layout SmsDeliverReport
-ack = plain (format false)
+ack = plain (format RpAck)
 
 abbrev pub error : Layout SmsDeliverReport
-error = stopping 0 (0x00 ∷ 0xff ∷ 0x00 ∷ []) stopped (format true)
+error = stopping 0 (0x00 ∷ 0xff ∷ 0x00 ∷ []) stopped (format RpError)
 
--- the layout of a report's outcome: RP-ERROR if it holds a cause, else RP-ACK
-abbrev pub outcomeOf : OptionalOctet → Layout SmsDeliverReport
-outcomeOf Absent = ack
-outcomeOf (Present cause) = error
+-- the layout of an outcome
+abbrev pub layoutOf : RpOutcome → Layout SmsDeliverReport
+layoutOf RpAck = ack
+layoutOf RpError = error
 
 -- the stopped RP-ERROR 04 gives the record of 00 FF 00; an RP-ACK with UDHI, an extended indicator 85, PID 11 and two septets
 known-reports : (read error (0x04 ∷ []) ≡ reached stopped 1) × (read error (0x00 ∷ 0xff ∷ 0x00 ∷ []) ≡ reached stopped 3) × (read ack (0x01 ∷ 0x00 ∷ []) ≡ halted WrongMessageType) × (read ack (0x00 ∷ []) ≡ halted OctetsEnd)
-    × (read ack (0x40 ∷ 0x85 ∷ 0x00 ∷ 0x11 ∷ 0x02 ∷ 0x41 ∷ 0x21 ∷ []) ≡ reached (deliverReported true Absent 0x85 (record { pid = Present 0x11; dcs = Absent; udl = Present 2; ud = 0x41 ∷ 0x21 ∷ [] })) 7)
+    × (read ack (0x40 ∷ 0x85 ∷ 0x00 ∷ 0x11 ∷ 0x02 ∷ 0x41 ∷ 0x21 ∷ []) ≡ reached (deliverReported RpAck true Absent 0x85 (record { pid = Present 0x11; dcs = Absent; udl = Present 2; ud = 0x41 ∷ 0x21 ∷ [] })) 7)
     × (canonicalOf ack (0x40 ∷ 0x85 ∷ 0x00 ∷ 0x11 ∷ 0x02 ∷ 0x41 ∷ 0x21 ∷ []) ≡ 0x40 ∷ 0x85 ∷ 0x11 ∷ 0x02 ∷ 0x41 ∷ 0x21 ∷ [])
 unfolding format read readFrom reading after stops canonicalOf fieldsOf parameters kept indicatorSize codingOf characterSet dataOctets
 known-reports = (refl, refl, refl, refl, refl, refl)
@@ -72,11 +75,14 @@ parametersOf r = record { pid = r .«tp_pid»; dcs = r .«tp_dcs»; udl = r .«t
 abbrev pub tooLong : SmsDeliverReport → Bool
 tooLong r = ltb 255 (r .«tp_user_data» .length)
 
--- what a writer makes of a record within a limit of user data
+-- what a writer makes of a record within a limit of user data: 1; 29; then the checks of its fields
 unfoldable pub deliverReportingWithin : ℕ → SmsDeliverReport → Making (Said ℕ)
 deliverReportingWithin limit r =
     if tooLong r then refused LengthTooLarge
-    else making limit (r .«tp_udhi») (r .«tp_failure_cause») (r .«tp_parameter_indicator») (parametersOf r)
+    else
+    checked
+    ((OutcomeDisagrees unless outcomeAgrees (r .«rp_outcome») (r .«tp_failure_cause»)) ∷ checksWithin limit (r .«tp_parameter_indicator») (parametersOf r))
+    (octetsIn (r .«tp_udhi») (r .«tp_failure_cause») (r .«tp_parameter_indicator») (parametersOf r))
 
 -- the ported writer: within 140
 abbrev pub deliverReporting : SmsDeliverReport → Making (Said ℕ)
@@ -109,6 +115,20 @@ cleared r = record {
   «tp_dcs» = r .«tp_dcs»;
   «tp_user_data_length» = r .«tp_user_data_length»;
   «tp_user_data» = clearedData (r .«tp_user_data»);
+  «rp_outcome» = r .«rp_outcome»;
+}
+
+-- the same record with an outcome: two records are equal without theirs where these are
+abbrev pub withOutcome : RpOutcome → SmsDeliverReport → SmsDeliverReport
+withOutcome outcome r = record {
+  «tp_udhi» = r .«tp_udhi»;
+  «tp_failure_cause» = r .«tp_failure_cause»;
+  «tp_parameter_indicator» = r .«tp_parameter_indicator»;
+  «tp_pid» = r .«tp_pid»;
+  «tp_dcs» = r .«tp_dcs»;
+  «tp_user_data_length» = r .«tp_user_data_length»;
+  «tp_user_data» = r .«tp_user_data»;
+  «rp_outcome» = outcome;
 }
 
 -- it has no time, and so no letters that reading makes capital

@@ -3,9 +3,10 @@ use mathlib.Core.Bool.{Bool}
 use Rattle.layout.specs.Layout.{indicator, leading, Format, field, done, _then_}
 use Rattle.parameters.specs.Layout.{parameters}
 use Rattle.parameters.specs.declared.OptionalOctet.{OptionalOctet}
+use Rattle.parameters.specs.declared.RpOutcome.{RpOutcome}
 use Rattle.deliver_report.specs.Layout.{deliverReported}
 use Rattle.deliver_report.specs.declared.SmsDeliverReport.{SmsDeliverReport}
 
 -- after first octet and cause
-abbrev pub afterCause : Bool → OptionalOctet → Format SmsDeliverReport
-afterCause udhi cause = field indicator λ i. parameters (leading i) then λ p. done (deliverReported udhi cause (leading i) p)
+abbrev pub afterCause : RpOutcome → Bool → OptionalOctet → Format SmsDeliverReport
+afterCause outcome udhi cause = field indicator λ i. parameters (leading i) then λ p. done (deliverReported outcome udhi cause (leading i) p)

@@ -5,13 +5,15 @@ use mathlib.Core.List.{[], _∷_}
 use Rattle.coding.specs.Coding.{dataWith}
 use Rattle.layout.specs.Layout.{indicator, isSet, leading, Format, field, done, _then_, message}
 use Rattle.parameters.specs.Layout.{announced, parameters}
+use Rattle.parameters.specs.Outcome.{hasCause}
 use Rattle.parameters.specs.Parameters.{Parameters}
 use Rattle.parameters.specs.declared.OptionalOctet.{OptionalOctet}
+use Rattle.parameters.specs.declared.RpOutcome.{RpOutcome}
 use Rattle.deliver_report.specs.declared.SmsDeliverReport.{SmsDeliverReport}
 
--- the record of UDHI, cause, indicator and parameters
-unfoldable pub deliverReported : Bool → OptionalOctet → ℕ → Parameters → SmsDeliverReport
-deliverReported udhi cause pi p = record {
+-- the record of outcome, UDHI, cause, indicator and parameters
+unfoldable pub deliverReported : RpOutcome → Bool → OptionalOctet → ℕ → Parameters → SmsDeliverReport
+deliverReported outcome udhi cause pi p = record {
   «tp_udhi» = udhi;
   «tp_failure_cause» = cause;
   «tp_parameter_indicator» = pi;
@@ -19,10 +21,11 @@ deliverReported udhi cause pi p = record {
   «tp_dcs» = p .dcs;
   «tp_user_data_length» = p .udl;
   «tp_user_data» = dataWith (p .ud);
+  «rp_outcome» = outcome;
 }
 
 -- MTI 0, UDHI 6; cause (in an RP-ERROR only), indicator, parameters
-unfoldable pub format : Bool → Format SmsDeliverReport
-format rpError =
-    message 0 (6 ∷ []) λ first. announced rpError then λ cause. field indicator λ i. parameters (leading i) then λ p.
-    done (deliverReported (isSet 6 first) cause (leading i) p)
+unfoldable pub format : RpOutcome → Format SmsDeliverReport
+format outcome =
+    message 0 (6 ∷ []) λ first. announced (hasCause outcome) then λ cause. field indicator λ i. parameters (leading i) then λ p.
+    done (deliverReported outcome (isSet 6 first) cause (leading i) p)

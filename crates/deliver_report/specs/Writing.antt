@@ -4,7 +4,7 @@ use mathlib.Core.Bool.{Bool}
 use mathlib.Core.List.{List, _∷_, _++_}
 use lib.ListN.{length}
 use Rattle.octets.specs.Answers.{Said}
-use Rattle.octets.specs.Checks.{checked}
+use Rattle.octets.specs.Checks.{Check, checked}
 use Rattle.octets.specs.Choice.{flag}
 use Rattle.octets.specs.Lent.{Making}
 use Rattle.parameters.specs.Optional.{octetsHeld}
@@ -16,6 +16,10 @@ use Rattle.parameters.specs.Checking.{indicatorChecks, dataWithin}
 abbrev pub octetsIn : Bool → OptionalOctet → ℕ → Parameters → List ℕ
 octetsIn udhi cause pi p = flag udhi 64 ∷ octetsHeld cause ++ pi ∷ parametersOctets p
 
--- what a writer makes of them within a limit of user data: 13 and 14; 7, 8 and 15
+-- the checks of them within a limit of user data: 13 and 14; 7, 8 and 15
+abbrev pub checksWithin : ℕ → ℕ → Parameters → List Check
+checksWithin limit pi p = indicatorChecks pi (p .pid) (p .dcs) (p .udl) ++ dataWithin limit (p .dcs) (p .udl) (length (p .ud))
+
+-- what a writer makes of them
 unfoldable pub making : ℕ → Bool → OptionalOctet → ℕ → Parameters → Making (Said ℕ)
-making limit udhi cause pi p = checked (indicatorChecks pi (p .pid) (p .dcs) (p .udl) ++ dataWithin limit (p .dcs) (p .udl) (length (p .ud))) (octetsIn udhi cause pi p)
+making limit udhi cause pi p = checked (checksWithin limit pi p) (octetsIn udhi cause pi p)

@@ -17,6 +17,7 @@ use octets::Place;
 use octets::Refusal;
 use octets::Written;
 use parameters::OptionalOctet;
+use parameters::RpOutcome;
 use parameters::reading::ParametersRead;
 
 const MTI_DELIVER: u8 = 0;
@@ -37,6 +38,7 @@ pub struct SmsDeliverReport {
     pub tp_dcs: OptionalOctet,
     pub tp_user_data_length: OptionalOctet,
     pub tp_user_data: UserData,
+    pub rp_outcome: RpOutcome,
 }
 
 // What reading gives: the message, blank on a refusal, and the number of escapes in its text that led to no character of the extension table. The kind has no text: 0.
@@ -46,9 +48,9 @@ pub struct DeliverReportRead {
     pub replaced_escapes: usize,
 }
 
-// A report with a cause or none, and nothing else.
-fn cause_alone(outcome: Outcome, cause: OptionalOctet) -> DeliverReportRead
-    ensures { λ r. ⌜ r ≡ record { outcome = outcome; message = causeAlone cause; «replaced_escapes» = 0 } ⌝ }
+// A report with an outcome, a cause or none, and nothing else.
+fn cause_alone(outcome: Outcome, rp_outcome: RpOutcome, cause: OptionalOctet) -> DeliverReportRead
+    ensures { λ r. ⌜ r ≡ record { outcome = outcome; message = causeAlone «rp_outcome» cause; «replaced_escapes» = 0 } ⌝ }
 {
     DeliverReportRead {
         outcome,
@@ -60,16 +62,21 @@ fn cause_alone(outcome: Outcome, cause: OptionalOctet) -> DeliverReportRead
             tp_dcs: OptionalOctet::Absent,
             tp_user_data_length: OptionalOctet::Absent,
             tp_user_data: coding::no_data(),
+            rp_outcome,
         },
         replaced_escapes: 0,
     }
 }
 
-// A refusal, with the blank report.
+// A refusal, with the blank report, which holds RP-ACK whatever the entry point.
 fn refused(why: Refusal) -> DeliverReportRead
     ensures { λ r. ⌜ r ≡ record { outcome = Outcome.Refused why; message = blankReport; «replaced_escapes» = 0 } ⌝ }
 {
-    cause_alone(Outcome::Refused(why), OptionalOctet::Absent)
+    cause_alone(
+        Outcome::Refused(why),
+        RpOutcome::RpAck,
+        OptionalOctet::Absent,
+    )
 }
 
 // A report that is read no further: its cause is unspecified.
@@ -78,12 +85,15 @@ fn stopped() -> DeliverReportRead
 {
     cause_alone(
         Outcome::Done,
+        RpOutcome::RpError,
         OptionalOctet::Present(FAILURE_CAUSE_UNSPECIFIED),
     )
 }
 
-// The report of fields that are there: UDHI, cause, indicator, PID, DCS, UDL, and the n octets of user data before `end`.
+// The report of fields that are there: UDHI, cause, indicator, PID, DCS, UDL, and the n octets of user data before `end`;
+// with the outcome of the entry point.
 fn report(
+    rp_outcome: RpOutcome,
     udhi: bool,
     cause: OptionalOctet,
     indicator: u8,
@@ -95,7 +105,7 @@ fn report(
     end: usize,
 ) -> DeliverReportRead
     requires { ⌜ (n ≤ end) × (end ≤ length (now «data»)) × (n ≤ 255) ⌝ }
-    ensures { λ r. ⌜ r ≡ record { outcome = Outcome.Done; message = deliverReported udhi cause indicator (record { pid = pid; dcs = dcs; udl = udl; ud = take n (drop (end - n) (now («data» .entry))) }); «replaced_escapes» = 0 } ⌝ }
+    ensures { λ r. ⌜ r ≡ record { outcome = Outcome.Done; message = deliverReported «rp_outcome» udhi cause indicator (record { pid = pid; dcs = dcs; udl = udl; ud = take n (drop (end - n) (now («data» .entry))) }); «replaced_escapes» = 0 } ⌝ }
 {
     let start = end - n;
     DeliverReportRead {
@@ -108,14 +118,21 @@ fn report(
             tp_dcs: dcs,
             tp_user_data_length: udl,
             tp_user_data: coding::data_with(&data[start..end]),
+            rp_outcome,
         },
         replaced_escapes: 0,
     }
 }
 
 // What follows first octet and cause.
-fn after_cause(data: &[u8], place: Place, udhi: bool, cause: OptionalOctet) -> DeliverReportRead
-    ensures { λ r. ⌜ deliverReportReadSays r ≡ (answer blankReport (readFrom (afterCause udhi cause) (now («data» .entry)) (place .at)), replacedOf (textsRead (now («data» .entry))) (readFrom (afterCause udhi cause) (now («data» .entry)) (place .at))) ⌝ }
+fn after_cause(
+    data: &[u8],
+    place: Place,
+    rp_outcome: RpOutcome,
+    udhi: bool,
+    cause: OptionalOctet,
+) -> DeliverReportRead
+    ensures { λ r. ⌜ deliverReportReadSays r ≡ (answer blankReport (readFrom (afterCause «rp_outcome» udhi cause) (now («data» .entry)) (place .at)), replacedOf (textsRead (now («data» .entry))) (readFrom (afterCause «rp_outcome» udhi cause) (now («data» .entry)) (place .at))) ⌝ }
 {
     let Octet::Read(indicator, place2) = parameters::reading::read_indicator(data, place) else {
         return refused(Refusal::OctetsEnd);
@@ -127,7 +144,18 @@ fn after_cause(data: &[u8], place: Place, udhi: bool, cause: OptionalOctet) -> D
     ) else {
         return refused(Refusal::OctetsEnd);
     };
-    report(udhi, cause, indicator, data, pid, dcs, udl, n, end.at)
+    report(
+        rp_outcome,
+        udhi,
+        cause,
+        indicator,
+        data,
+        pid,
+        dcs,
+        udl,
+        n,
+        end.at,
+    )
 }
 
 // The standard's limit of user data: a cause held means RP-ERROR.
@@ -152,7 +180,13 @@ impl SmsDeliverReport {
         if first % 4 != MTI_DELIVER {
             return refused(Refusal::WrongMessageType);
         }
-        after_cause(data, place, first / 64 % 2 == 1, OptionalOctet::Absent)
+        after_cause(
+            data,
+            place,
+            RpOutcome::RpAck,
+            first / 64 % 2 == 1,
+            OptionalOctet::Absent,
+        )
     }
 
     // The layout carried in an RP-ERROR (TP-Failure-Cause present). Where an unused bit of the first octet is set the
@@ -176,6 +210,7 @@ impl SmsDeliverReport {
         after_cause(
             data,
             next,
+            RpOutcome::RpError,
             first / 64 % 2 == 1,
             OptionalOctet::Present(cause),
         )
@@ -189,8 +224,12 @@ impl SmsDeliverReport {
         if 255 < n {
             return Written::Refused(Refusal::LengthTooLarge);
         }
-        let octets = self.tp_user_data.octets;
+        let outcome = self.rp_outcome;
         let cause = self.tp_failure_cause;
+        if !parameters::outcome_agrees(outcome, cause) {
+            return Written::Refused(Refusal::OutcomeDisagrees);
+        }
+        let octets = self.tp_user_data.octets;
         let pid = self.tp_pid;
         let dcs = self.tp_dcs;
         let udl = self.tp_user_data_length;

@@ -2,8 +2,8 @@
 -- Assumes nothing.
 use Prim.Native.Nat.{ℕ, _+_, _≤_}
 use mathlib.Core.Path.{_≡_, refl, sym, ap, _∙_}
-use mathlib.Core.Bool.{Bool, true, false}
-use mathlib.Core.List.{List, [], _∷_}
+use mathlib.Core.Bool.{Bool, true, false, false≢true}
+use mathlib.Core.List.{List, [], _∷_, _++_}
 use native.Mathlib.Omega.{arith}
 use borrow.Author.Tests.{ltb-false}
 use lib.ListN.{length, drop}
@@ -11,8 +11,8 @@ use lib.Seq.{length-take-le, drop-drop}
 use Rattle.octets.specs.Answers.{Said, gives, fine}
 use Rattle.octets.specs.Checks.{found}
 use Rattle.octets.specs.Lent.{made}
-use Rattle.octets.specs.declared.Refusal.the-variants.{LengthTooLarge}
-use Rattle.octets.proofs.Checks.{never, both-hold, made-unless, made-told, made-counts}
+use Rattle.octets.specs.declared.Refusal.the-variants.{LengthTooLarge, OutcomeDisagrees}
+use Rattle.octets.proofs.Checks.{never, holds, both-hold, made-unless, made-told, made-counts}
 use Rattle.coding.specs.Coding.{dataOf}
 use Rattle.coding.proofs.Laws.{data-back}
 use Rattle.layout.specs.Demand.{Demand2}
@@ -20,14 +20,17 @@ use Rattle.layout.specs.Layout.{reached, readFrom, read}
 use Rattle.layout.proofs.Steps.{done-reached}
 use Rattle.parameters.specs.Checking.{indicatorChecks, dataWithin}
 use Rattle.parameters.specs.Optional.{held}
+use Rattle.parameters.specs.Outcome.{outcomeAgrees}
 use Rattle.parameters.specs.Parameters.{Parameters, parametersOctets}
 use Rattle.parameters.specs.declared.OptionalOctet.{OptionalOctet}
 use Rattle.parameters.specs.declared.OptionalOctet.the-variants.{Absent, Present}
+use Rattle.parameters.specs.declared.RpOutcome.{RpOutcome}
+use Rattle.parameters.specs.declared.RpOutcome.the-variants.{RpAck, RpError}
 use Rattle.parameters.proofs.Laws.{one-at-most}
 use Rattle.deliver_report.specs.Layout.{deliverReported}
 use Rattle.deliver_report.specs.Internal.{afterCause}
-use Rattle.deliver_report.specs.DeliverReport.{outcomeOf, parametersOf, tooLong, deliverReportingWithin, deliverReporting, standardLimit, deliverReportingToStandard, cleared, capitalised, Typed}
-use Rattle.deliver_report.specs.Writing.{octetsIn, making}
+use Rattle.deliver_report.specs.DeliverReport.{layoutOf, parametersOf, tooLong, deliverReportingWithin, deliverReporting, standardLimit, deliverReportingToStandard, cleared, capitalised, Typed}
+use Rattle.deliver_report.specs.Writing.{octetsIn, checksWithin}
 use Rattle.deliver_report.specs.declared.SmsDeliverReport.{SmsDeliverReport}
 use Rattle.deliver_report.proofs.CheckByCheck.{size-is}
 use Rattle.deliver_report.proofs.Demand.{made-cleared}
@@ -37,15 +40,18 @@ use Rattle.demands.proofs.ParametersBack.{octet-here, indicator-here, n
 -- ---- the octets of values that pass the checks
 
 module _ (limit pi : ℕ) (p : Parameters) (i : found (indicatorChecks pi (p .pid) (p .dcs) (p .udl)) ≡ fine) (d : found (dataWithin limit (p .dcs) (p .udl) (length (p .ud))) ≡ fine) where
-  after-cause-back : (udhi : Bool) (cause : OptionalOctet) (s : List ℕ) (at : ℕ) → drop at s ≡ pi ∷ parametersOctets p
-      → readFrom (afterCause udhi cause) s at ≡ reached (deliverReported udhi cause pi p) (at + 1 + held (p .pid) + held (p .dcs) + held (p .udl) + length (p .ud))
-  after-cause-back udhi cause s at e = indicator-here s at e _ (not-extended limit pi p [] 0 i d) ∙ parameters-here limit pi p i d s (at + 1) (sym (drop-drop 1 at s) ∙ ap (drop 1) e) _ ∙ done-reached s _ _
+  after-cause-back : (outcome : RpOutcome) (udhi : Bool) (cause : OptionalOctet) (s : List ℕ) (at : ℕ) → drop at s ≡ pi ∷ parametersOctets p
+      → readFrom (afterCause outcome udhi cause) s at ≡ reached (deliverReported outcome udhi cause pi p) (at + 1 + held (p .pid) + held (p .dcs) + held (p .udl) + length (p .ud))
+  after-cause-back outcome udhi cause s at e = indicator-here s at e _ (not-extended limit pi p [] 0 i d) ∙ parameters-here limit pi p i d s (at + 1) (sym (drop-drop 1 at s) ∙ ap (drop 1) e) _ ∙ done-reached s _ _
 
-  back : (udhi : Bool) (cause : OptionalOctet) → (n : ℕ) × (read (outcomeOf cause) (octetsIn udhi cause pi p) ≡ reached (deliverReported udhi cause pi p) n)
-  back true Absent = (_, outcomes (octetsIn true Absent pi p) .ack-goes-on (octet-here _ 0 refl) refl ∙ after-cause-back true Absent _ 1 refl)
-  back false Absent = (_, outcomes (octetsIn false Absent pi p) .ack-goes-on (octet-here _ 0 refl) refl ∙ after-cause-back false Absent _ 1 refl)
-  back true (Present x) = (_, outcomes (octetsIn true (Present x) pi p) .error-goes-on (octet-here _ 0 refl) refl refl (octet-here _ 1 refl) ∙ after-cause-back true (Present x) _ 2 refl)
-  back false (Present x) = (_, outcomes (octetsIn false (Present x) pi p) .error-goes-on (octet-here _ 0 refl) refl refl (octet-here _ 1 refl) ∙ after-cause-back false (Present x) _ 2 refl)
+  back : (udhi : Bool) (outcome : RpOutcome) (cause : OptionalOctet) → outcomeAgrees outcome cause ≡ true
+      → (n : ℕ) × (read (layoutOf outcome) (octetsIn udhi cause pi p) ≡ reached (deliverReported outcome udhi cause pi p) n)
+  back true RpAck Absent a = (_, outcomes (octetsIn true Absent pi p) .ack-goes-on (octet-here _ 0 refl) refl ∙ after-cause-back RpAck true Absent _ 1 refl)
+  back false RpAck Absent a = (_, outcomes (octetsIn false Absent pi p) .ack-goes-on (octet-here _ 0 refl) refl ∙ after-cause-back RpAck false Absent _ 1 refl)
+  back true RpError (Present x) a = (_, outcomes (octetsIn true (Present x) pi p) .error-goes-on (octet-here _ 0 refl) refl refl (octet-here _ 1 refl) ∙ after-cause-back RpError true (Present x) _ 2 refl)
+  back false RpError (Present x) a = (_, outcomes (octetsIn false (Present x) pi p) .error-goes-on (octet-here _ 0 refl) refl refl (octet-here _ 1 refl) ∙ after-cause-back RpError false (Present x) _ 2 refl)
+  back udhi RpAck (Present x) a = absurd (false≢true a)
+  back udhi RpError Absent a = absurd (false≢true a)
 
 -- ---- a record
 
@@ -53,39 +59,41 @@ module _ (limit pi : ℕ) (p : Parameters) (i : found (indicatorChecks pi (p .pi
 record Passed (limit : ℕ) (r : SmsDeliverReport) (octets : List ℕ) : Type 0 where
   pub is : octetsIn (r .«tp_udhi») (r .«tp_failure_cause») (r .«tp_parameter_indicator») (parametersOf r) ≡ octets
   pub data-fits : r .«tp_user_data» .length ≤ 255
+  pub agrees : outcomeAgrees (r .«rp_outcome») (r .«tp_failure_cause») ≡ true
   pub indicator : found (indicatorChecks (r .«tp_parameter_indicator») (r .«tp_pid») (r .«tp_dcs») (r .«tp_user_data_length»)) ≡ fine
   pub held : found (dataWithin limit (r .«tp_dcs») (r .«tp_user_data_length») (length (dataOf (r .«tp_user_data»)))) ≡ fine
 
 module _ {octets : List ℕ} {answer : Said ℕ} (limit : ℕ) (r : SmsDeliverReport) (e : deliverReportingWithin limit r ≡ made octets answer) where
   passed : Passed limit r octets
-  unfolding deliverReportingWithin making
+  unfolding deliverReportingWithin
   passed =
       let (long, m) = made-unless LengthTooLarge (tooLong r) e in
       let (f, x) = made-told _ _ m in
-      let (i, d) = both-hold (indicatorChecks (r .«tp_parameter_indicator») (r .«tp_pid») (r .«tp_dcs») (r .«tp_user_data_length»)) (dataWithin limit (r .«tp_dcs») (r .«tp_user_data_length») (length (dataOf (r .«tp_user_data»)))) f in
-      record { is = x; data-fits = ltb-false _ _ long; indicator = i; held = d }
+      let (a, g) = holds OutcomeDisagrees (outcomeAgrees (r .«rp_outcome») (r .«tp_failure_cause»)) (checksWithin limit (r .«tp_parameter_indicator») (parametersOf r)) f in
+      let (i, d) = both-hold (indicatorChecks (r .«tp_parameter_indicator») (r .«tp_pid») (r .«tp_dcs») (r .«tp_user_data_length»)) (dataWithin limit (r .«tp_dcs») (r .«tp_user_data_length») (length (dataOf (r .«tp_user_data»)))) g in
+      record { is = x; data-fits = ltb-false _ _ long; agrees = a; indicator = i; held = d }
 
   -- what was written has at most six octets more than the user data may, or five without a cause
   at-most-within : length octets ≤ 5 + held (r .«tp_failure_cause») + limit
   at-most-within = rw (← passed .is, size-is) (omega (arith, parameters-limit limit (parametersOf r) (passed .held)))
 
   -- what was written is read back
-  read-back : Typed r → (q : SmsDeliverReport) × (n : ℕ) × (read (outcomeOf (r .«tp_failure_cause»)) octets ≡ reached q n) × (cleared q ≡ capitalised (cleared r))
+  read-back : Typed r → (q : SmsDeliverReport) × (n : ℕ) × (read (layoutOf (r .«rp_outcome»)) octets ≡ reached q n) × (cleared q ≡ capitalised (cleared r))
   unfolding deliverReported
   read-back hd =
       let d = r .«tp_user_data» in
-      let (n, is) = back limit (r .«tp_parameter_indicator») (parametersOf r) (passed .indicator) (passed .held) (r .«tp_udhi») (r .«tp_failure_cause») in
+      let (n, is) = back limit (r .«tp_parameter_indicator») (parametersOf r) (passed .indicator) (passed .held) (r .«tp_udhi») (r .«rp_outcome») (r .«tp_failure_cause») (passed .agrees) in
       let ld : length (dataOf d) ≡ d .length = length-take-le (d .length) (d .octets) (omega (arith, passed .data-fits)) in (
-        deliverReported (r .«tp_udhi») (r .«tp_failure_cause») (r .«tp_parameter_indicator») (parametersOf r),
+        deliverReported (r .«rp_outcome») (r .«tp_udhi») (r .«tp_failure_cause») (r .«tp_parameter_indicator») (parametersOf r),
         n,
-        ap (read (outcomeOf (r .«tp_failure_cause»))) (sym (passed .is)) ∙ is,
-        made-cleared _ _ _ _ ∙ rw (data-back d ld),
+        ap (read (layoutOf (r .«rp_outcome»))) (sym (passed .is)) ∙ is,
+        made-cleared _ _ _ _ _ ∙ rw (data-back d ld),
       )
 
 -- ---- the writer within the limit of each record
 
 module _ (limitOf : SmsDeliverReport → ℕ) where
-  pub deliver-report-demand2 : Demand2 Typed cleared capitalised (λ r. outcomeOf (r .«tp_failure_cause»)) (λ r. deliverReportingWithin (limitOf r) r) (λ r. fine) (λ r. false)
+  pub deliver-report-demand2 : Demand2 Typed cleared capitalised (λ r. layoutOf (r .«rp_outcome»)) (λ r. deliverReportingWithin (limitOf r) r) (λ r. fine) (λ r. false)
   deliver-report-demand2 = record {
     back = λ r t octets n e x. read-back (limitOf r) r e t;
     excepted = λ r t octets n e why x. absurd (never x);
@@ -93,7 +101,7 @@ module _ (limitOf : SmsDeliverReport → ℕ) where
   }
 
   pub deliver-report-counts : (r : SmsDeliverReport) (xs : List ℕ) (a : Said ℕ) → deliverReportingWithin (limitOf r) r ≡ made xs a → a ≡ gives (length xs)
-  unfolding deliverReportingWithin making
+  unfolding deliverReportingWithin
   deliver-report-counts r xs a e = made-counts _ _ (made-unless LengthTooLarge (tooLong r) e .1)
 
 -- ---- how much is written

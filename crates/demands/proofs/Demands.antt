@@ -11,6 +11,8 @@ use Rattle.coding.specs.Coding.{dataOf}
 use Rattle.layout.specs.Demand.{Demand2, Demand3, Answers2, Answers3}
 use Rattle.layout.proofs.Answered.{answers2, answers3}
 use Rattle.parameters.specs.Limits.{Limits}
+use Rattle.parameters.specs.Outcome.{OneOutcome}
+use Rattle.parameters.specs.declared.RpOutcome.the-variants.{RpAck, RpError}
 use Rattle.submit.specs.Submit as Submit
 use Rattle.submit.proofs.Demand.{submit-demand3}
 use Rattle.deliver.specs.Deliver as Deliver
@@ -18,9 +20,11 @@ use Rattle.deliver.proofs.Demand.{deliver-demand3}
 use Rattle.submit_report.specs.SubmitReport as SubmitReport
 use Rattle.submit_report.proofs.Demand.{ack-demand3 as submit-ack, error-demand3 as submit-error}
 use Rattle.submit_report.proofs.Limits.{submit-report-limits}
+use Rattle.submit_report.proofs.EntryPoint.{ack-outcome as submit-ack-outcome, error-outcome as submit-error-outcome}
 use Rattle.deliver_report.specs.DeliverReport as DeliverReport
 use Rattle.deliver_report.proofs.Demand.{ack-demand3 as deliver-ack, error-demand3 as deliver-error}
 use Rattle.deliver_report.proofs.Limits.{deliver-report-limits}
+use Rattle.deliver_report.proofs.EntryPoint.{ack-outcome as deliver-ack-outcome, error-outcome as deliver-error-outcome}
 use Rattle.status_report.specs.StatusReport as StatusReport
 use Rattle.status_report.proofs.Demand.{status-report-demand3}
 use Rattle.status_report.proofs.Limits.{status-report-limits}
@@ -68,10 +72,10 @@ submit-back = submit-demand2
 pub deliver-back : Demand2 Deliver.Typed Deliver.cleared Deliver.capitalised (λ r. Deliver.deliver) Deliver.delivering (λ r. fine) (λ r. false)
 deliver-back = deliver-demand2
 
-pub submit-report-back : Demand2 SubmitReport.Typed SubmitReport.cleared SubmitReport.capitalised (λ r. SubmitReport.outcomeOf (r .«tp_failure_cause»)) SubmitReport.submitReporting (λ r. fine) (λ r. false)
+pub submit-report-back : Demand2 SubmitReport.Typed SubmitReport.cleared SubmitReport.capitalised (λ r. SubmitReport.layoutOf (r .«rp_outcome»)) SubmitReport.submitReporting (λ r. fine) (λ r. false)
 submit-report-back = submit-report-demand2 (λ r. 140)
 
-pub deliver-report-back : Demand2 DeliverReport.Typed DeliverReport.cleared DeliverReport.capitalised (λ r. DeliverReport.outcomeOf (r .«tp_failure_cause»)) DeliverReport.deliverReporting (λ r. fine) (λ r. false)
+pub deliver-report-back : Demand2 DeliverReport.Typed DeliverReport.cleared DeliverReport.capitalised (λ r. DeliverReport.layoutOf (r .«rp_outcome»)) DeliverReport.deliverReporting (λ r. fine) (λ r. false)
 deliver-report-back = deliver-report-demand2 (λ r. 140)
 
 pub status-report-back : Demand2 StatusReport.Typed StatusReport.cleared StatusReport.capitalised (λ r. StatusReport.statusReport) StatusReport.statusReporting (λ r. fine) (λ r. false)
@@ -106,10 +110,10 @@ submit-answers2 = answers2 _ _ _ _ _ _ _ _ submit-back submit-counts
 pub deliver-answers2 : Answers2 Deliver.Typed Deliver.cleared Deliver.capitalised Deliver.blank (λ r. Deliver.deliver) Deliver.delivering (λ r. fine)
 deliver-answers2 = answers2 _ _ _ _ _ _ _ _ deliver-back deliver-counts
 
-pub submit-report-answers2 : Answers2 SubmitReport.Typed SubmitReport.cleared SubmitReport.capitalised SubmitReport.blank (λ r. SubmitReport.outcomeOf (r .«tp_failure_cause»)) SubmitReport.submitReporting (λ r. fine)
+pub submit-report-answers2 : Answers2 SubmitReport.Typed SubmitReport.cleared SubmitReport.capitalised SubmitReport.blank (λ r. SubmitReport.layoutOf (r .«rp_outcome»)) SubmitReport.submitReporting (λ r. fine)
 submit-report-answers2 = answers2 _ _ _ _ _ _ _ _ submit-report-back (submit-report-counts (λ r. 140))
 
-pub deliver-report-answers2 : Answers2 DeliverReport.Typed DeliverReport.cleared DeliverReport.capitalised DeliverReport.blank (λ r. DeliverReport.outcomeOf (r .«tp_failure_cause»)) DeliverReport.deliverReporting (λ r. fine)
+pub deliver-report-answers2 : Answers2 DeliverReport.Typed DeliverReport.cleared DeliverReport.capitalised DeliverReport.blank (λ r. DeliverReport.layoutOf (r .«rp_outcome»)) DeliverReport.deliverReporting (λ r. fine)
 deliver-report-answers2 = answers2 _ _ _ _ _ _ _ _ deliver-report-back (deliver-report-counts (λ r. 140))
 
 pub status-report-answers2 : Answers2 StatusReport.Typed StatusReport.cleared StatusReport.capitalised StatusReport.blank (λ r. StatusReport.statusReport) StatusReport.statusReporting (λ r. fine)
@@ -117,19 +121,19 @@ status-report-answers2 = answers2 _ _ _ _ _ _ _ _ status-report-back (status-rep
 
 -- ---- the three writers to the standard's limits
 
-pub submit-report-standard-back : Demand2 SubmitReport.Typed SubmitReport.cleared SubmitReport.capitalised (λ r. SubmitReport.outcomeOf (r .«tp_failure_cause»)) SubmitReport.submitReportingToStandard (λ r. fine) (λ r. false)
+pub submit-report-standard-back : Demand2 SubmitReport.Typed SubmitReport.cleared SubmitReport.capitalised (λ r. SubmitReport.layoutOf (r .«rp_outcome»)) SubmitReport.submitReportingToStandard (λ r. fine) (λ r. false)
 submit-report-standard-back = submit-report-demand2 (λ r. SubmitReport.standardLimit (r .«tp_failure_cause»))
 
-pub deliver-report-standard-back : Demand2 DeliverReport.Typed DeliverReport.cleared DeliverReport.capitalised (λ r. DeliverReport.outcomeOf (r .«tp_failure_cause»)) DeliverReport.deliverReportingToStandard (λ r. fine) (λ r. false)
+pub deliver-report-standard-back : Demand2 DeliverReport.Typed DeliverReport.cleared DeliverReport.capitalised (λ r. DeliverReport.layoutOf (r .«rp_outcome»)) DeliverReport.deliverReportingToStandard (λ r. fine) (λ r. false)
 deliver-report-standard-back = deliver-report-demand2 (λ r. DeliverReport.standardLimit (r .«tp_failure_cause»))
 
 pub status-report-standard-back : Demand2 StatusReport.Typed StatusReport.cleared StatusReport.capitalised (λ r. StatusReport.statusReport) StatusReport.statusReportingToStandard (λ r. fine) (λ r. false)
 status-report-standard-back = status-report-demand2 StatusReport.standardLimit
 
-pub submit-report-standard-answers2 : Answers2 SubmitReport.Typed SubmitReport.cleared SubmitReport.capitalised SubmitReport.blank (λ r. SubmitReport.outcomeOf (r .«tp_failure_cause»)) SubmitReport.submitReportingToStandard (λ r. fine)
+pub submit-report-standard-answers2 : Answers2 SubmitReport.Typed SubmitReport.cleared SubmitReport.capitalised SubmitReport.blank (λ r. SubmitReport.layoutOf (r .«rp_outcome»)) SubmitReport.submitReportingToStandard (λ r. fine)
 submit-report-standard-answers2 = answers2 _ _ _ _ _ _ _ _ submit-report-standard-back (submit-report-counts (λ r. SubmitReport.standardLimit (r .«tp_failure_cause»)))
 
-pub deliver-report-standard-answers2 : Answers2 DeliverReport.Typed DeliverReport.cleared DeliverReport.capitalised DeliverReport.blank (λ r. DeliverReport.outcomeOf (r .«tp_failure_cause»)) DeliverReport.deliverReportingToStandard (λ r. fine)
+pub deliver-report-standard-answers2 : Answers2 DeliverReport.Typed DeliverReport.cleared DeliverReport.capitalised DeliverReport.blank (λ r. DeliverReport.layoutOf (r .«rp_outcome»)) DeliverReport.deliverReportingToStandard (λ r. fine)
 deliver-report-standard-answers2 = answers2 _ _ _ _ _ _ _ _ deliver-report-standard-back (deliver-report-counts (λ r. DeliverReport.standardLimit (r .«tp_failure_cause»)))
 
 pub status-report-standard-answers2 : Answers2 StatusReport.Typed StatusReport.cleared StatusReport.capitalised StatusReport.blank (λ r. StatusReport.statusReport) StatusReport.statusReportingToStandard (λ r. fine)
@@ -144,3 +148,17 @@ deliver-report-alike = deliver-report-limits
 
 pub status-report-alike : Limits StatusReport.statusReportingWithin (λ r. length (dataOf (r .«tp_user_data»)))
 status-report-alike = status-report-limits
+
+-- ---- the outcome in both reports' records: that of the entry point, so that records of one reader are as equal or different as without it
+
+pub submit-report-ack-outcome : OneOutcome SubmitReport.cleared (λ r. r .«rp_outcome») SubmitReport.withOutcome SubmitReport.ack RpAck
+submit-report-ack-outcome = submit-ack-outcome
+
+pub submit-report-error-outcome : OneOutcome SubmitReport.cleared (λ r. r .«rp_outcome») SubmitReport.withOutcome SubmitReport.error RpError
+submit-report-error-outcome = submit-error-outcome
+
+pub deliver-report-ack-outcome : OneOutcome DeliverReport.cleared (λ r. r .«rp_outcome») DeliverReport.withOutcome DeliverReport.ack RpAck
+deliver-report-ack-outcome = deliver-ack-outcome
+
+pub deliver-report-error-outcome : OneOutcome DeliverReport.cleared (λ r. r .«rp_outcome») DeliverReport.withOutcome DeliverReport.error RpError
+deliver-report-error-outcome = deliver-error-outcome

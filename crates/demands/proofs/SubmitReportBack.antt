@@ -2,7 +2,7 @@
 -- Assumes nothing.
 use Prim.Native.Nat.{ℕ, zero, suc, _+_, _≤_}
 use mathlib.Core.Path.{_≡_, refl, sym, ap, _∙_}
-use mathlib.Core.Bool.{true, false}
+use mathlib.Core.Bool.{true, false, false≢true}
 use mathlib.Core.List.{List, [], _∷_, _++_}
 use native.Mathlib.Omega.{arith}
 use borrow.Author.Tests.{leb-true, ltb-false}
@@ -12,7 +12,7 @@ use lib.Seq.{length-take-le, drop-drop, drop-at}
 use Rattle.octets.specs.Answers.{Said, gives, fine}
 use Rattle.octets.specs.Checks.{_unless_, found}
 use Rattle.octets.specs.Lent.{made}
-use Rattle.octets.specs.declared.Refusal.the-variants.{LengthTooLarge, UdhiTooLarge, NotATime}
+use Rattle.octets.specs.declared.Refusal.the-variants.{LengthTooLarge, UdhiTooLarge, NotATime, OutcomeDisagrees}
 use Rattle.octets.proofs.Checks.{never, holds, both-hold, made-unless, made-told, made-counts}
 use Rattle.octets.proofs.Choice.{or-false}
 use Rattle.coding.specs.Coding.{dataOf}
@@ -24,14 +24,17 @@ use Rattle.layout.specs.Layout.{octets, any, reached, readFrom, read}
 use Rattle.layout.proofs.Steps.{done-reached}
 use Rattle.parameters.specs.Checking.{indicatorChecks, dataWithin}
 use Rattle.parameters.specs.Optional.{held}
+use Rattle.parameters.specs.Outcome.{outcomeAgrees}
 use Rattle.parameters.specs.Parameters.{Parameters, parametersOctets}
 use Rattle.parameters.specs.declared.OptionalOctet.{OptionalOctet}
 use Rattle.parameters.specs.declared.OptionalOctet.the-variants.{Absent, Present}
+use Rattle.parameters.specs.declared.RpOutcome.{RpOutcome}
+use Rattle.parameters.specs.declared.RpOutcome.the-variants.{RpAck, RpError}
 use Rattle.parameters.proofs.Laws.{one-at-most}
 use Rattle.submit_report.specs.Layout.{submitReported}
 use Rattle.submit_report.specs.Internal.{afterCause}
-use Rattle.submit_report.specs.SubmitReport.{outcomeOf, parametersOf, tooLong, submitReportingWithin, submitReporting, standardLimit, submitReportingToStandard, cleared, capitalised, Typed}
-use Rattle.submit_report.specs.Writing.{octetsIn, making}
+use Rattle.submit_report.specs.SubmitReport.{layoutOf, parametersOf, tooLong, submitReportingWithin, submitReporting, standardLimit, submitReportingToStandard, cleared, capitalised, Typed}
+use Rattle.submit_report.specs.Writing.{octetsIn, checksWithin}
 use Rattle.submit_report.specs.declared.SmsSubmitReport.{SmsSubmitReport}
 use Rattle.submit_report.proofs.CheckByCheck.{size-is}
 use Rattle.submit_report.proofs.Demand.{made-cleared}
@@ -42,20 +45,23 @@ use Rattle.demands.proofs.ParametersBack.{octet-here, indicator-here, n
 -- ---- the octets of values that pass the checks
 
 module _ (limit pi : ℕ) (digits : List ℕ) (w : isTime digits ≡ true) (p : Parameters) (i : found (indicatorChecks pi (p .pid) (p .dcs) (p .udl)) ≡ fine) (d : found (dataWithin limit (p .dcs) (p .udl) (length (p .ud))) ≡ fine) where
-  after-cause-back : (udhi : ℕ) (cause : OptionalOctet) (s : List ℕ) (at : ℕ) → drop at s ≡ pi ∷ (timeOctets digits ++ parametersOctets p)
-      → readFrom (afterCause udhi cause) s at ≡ reached (submitReported udhi cause pi (timeOctets digits) p) (at + 1 + length (timeOctets digits) + held (p .pid) + held (p .dcs) + held (p .udl) + length (p .ud))
-  after-cause-back udhi cause s at e =
+  after-cause-back : (outcome : RpOutcome) (udhi : ℕ) (cause : OptionalOctet) (s : List ℕ) (at : ℕ) → drop at s ≡ pi ∷ (timeOctets digits ++ parametersOctets p)
+      → readFrom (afterCause outcome udhi cause) s at ≡ reached (submitReported outcome udhi cause pi (timeOctets digits) p) (at + 1 + length (timeOctets digits) + held (p .pid) + held (p .dcs) + held (p .udl) + length (p .ud))
+  after-cause-back outcome udhi cause s at e =
       let t : drop (at + 1) s ≡ timeOctets digits ++ parametersOctets p = sym (drop-drop 1 at s) ∙ ap (drop 1) e in
       let u : drop (at + 1 + length (timeOctets digits)) s ≡ parametersOctets p = sym (drop-drop _ (at + 1) s) ∙ ap (drop (length (timeOctets digits))) t ∙ drop-at (timeOctets digits) (parametersOctets p) _ refl in
       indicator-here s at e _ (not-extended limit pi p [] 0 i d) ∙ field-here (octets any 7) _ s (at + 1) (timeOctets digits) (parametersOctets p) t (sym (time-size digits w))
       ∙ parameters-here limit pi p i d s _ u _ ∙ done-reached s _ _
 
-  back : (udhi : ℕ) → udhi ≤ 1 → (cause : OptionalOctet) → (n : ℕ) × (read (outcomeOf cause) (octetsIn udhi cause pi digits p) ≡ reached (submitReported udhi cause pi (timeOctets digits) p) n)
-  back zero h Absent = (_, outcomes (octetsIn 0 Absent pi digits p) .ack-goes-on (octet-here _ 0 refl) refl ∙ after-cause-back 0 Absent _ 1 refl)
-  back (suc zero) h Absent = (_, outcomes (octetsIn 1 Absent pi digits p) .ack-goes-on (octet-here _ 0 refl) refl ∙ after-cause-back 1 Absent _ 1 refl)
-  back zero h (Present x) = (_, outcomes (octetsIn 0 (Present x) pi digits p) .error-goes-on (octet-here _ 0 refl) refl refl (octet-here _ 1 refl) ∙ after-cause-back 0 (Present x) _ 2 refl)
-  back (suc zero) h (Present x) = (_, outcomes (octetsIn 1 (Present x) pi digits p) .error-goes-on (octet-here _ 0 refl) refl refl (octet-here _ 1 refl) ∙ after-cause-back 1 (Present x) _ 2 refl)
-  back (suc (suc udhi)) h cause = absurd (omega arith)
+  back : (udhi : ℕ) → udhi ≤ 1 → (outcome : RpOutcome) (cause : OptionalOctet) → outcomeAgrees outcome cause ≡ true
+      → (n : ℕ) × (read (layoutOf outcome) (octetsIn udhi cause pi digits p) ≡ reached (submitReported outcome udhi cause pi (timeOctets digits) p) n)
+  back zero h RpAck Absent a = (_, outcomes (octetsIn 0 Absent pi digits p) .ack-goes-on (octet-here _ 0 refl) refl ∙ after-cause-back RpAck 0 Absent _ 1 refl)
+  back (suc zero) h RpAck Absent a = (_, outcomes (octetsIn 1 Absent pi digits p) .ack-goes-on (octet-here _ 0 refl) refl ∙ after-cause-back RpAck 1 Absent _ 1 refl)
+  back zero h RpError (Present x) a = (_, outcomes (octetsIn 0 (Present x) pi digits p) .error-goes-on (octet-here _ 0 refl) refl refl (octet-here _ 1 refl) ∙ after-cause-back RpError 0 (Present x) _ 2 refl)
+  back (suc zero) h RpError (Present x) a = (_, outcomes (octetsIn 1 (Present x) pi digits p) .error-goes-on (octet-here _ 0 refl) refl refl (octet-here _ 1 refl) ∙ after-cause-back RpError 1 (Present x) _ 2 refl)
+  back (suc (suc udhi)) h outcome cause a = absurd (omega arith)
+  back udhi h RpAck (Present x) a = absurd (false≢true a)
+  back udhi h RpError Absent a = absurd (false≢true a)
 
 -- ---- a record
 
@@ -64,6 +70,7 @@ record Passed (limit : ℕ) (r : SmsSubmitReport) (os : List ℕ) : Type 0 where
   pub is : octetsIn (r .«tp_udhi») (r .«tp_failure_cause») (r .«tp_parameter_indicator») (digitsOf (r .«tp_service_centre_timestamp»)) (parametersOf r) ≡ os
   pub time-fits : r .«tp_service_centre_timestamp» .length ≤ 14
   pub data-fits : r .«tp_user_data» .length ≤ 255
+  pub agrees : outcomeAgrees (r .«rp_outcome») (r .«tp_failure_cause») ≡ true
   pub udhi : r .«tp_udhi» ≤ 1
   pub indicator : found (indicatorChecks (r .«tp_parameter_indicator») (r .«tp_pid») (r .«tp_dcs») (r .«tp_user_data_length»)) ≡ fine
   pub time-is : isTime (digitsOf (r .«tp_service_centre_timestamp»)) ≡ true
@@ -71,7 +78,7 @@ record Passed (limit : ℕ) (r : SmsSubmitReport) (os : List ℕ) : Type 0 where
 
 module _ {os : List ℕ} {answer : Said ℕ} (limit : ℕ) (r : SmsSubmitReport) (e : submitReportingWithin limit r ≡ made os answer) where
   passed : Passed limit r os
-  unfolding submitReportingWithin making
+  unfolding submitReportingWithin
   passed =
       let digits = digitsOf (r .«tp_service_centre_timestamp») in
       let first = indicatorChecks (r .«tp_parameter_indicator») (r .«tp_pid») (r .«tp_dcs») (r .«tp_user_data_length») in
@@ -79,34 +86,35 @@ module _ {os : List ℕ} {answer : Said ℕ} (limit : ℕ) (r : SmsSubmitReport)
       let (long, m) = made-unless LengthTooLarge (tooLong r) e in
       let (a, b) = or-false (ltb 14 (r .«tp_service_centre_timestamp» .length)) _ long in
       let (f, x) = made-told _ _ m in
-      let (u, g) = holds UdhiTooLarge (leb (r .«tp_udhi») 1) (first ++ ((NotATime unless isTime digits) ∷ last)) f in
+      let (c, h) = holds OutcomeDisagrees (outcomeAgrees (r .«rp_outcome») (r .«tp_failure_cause»)) (checksWithin limit (r .«tp_udhi») (r .«tp_parameter_indicator») digits (parametersOf r)) f in
+      let (u, g) = holds UdhiTooLarge (leb (r .«tp_udhi») 1) (first ++ ((NotATime unless isTime digits) ∷ last)) h in
       let (i, k) = both-hold first ((NotATime unless isTime digits) ∷ last) g in
       let (t, d) = holds NotATime (isTime digits) last k in
-      record { is = x; time-fits = ltb-false _ _ a; data-fits = ltb-false _ _ b; udhi = leb-true _ _ u; indicator = i; time-is = t; held = d }
+      record { is = x; time-fits = ltb-false _ _ a; data-fits = ltb-false _ _ b; agrees = c; udhi = leb-true _ _ u; indicator = i; time-is = t; held = d }
 
   -- what was written has at most 13 octets more than the user data may, or 12 without a cause
   at-most-within : length os ≤ 12 + held (r .«tp_failure_cause») + limit
   at-most-within = rw (← passed .is, size-is _ _ _ _ _ (passed .time-is)) (omega (arith, parameters-limit limit (parametersOf r) (passed .held)))
 
   -- what was written is read back
-  read-back : Typed r → (q : SmsSubmitReport) × (n : ℕ) × (read (outcomeOf (r .«tp_failure_cause»)) os ≡ reached q n) × (cleared q ≡ capitalised (cleared r))
+  read-back : Typed r → (q : SmsSubmitReport) × (n : ℕ) × (read (layoutOf (r .«rp_outcome»)) os ≡ reached q n) × (cleared q ≡ capitalised (cleared r))
   unfolding submitReported
   read-back (ht, hd) =
       let stamp = r .«tp_service_centre_timestamp» in
       let d = r .«tp_user_data» in
-      let (n, is) = back limit (r .«tp_parameter_indicator») (digitsOf stamp) (passed .time-is) (parametersOf r) (passed .indicator) (passed .held) (r .«tp_udhi») (passed .udhi) (r .«tp_failure_cause») in
+      let (n, is) = back limit (r .«tp_parameter_indicator») (digitsOf stamp) (passed .time-is) (parametersOf r) (passed .indicator) (passed .held) (r .«tp_udhi») (passed .udhi) (r .«rp_outcome») (r .«tp_failure_cause») (passed .agrees) in
       let lt : length (digitsOf stamp) ≡ stamp .length = length-take-le (stamp .length) (stamp .digits) (omega (arith, passed .time-fits)) in
       let ld : length (dataOf d) ≡ d .length = length-take-le (d .length) (d .octets) (omega (arith, passed .data-fits)) in (
-        submitReported (r .«tp_udhi») (r .«tp_failure_cause») (r .«tp_parameter_indicator») (timeOctets (digitsOf stamp)) (parametersOf r),
+        submitReported (r .«rp_outcome») (r .«tp_udhi») (r .«tp_failure_cause») (r .«tp_parameter_indicator») (timeOctets (digitsOf stamp)) (parametersOf r),
         n,
-        ap (read (outcomeOf (r .«tp_failure_cause»))) (sym (passed .is)) ∙ is,
-        made-cleared _ _ _ _ _ ∙ rw (time-back stamp (passed .time-is) lt, data-back d ld),
+        ap (read (layoutOf (r .«rp_outcome»))) (sym (passed .is)) ∙ is,
+        made-cleared _ _ _ _ _ _ ∙ rw (time-back stamp (passed .time-is) lt, data-back d ld),
       )
 
 -- ---- the writer within the limit of each record
 
 module _ (limitOf : SmsSubmitReport → ℕ) where
-  pub submit-report-demand2 : Demand2 Typed cleared capitalised (λ r. outcomeOf (r .«tp_failure_cause»)) (λ r. submitReportingWithin (limitOf r) r) (λ r. fine) (λ r. false)
+  pub submit-report-demand2 : Demand2 Typed cleared capitalised (λ r. layoutOf (r .«rp_outcome»)) (λ r. submitReportingWithin (limitOf r) r) (λ r. fine) (λ r. false)
   submit-report-demand2 = record {
     back = λ r t octets n e x. read-back (limitOf r) r e t;
     excepted = λ r t octets n e why x. absurd (never x);
@@ -114,7 +122,7 @@ module _ (limitOf : SmsSubmitReport → ℕ) where
   }
 
   pub submit-report-counts : (r : SmsSubmitReport) (xs : List ℕ) (a : Said ℕ) → submitReportingWithin (limitOf r) r ≡ made xs a → a ≡ gives (length xs)
-  unfolding submitReportingWithin making
+  unfolding submitReportingWithin
   submit-report-counts r xs a e = made-counts _ _ (made-unless LengthTooLarge (tooLong r) e .1)
 
 -- ---- how much is written

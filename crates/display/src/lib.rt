@@ -17,6 +17,7 @@ use crate::user_data::optional_user_data;
 use crate::user_data::user_data;
 use output::Output;
 use tpdu::OptionalOctet;
+use tpdu::RpOutcome;
 use tpdu::SMSAddress;
 use tpdu::SmsDeliver;
 use tpdu::SmsDeliverReport;
@@ -135,16 +136,30 @@ fn cause(out: &mut Output, at: usize, cause: OptionalOctet) -> usize {
     }
 }
 
+// The heading of a report: its kind and its outcome.
+fn heading(out: &mut Output, at: usize, kind: &[u8], outcome: RpOutcome) -> usize {
+    let next = output::put(out, at, kind);
+    match outcome {
+        RpOutcome::RpAck => output::put(out, next, b" (RP-ACK)\n"),
+        RpOutcome::RpError => output::put(out, next, b" (RP-ERROR)\n"),
+    }
+}
+
+// The outcome is that of the record; a refusal has no record, and then it is that which was asked for.
 fn submit_report(
     out: &mut Output,
-    at: usize,
+    start: usize,
+    asked: RpOutcome,
     refusal: u8,
     message: SmsSubmitReport,
     replaced: usize,
 ) -> usize {
     if refusal != 0 {
+        let at = heading(out, start, b"SMS-SUBMIT-REPORT", asked);
         return refused_line(out, at, refusal);
     }
+    let outcome = message.rp_outcome;
+    let at = heading(out, start, b"SMS-SUBMIT-REPORT", outcome);
     let failure = message.tp_failure_cause;
     let dcs = message.tp_dcs;
     let udl = message.tp_user_data_length;
@@ -157,14 +172,18 @@ fn submit_report(
 
 fn deliver_report(
     out: &mut Output,
-    at: usize,
+    start: usize,
+    asked: RpOutcome,
     refusal: u8,
     message: SmsDeliverReport,
     replaced: usize,
 ) -> usize {
     if refusal != 0 {
+        let at = heading(out, start, b"SMS-DELIVER-REPORT", asked);
         return refused_line(out, at, refusal);
     }
+    let outcome = message.rp_outcome;
+    let at = heading(out, start, b"SMS-DELIVER-REPORT", outcome);
     let failure = message.tp_failure_cause;
     let dcs = message.tp_dcs;
     let udl = message.tp_user_data_length;
@@ -241,29 +260,13 @@ pub fn show_submit(octets: &[u8], out: &mut Output, at: usize) -> usize {
     read_submit(octets, out, next)
 }
 
-fn read_submit_report_ack(octets: &[u8], out: &mut Output, at: usize) -> usize {
+pub fn show_submit_report_ack(octets: &[u8], out: &mut Output, at: usize) -> usize {
     let read = SmsSubmitReport::decode_for_rp_ack(octets);
     let outcome = read.outcome;
     submit_report(
         out,
         at,
-        refusal_number(outcome),
-        read.message,
-        read.replaced_escapes,
-    )
-}
-
-pub fn show_submit_report_ack(octets: &[u8], out: &mut Output, at: usize) -> usize {
-    let next = output::put(out, at, b"SMS-SUBMIT-REPORT (RP-ACK)\n");
-    read_submit_report_ack(octets, out, next)
-}
-
-fn read_submit_report_error(octets: &[u8], out: &mut Output, at: usize) -> usize {
-    let read = SmsSubmitReport::decode_for_rp_error(octets);
-    let outcome = read.outcome;
-    submit_report(
-        out,
-        at,
+        RpOutcome::RpAck,
         refusal_number(outcome),
         read.message,
         read.replaced_escapes,
@@ -271,16 +274,12 @@ fn read_submit_report_error(octets: &[u8], out: &mut Output, at: usize) -> usize
 }
 
 pub fn show_submit_report_error(octets: &[u8], out: &mut Output, at: usize) -> usize {
-    let next = output::put(out, at, b"SMS-SUBMIT-REPORT (RP-ERROR)\n");
-    read_submit_report_error(octets, out, next)
-}
-
-fn read_deliver_report_ack(octets: &[u8], out: &mut Output, at: usize) -> usize {
-    let read = SmsDeliverReport::decode_for_rp_ack(octets);
+    let read = SmsSubmitReport::decode_for_rp_error(octets);
     let outcome = read.outcome;
-    deliver_report(
+    submit_report(
         out,
         at,
+        RpOutcome::RpError,
         refusal_number(outcome),
         read.message,
         read.replaced_escapes,
@@ -288,16 +287,12 @@ fn read_deliver_report_ack(octets: &[u8], out: &mut Output, at: usize) -> usize 
 }
 
 pub fn show_deliver_report_ack(octets: &[u8], out: &mut Output, at: usize) -> usize {
-    let next = output::put(out, at, b"SMS-DELIVER-REPORT (RP-ACK)\n");
-    read_deliver_report_ack(octets, out, next)
-}
-
-fn read_deliver_report_error(octets: &[u8], out: &mut Output, at: usize) -> usize {
-    let read = SmsDeliverReport::decode_for_rp_error(octets);
+    let read = SmsDeliverReport::decode_for_rp_ack(octets);
     let outcome = read.outcome;
     deliver_report(
         out,
         at,
+        RpOutcome::RpAck,
         refusal_number(outcome),
         read.message,
         read.replaced_escapes,
@@ -305,8 +300,16 @@ fn read_deliver_report_error(octets: &[u8], out: &mut Output, at: usize) -> usiz
 }
 
 pub fn show_deliver_report_error(octets: &[u8], out: &mut Output, at: usize) -> usize {
-    let next = output::put(out, at, b"SMS-DELIVER-REPORT (RP-ERROR)\n");
-    read_deliver_report_error(octets, out, next)
+    let read = SmsDeliverReport::decode_for_rp_error(octets);
+    let outcome = read.outcome;
+    deliver_report(
+        out,
+        at,
+        RpOutcome::RpError,
+        refusal_number(outcome),
+        read.message,
+        read.replaced_escapes,
+    )
 }
 
 fn read_status_report(octets: &[u8], out: &mut Output, at: usize) -> usize {

@@ -38,6 +38,7 @@ pub enum Refusal {
     ElementPassesHeader,
     ElementsTooLong,
     TooManyParts,
+    OutcomeDisagrees,
 }
 
 impl Refusal {
@@ -72,6 +73,7 @@ impl Refusal {
             Refusal::ElementPassesHeader => 24,
             Refusal::ElementsTooLong => 25,
             Refusal::TooManyParts => 26,
+            Refusal::OutcomeDisagrees => 29,
         }
     }
 }

@@ -6,3 +6,4 @@ pub mod Outcomes
 pub mod Made
 pub mod Checking
 pub mod Limits
+pub mod OneOutcome

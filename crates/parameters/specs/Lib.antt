@@ -1,4 +1,5 @@
 pub mod Optional
+pub mod Outcome
 pub mod Parameters
 pub mod Layout
 pub mod Checking

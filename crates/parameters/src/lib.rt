@@ -1,4 +1,5 @@
-// An octet of a record that may be absent: a parameter of a report, its cause or its indicator.
+// What the reports share: an octet of a record that may be absent (a parameter, the cause, an indicator), and the outcome
+// that carries a report.
 pub mod reading;
 pub mod writing;
 
@@ -7,10 +8,27 @@ ghost use Prim.Native.Nat.{_+_, _≤_};
 ghost use lib.ListN.{length};
 ghost use Rattle.octets.specs.Lent.{Wrote};
 ghost use Rattle.parameters.specs.Optional.{octetsHeld, held, orZero};
+ghost use Rattle.parameters.specs.Outcome.{outcomeAgrees};
 
 pub enum OptionalOctet {
     Absent,
     Present(u8),
+}
+
+// What carries a report: an RP-ACK, or an RP-ERROR, which alone has a cause.
+pub enum RpOutcome {
+    RpAck,
+    RpError,
+}
+
+// Whether an outcome and the cause held agree: an RP-ERROR has one, an RP-ACK none.
+pub fn outcome_agrees(outcome: RpOutcome, cause: OptionalOctet) -> bool
+    ensures { λ r. ⌜ r ≡ outcomeAgrees outcome cause ⌝ }
+{
+    match outcome {
+        RpOutcome::RpAck => octets_held(cause) == 0,
+        RpOutcome::RpError => octets_held(cause) == 1,
+    }
 }
 
 // How many octets an optional octet takes.

@@ -63,14 +63,16 @@ pub const VP: usize = 22;
 
 pub const UD: usize = 23;
 
-// How many keys there are; as a key's number it says that there is no such key.
-pub const KEYS: usize = 24;
+pub const OUTCOME: usize = 24;
 
-const NAMES: [u8; 117] = *b"\
+// How many keys there are; as a key's number it says that there is no such key.
+pub const KEYS: usize = 25;
+
+const NAMES: [u8; 126] = *b"\
     rp=\nudhi=\nsri=\nlp=\nmms=\nsrr=\nrd=\nsrq=\n\
     mti=\nvpf=\nton=\nnpi=\nudl=\n\
     mr=\npid=\ndcs=\nfcs=\npi=\nst=\n\
-    address=\nscts=\ndt=\nvp=\nud=\n";
+    address=\nscts=\ndt=\nvp=\nud=\noutcome=\n";
 
 // ---- the kinds of message that can be written, by number, in the order of their names
 
@@ -105,13 +107,13 @@ pub fn report_named(name: &[u8]) -> usize {
 
 // A row for each kind, and one for a SUBMIT without destination. A row has a letter for each key, in their order: the
 // form of its value (`values::has_form`), or a dot if the kind has no such key.
-const FORMS: [u8; 150] = *b"\
-    fffff...n.nnn.xx...ot..o\n\
-    ff...ff.nnnnnxxx...o..po\n\
-    .n..........N.XXXx..t..o\n\
-    .f..........N.XXXx.....o\n\
-    .f.ff..f..nnNxXX.Xxott.o\n\
-    ff...ff.nn--nxxx...-..po\n";
+const FORMS: [u8; 156] = *b"\
+    fffff...n.nnn.xx...ot..o.\n\
+    ff...ff.nnnnnxxx...o..po.\n\
+    .n..........N.XXXx..t..oa\n\
+    .f..........N.XXXx.....oa\n\
+    .f.ff..f..nnNxXX.Xxott.o.\n\
+    ff...ff.nn--nxxx...-..po.\n";
 
 const WITHOUT_DESTINATION: usize = 5;
 

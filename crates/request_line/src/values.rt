@@ -7,6 +7,7 @@ use text_fields::slices::after;
 use text_fields::slices::begins;
 use text_fields::slices::between;
 use text_fields::slices::least;
+use text_fields::slices::same;
 use tpdu::Time;
 use tpdu::UserData;
 
@@ -114,9 +115,18 @@ fn is_period(value: &[u8]) -> bool {
     }
 }
 
+fn is_outcome(value: &[u8]) -> bool {
+    same(value, b"ack") || is_error(value)
+}
+
+// Whether the outcome of a report is RP-ERROR.
+pub fn is_error(value: &[u8]) -> bool {
+    same(value, b"error")
+}
+
 // Whether a value has the form that a letter stands for: w a word, any; f a flag; n a number to 255; c a number of up
 // to nine digits; z a zone; x an octet; d a coding, which is an octet too; o octets; e header elements; t a time; p a
-// validity period; - absent; N and X: n and x, or absent.
+// validity period; a the outcome of a report; - absent; N and X: n and x, or absent.
 pub fn has_form(form: u8, value: &[u8]) -> bool {
     match form {
         b'w' => true,
@@ -131,6 +141,7 @@ pub fn has_form(form: u8, value: &[u8]) -> bool {
         b'e' => is_elements(value),
         b't' => is_time(value),
         b'p' => is_period(value),
+        b'a' => is_outcome(value),
         b'-' => is_absent(value),
         _ => false,
     }

@@ -27,8 +27,11 @@ use Rattle.parameters.specs.Optional.{octetsHeld}
 use Rattle.parameters.specs.Parameters.{Parameters}
 use Rattle.parameters.specs.declared.OptionalOctet.{OptionalOctet}
 use Rattle.parameters.specs.declared.OptionalOctet.the-variants.{Absent, Present}
+use Rattle.parameters.specs.declared.RpOutcome.{RpOutcome}
+use Rattle.parameters.specs.declared.RpOutcome.the-variants.{RpAck, RpError}
 use Rattle.parameters.specs.Checking.{indicatorChecks, dataWithin}
 use Rattle.parameters.specs.Layout.{parameters}
+use Rattle.parameters.specs.Outcome.{outcomeAgrees}
 use Rattle.parameters.proofs.Checking.{answers}
 use Rattle.parameters.proofs.Made.{Held, parameters-make, joined-append, past-append}
 use Rattle.submit_report.specs.Layout.{submitReported, format}
@@ -60,9 +63,9 @@ pub standard-written-alike : (r q : SmsSubmitReport) → Typed r → Typed q →
 standard-written-alike r q f g e = written-alike _ r q f g e ∙ ap (λ (o : SmsSubmitReport). submitReportingWithin (standardLimit (o .«tp_failure_cause»)) q) e
 
 -- a record that was made of fields is cleared
-pub made-cleared : (udhi : ℕ) (cause : OptionalOctet) (pi : ℕ) (scts : List ℕ) (p : Parameters) → cleared (submitReported udhi cause pi scts p) ≡ submitReported udhi cause pi scts p
+pub made-cleared : (outcome : RpOutcome) (udhi : ℕ) (cause : OptionalOctet) (pi : ℕ) (scts : List ℕ) (p : Parameters) → cleared (submitReported outcome udhi cause pi scts p) ≡ submitReported outcome udhi cause pi scts p
 unfolding submitReported
-made-cleared udhi cause pi scts p = rw (time-cleared scts, data-cleared (p .ud))
+made-cleared outcome udhi cause pi scts p = rw (time-cleared scts, data-cleared (p .ud))
 
 -- ---- a record that was read: its octets, and how its checks fare
 
@@ -80,21 +83,21 @@ first-is x m = omega (arith, kept-bit bits refl 6 refl x, kept-type bits refl x)
 between : {holds : Bool} → holds ≡ true → (why : Refusal) (more : List Check) (xs : List ℕ) (checks : List Check) → checked (checks ++ ((why unless holds) ∷ more)) xs ≡ checked (checks ++ more) xs
 between e why more xs checks = checked-then xs checks _ ∙ rw (check-holds e why more xs, ← checked-then xs checks more)
 
-module _ (udhi : ℕ) (u : udhi ≤ 1) (cause : OptionalOctet) (pi : ℕ) (t : List ℕ) (ot : Octets t) (wt : 7 ≡ length t) (p : Parameters) where
+module _ (outcome : RpOutcome) (udhi : ℕ) (u : udhi ≤ 1) (cause : OptionalOctet) (agrees : outcomeAgrees outcome cause ≡ true) (pi : ℕ) (t : List ℕ) (ot : Octets t) (wt : 7 ≡ length t) (p : Parameters) where
   abbrev r : SmsSubmitReport
-  r = submitReported udhi cause pi t p
+  r = submitReported outcome udhi cause pi t p
 
   abbrev its-octets : List ℕ
   its-octets = octetsIn udhi cause pi (timeDigits t) p
 
   octets-held : octetsOf (cleared r) ≡ its-octets
   unfolding submitReported
-  octets-held = ap octetsOf (made-cleared udhi cause pi t p) ∙ rw (time-held t, data-held (p .ud))
+  octets-held = ap octetsOf (made-cleared outcome udhi cause pi t p) ∙ rw (time-held t, data-held (p .ud))
 
   its-making : length (p .ud) ≤ 255 → submitReporting r ≡ checked (indicatorChecks pi (p .pid) (p .dcs) (p .udl) ++ dataWithin 140 (p .dcs) (p .udl) (length (p .ud))) its-octets
   unfolding submitReported making timeIn dataWith
   its-making h =
-      by-fields 140 r (fits r (omega (arith, length-digits t)) h) ∙ rw (time-held t, data-held (p .ud))
+      by-fields 140 r (fits r (omega (arith, length-digits t)) h) agrees ∙ rw (time-held t, data-held (p .ud))
       (check-holds (le-leb udhi 1 u) _ _ its-octets ∙ between (digits-time t ot (sym wt)) NotATime (dataWithin 140 (p .dcs) (p .udl) (length (p .ud))) its-octets (indicatorChecks pi (p .pid) (p .dcs) (p .udl)))
 
   -- indicator, time and parameters stand after the fields of first octet and cause
@@ -116,56 +119,56 @@ module _ (udhi : ℕ) (u : udhi ≤ 1) (cause : OptionalOctet) (pi : ℕ) (t : L
 
 -- ---- the two layouts
 
-after-cause-makes : (x : ℕ) (cause : OptionalOctet) (front : List Field) → joined front ≡ (64 * bit 6 x + 1) ∷ octetsHeld cause → anyPastLimit front ≡ false → Makes (λ r cs. Canonical r (front ++ cs)) (afterCause (bit 6 x) cause)
-after-cause-makes x cause front j n pi low t ot wt =
+after-cause-makes : (outcome : RpOutcome) (x : ℕ) (cause : OptionalOctet) → outcomeAgrees outcome cause ≡ true → (front : List Field) → joined front ≡ (64 * bit 6 x + 1) ∷ octetsHeld cause → anyPastLimit front ≡ false → Makes (λ r cs. Canonical r (front ++ cs)) (afterCause outcome (bit 6 x) cause)
+after-cause-makes outcome x cause agrees front j n pi low t ot wt =
     let u : bit 6 x ≤ 1 = omega arith in
-    makes-then (Held pi) _ (parameters pi) _ (parameters-make pi) λ p cs h. rw append-nil (written (bit 6 x) u cause pi t ot wt p front cs j n h)
+    makes-then (Held pi) _ (parameters pi) _ (parameters-make pi) λ p cs h. rw append-nil (written outcome (bit 6 x) u cause agrees pi t ot wt p front cs j n h)
 
-ack-makes : Makes Canonical (format false)
+ack-makes : Makes Canonical (format RpAck)
 unfolding format
-ack-makes x low m = after-cause-makes (kept bits x) Absent (standsAs (first bits) (kept bits x ∷ []) ∷ []) (ap (λ (n : ℕ). n ∷ []) (first-is x (eqb-true _ 1 m))) refl
+ack-makes x low m = after-cause-makes RpAck (kept bits x) Absent refl (standsAs (first bits) (kept bits x ∷ []) ∷ []) (ap (λ (n : ℕ). n ∷ []) (first-is x (eqb-true _ 1 m))) refl
 
-error-makes : Makes Canonical (format true)
+error-makes : Makes Canonical (format RpError)
 unfolding format
 error-makes x low m cause small =
-    after-cause-makes (kept bits x) (Present cause) (standsAs (first bits) (kept bits x ∷ []) ∷ standsAs octet (cause ∷ []) ∷ []) (ap (λ (n : ℕ). n ∷ cause ∷ []) (first-is x (eqb-true _ 1 m))) refl
+    after-cause-makes RpError (kept bits x) (Present cause) refl (standsAs (first bits) (kept bits x ∷ []) ∷ standsAs octet (cause ∷ []) ∷ []) (ap (λ (n : ℕ). n ∷ cause ∷ []) (first-is x (eqb-true _ 1 m))) refl
 
 -- ---- demand 3
 
 pub ack-demand3 : Demand3 cleared ack submitReporting false
-ack-demand3 = demand3 cleared submitReporting octetsOf (format false) ack-makes
+ack-demand3 = demand3 cleared submitReporting octetsOf (format RpAck) ack-makes
 
 -- the octets of the stopped RP-ERROR
 abbrev stands : List ℕ
 stands = 0x01 ∷ 0xff ∷ 0x00 ∷ []
 
 -- it has no time: no string of the layout gives its record or stands as its octets, and it is refused
-no-time : (udhi : ℕ) (cause : OptionalOctet) (pi : ℕ) (t : List ℕ) (p : Parameters) → 7 ≡ length t → cleared stopped ≡ cleared (submitReported udhi cause pi t p) → ⊥
+no-time : (outcome : RpOutcome) (udhi : ℕ) (cause : OptionalOctet) (pi : ℕ) (t : List ℕ) (p : Parameters) → 7 ≡ length t → cleared stopped ≡ cleared (submitReported outcome udhi cause pi t p) → ⊥
 unfolding submitReported timeIn
-no-time udhi cause pi t p w e = omega (arith, ap (λ (q : SmsSubmitReport). q .«tp_service_centre_timestamp» .length) e, length-digits [], length-digits t)
+no-time outcome udhi cause pi t p w e = omega (arith, ap (λ (q : SmsSubmitReport). q .«tp_service_centre_timestamp» .length) e, length-digits [], length-digits t)
 
 longer : (a b c : ℕ) (t more : List ℕ) → 7 ≡ length t → stands ≡ a ∷ b ∷ c ∷ (t ++ more) → ⊥
 longer a b c t more w e = omega (arith, ap length e, length-append t more)
 
-apart : Makes (λ r cs. (cleared stopped ≡ cleared r → ⊥) × (stands ≡ joined cs → ⊥)) (format true)
+apart : Makes (λ r cs. (cleared stopped ≡ cleared r → ⊥) × (stands ≡ joined cs → ⊥)) (format RpError)
 unfolding format
 apart x low m cause small pi at t ot wt =
-    makes-then (Held pi) _ (parameters pi) _ (parameters-make pi) λ p cs h. (no-time _ (Present cause) pi t p wt, longer (kept bits x) cause pi t (joined (cs ++ [])) wt)
+    makes-then (Held pi) _ (parameters pi) _ (parameters-make pi) λ p cs h. (no-time RpError _ (Present cause) pi t p wt, longer (kept bits x) cause pi t (joined (cs ++ [])) wt)
 
 stopped-refused : submitReporting stopped ≡ refused NotATime
 unfolding submitReportingWithin submitReported timeIn timeDigits dataWith making checked indicatorChecks isTime
 stopped-refused = refl
 
-stands-apart : Stopped cleared submitReporting (format true) stands stopped true
-stands-apart = stopped-apart cleared submitReporting (format true) stands stopped apart stopped-refused
+stands-apart : Stopped cleared submitReporting (format RpError) stands stopped true
+stands-apart = stopped-apart cleared submitReporting (format RpError) stands stopped apart stopped-refused
 
 pub error-demand3 : Demand3 cleared error submitReporting true
-error-demand3 = demand3-stopping cleared submitReporting octetsOf (format true) error-makes 1 stands stopped true stands-apart
+error-demand3 = demand3-stopping cleared submitReporting octetsOf (format RpError) error-makes 1 stands stopped true stands-apart
 
 -- ---- what the writer makes of a record that was read, whatever the buffer
 
 pub ack-answers : (s : List ℕ) → Octets s → (r : SmsSubmitReport) (n : ℕ) → read ack s ≡ reached r n → Answers (submitReporting r) (canonicalOf ack s) (unwritable ack false s)
-ack-answers = answers-plain cleared submitReporting octetsOf (format false) ack-makes
+ack-answers = answers-plain cleared submitReporting octetsOf (format RpAck) ack-makes
 
 pub error-answers : (s : List ℕ) → Octets s → (r : SmsSubmitReport) (n : ℕ) → read error s ≡ reached r n → Answers (submitReporting r) (canonicalOf error s) (unwritable error true s)
-error-answers = answers-stopping cleared submitReporting octetsOf (format true) error-makes 1 stands stopped true stands-apart
+error-answers = answers-stopping cleared submitReporting octetsOf (format RpError) error-makes 1 stands stopped true stands-apart

@@ -18,6 +18,7 @@ use Rattle.parameters.specs.Layout.{parameters}
 use Rattle.parameters.specs.declared.OptionalOctet.{OptionalOctet}
 use Rattle.parameters.proofs.StepsOfReader.{Found, parameters-told, parameters-halted, indicator-within}
 use Rattle.parameters.proofs.Outcomes.{Outcomes, outcomes-of}
+use Rattle.parameters.specs.declared.RpOutcome.{RpOutcome}
 use Rattle.submit_report.specs.Layout.{submitReported, format}
 use Rattle.submit_report.specs.Internal.{afterCause}
 use Rattle.submit_report.specs.SubmitReport.{stopped, ack, error}
@@ -40,9 +41,9 @@ module _ {pi : ℕ} {q : Place} (s : List ℕ) (p : Place) (i : indicatorAt s p 
       → counted (placed (readFrom (parameters pi) s (v .at))) ≡ gives (record { pid = pid; dcs = dcs; udl = udl; octets = n; next = t }) → Found s (v .at) pi pid dcs udl n t
   parameters-inside o e = parameters-told s (v .at) pi o (time-inside .1) e
 
-module _ (s : List ℕ) (p : Place) (udhi : ℕ) (cause : OptionalOctet) where
+module _ (s : List ℕ) (p : Place) (outcome : RpOutcome) (udhi : ℕ) (cause : OptionalOctet) where
   abbrev afterwards : Reached SmsSubmitReport
-  afterwards = readFrom (afterCause udhi cause) s (p .at)
+  afterwards = readFrom (afterCause outcome udhi cause) s (p .at)
 
   pub no-indicator : indicatorAt s p ≡ refuses OctetsEnd → afterwards ≡ halted OctetsEnd
   no-indicator e = indicator-ends s p e _
@@ -56,5 +57,5 @@ module _ (s : List ℕ) (p : Place) (udhi : ℕ) (cause : OptionalOctet) where
       no-parameters e = indicator-goes-on s p i _ ∙ span-goes-on s q 7 r any _ ∙ then-ends s (parameters pi) (v .at) (parameters-halted s (v .at) pi e) _
 
       pub all-there : {n : ℕ} {pid dcs udl : OptionalOctet} {t : Place} → Found s (v .at) pi pid dcs udl n t
-          → afterwards ≡ reached (submitReported udhi cause pi (take 7 (drop a s)) (record { pid = pid; dcs = dcs; udl = udl; ud = take n (drop (t .at - n) s) })) (t .at)
+          → afterwards ≡ reached (submitReported outcome udhi cause pi (take 7 (drop a s)) (record { pid = pid; dcs = dcs; udl = udl; ud = take n (drop (t .at - n) s) })) (t .at)
       all-there found = rw (indicator-goes-on s p i, span-goes-on s q 7 r, then-goes-on s (parameters pi) (v .at) (found .is), done-reached, span-there s q 7 r .1)

@@ -9,14 +9,15 @@ use Rattle.octets.specs.Answers.{Said}
 use Rattle.octets.specs.Checks.{Check, _unless_, checked}
 use Rattle.octets.specs.Choice.{if_then_else_}
 use Rattle.octets.specs.Lent.{Making, refused}
-use Rattle.octets.specs.declared.Refusal.the-variants.{LengthTooLarge, UdhiTooLarge, NotATime}
+use Rattle.octets.specs.declared.Refusal.the-variants.{LengthTooLarge, UdhiTooLarge, NotATime, OutcomeDisagrees}
 use Rattle.coding.specs.Coding.{dataOf}
 use Rattle.time.specs.Time.{isTime, digitsOf}
 use Rattle.parameters.specs.Checking.{indicatorChecks, dataWithin}
 use Rattle.parameters.specs.Limits.{Limits}
+use Rattle.parameters.specs.Outcome.{outcomeAgrees}
 use Rattle.parameters.proofs.Limits.{limits, keeps, moves, writing}
 use Rattle.submit_report.specs.SubmitReport.{parametersOf, tooLong, submitReportingWithin}
-use Rattle.submit_report.specs.Writing.{octetsIn, making}
+use Rattle.submit_report.specs.Writing.{octetsIn}
 use Rattle.submit_report.specs.declared.SmsSubmitReport.{SmsSubmitReport}
 
 abbrev count : SmsSubmitReport → ℕ
@@ -30,13 +31,13 @@ abbrev timed : SmsSubmitReport → List Check
 timed r = (NotATime unless isTime (digitsOf (r .«tp_service_centre_timestamp»))) ∷ []
 
 abbrev front : SmsSubmitReport → List Check
-front r = (UdhiTooLarge unless leb (r .«tp_udhi») 1) ∷ (first r ++ timed r)
+front r = (OutcomeDisagrees unless outcomeAgrees (r .«rp_outcome») (r .«tp_failure_cause»)) ∷ (UdhiTooLarge unless leb (r .«tp_udhi») 1) ∷ (first r ++ timed r)
 
 abbrev octets : SmsSubmitReport → List ℕ
 octets r = octetsIn (r .«tp_udhi») (r .«tp_failure_cause») (r .«tp_parameter_indicator») (digitsOf (r .«tp_service_centre_timestamp»)) (parametersOf r)
 
 data-last : (limit : ℕ) (r : SmsSubmitReport) → submitReportingWithin limit r ≡ writing (tooLong r) (front r) (r .«tp_dcs») (r .«tp_user_data_length») (count r) (octets r) limit
-unfolding submitReportingWithin making
+unfolding submitReportingWithin
 data-last limit r = rw (append-assoc (first r) (timed r) (dataWithin limit (r .«tp_dcs») (r .«tp_user_data_length») (count r)))
 
 pub submit-report-limits : Limits submitReportingWithin count

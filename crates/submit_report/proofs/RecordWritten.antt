@@ -1,14 +1,16 @@
--- What a writer makes of a record within a limit: its lengths, then its fields.
+-- What a writer makes of a record within a limit: its lengths, its outcome, then its fields.
 -- Assumes nothing.
 use Prim.Native.Nat.{ℕ, _≤_}
 use mathlib.Core.Path.{_≡_}
 use mathlib.Core.Bool.{true, false}
 use borrow.Author.Tests.{le-ltb, ltb-false}
 use lib.Dec.{ltb}
+use Rattle.octets.specs.Checks.{checked}
 use Rattle.octets.specs.Lent.{refused}
-use Rattle.octets.specs.declared.Refusal.the-variants.{LengthTooLarge}
+use Rattle.octets.specs.declared.Refusal.the-variants.{LengthTooLarge, OutcomeDisagrees}
 use Rattle.octets.proofs.Choice.{or-false}
 use Rattle.time.specs.Time.{digitsOf}
+use Rattle.parameters.specs.Outcome.{outcomeAgrees}
 use Rattle.submit_report.specs.SubmitReport.{parametersOf, tooLong, submitReportingWithin}
 use Rattle.submit_report.specs.Writing.{making}
 use Rattle.submit_report.specs.declared.SmsSubmitReport.{SmsSubmitReport}
@@ -18,9 +20,13 @@ module _ (limit : ℕ) (r : SmsSubmitReport) where
   unfolding submitReportingWithin
   too-long e = rw e
 
-  pub by-fields : tooLong r ≡ false → submitReportingWithin limit r ≡ making limit (r .«tp_udhi») (r .«tp_failure_cause») (r .«tp_parameter_indicator») (digitsOf (r .«tp_service_centre_timestamp»)) (parametersOf r)
-  unfolding submitReportingWithin
-  by-fields e = rw e
+  pub outcome-disagrees : tooLong r ≡ false → outcomeAgrees (r .«rp_outcome») (r .«tp_failure_cause») ≡ false → submitReportingWithin limit r ≡ refused OutcomeDisagrees
+  unfolding submitReportingWithin checked
+  outcome-disagrees e a = rw (e, a)
+
+  pub by-fields : tooLong r ≡ false → outcomeAgrees (r .«rp_outcome») (r .«tp_failure_cause») ≡ true → submitReportingWithin limit r ≡ making limit (r .«tp_udhi») (r .«tp_failure_cause») (r .«tp_parameter_indicator») (digitsOf (r .«tp_service_centre_timestamp»)) (parametersOf r)
+  unfolding submitReportingWithin making checked
+  by-fields e a = rw (e, a)
 
 module _ (r : SmsSubmitReport) where
   pub fits : r .«tp_service_centre_timestamp» .length ≤ 14 → r .«tp_user_data» .length ≤ 255 → tooLong r ≡ false

@@ -19,6 +19,7 @@ use octets::Refusal;
 use octets::Span;
 use octets::Written;
 use parameters::OptionalOctet;
+use parameters::RpOutcome;
 use parameters::reading::ParametersRead;
 use time::Time;
 
@@ -40,6 +41,7 @@ pub struct SmsSubmitReport {
     pub tp_dcs: OptionalOctet,
     pub tp_user_data_length: OptionalOctet,
     pub tp_user_data: UserData,
+    pub rp_outcome: RpOutcome,
 }
 
 // What reading gives: the message, blank on a refusal, and the number of escapes in its text that led to no character of the extension table. The kind has no text: 0.
@@ -49,9 +51,9 @@ pub struct SubmitReportRead {
     pub replaced_escapes: usize,
 }
 
-// A report with a cause or none, and nothing else.
-fn cause_alone(outcome: Outcome, cause: OptionalOctet) -> SubmitReportRead
-    ensures { λ r. ⌜ r ≡ record { outcome = outcome; message = causeAlone cause; «replaced_escapes» = 0 } ⌝ }
+// A report with an outcome, a cause or none, and nothing else.
+fn cause_alone(outcome: Outcome, rp_outcome: RpOutcome, cause: OptionalOctet) -> SubmitReportRead
+    ensures { λ r. ⌜ r ≡ record { outcome = outcome; message = causeAlone «rp_outcome» cause; «replaced_escapes» = 0 } ⌝ }
 {
     SubmitReportRead {
         outcome,
@@ -64,16 +66,21 @@ fn cause_alone(outcome: Outcome, cause: OptionalOctet) -> SubmitReportRead
             tp_dcs: OptionalOctet::Absent,
             tp_user_data_length: OptionalOctet::Absent,
             tp_user_data: coding::no_data(),
+            rp_outcome,
         },
         replaced_escapes: 0,
     }
 }
 
-// A refusal, with the blank report.
+// A refusal, with the blank report, which holds RP-ACK whatever the entry point.
 fn refused(why: Refusal) -> SubmitReportRead
     ensures { λ r. ⌜ r ≡ record { outcome = Outcome.Refused why; message = blankReport; «replaced_escapes» = 0 } ⌝ }
 {
-    cause_alone(Outcome::Refused(why), OptionalOctet::Absent)
+    cause_alone(
+        Outcome::Refused(why),
+        RpOutcome::RpAck,
+        OptionalOctet::Absent,
+    )
 }
 
 // A report that is read no further: its cause is unspecified.
@@ -82,12 +89,15 @@ fn stopped() -> SubmitReportRead
 {
     cause_alone(
         Outcome::Done,
+        RpOutcome::RpError,
         OptionalOctet::Present(FAILURE_CAUSE_UNSPECIFIED),
     )
 }
 
-// The report of fields that are there: UDHI, cause, indicator, the time, PID, DCS, UDL, and the n octets of user data before `end`.
+// The report of fields that are there: UDHI, cause, indicator, the time, PID, DCS, UDL, and the n octets of user data
+// before `end`; with the outcome of the entry point.
 fn report(
+    rp_outcome: RpOutcome,
     udhi: u8,
     cause: OptionalOctet,
     indicator: u8,
@@ -100,7 +110,7 @@ fn report(
     end: usize,
 ) -> SubmitReportRead
     requires { ⌜ (scts + 7 ≤ length (now «data»)) × (n ≤ end) × (end ≤ length (now «data»)) × (n ≤ 255) ⌝ }
-    ensures { λ r. ⌜ r ≡ record { outcome = Outcome.Done; message = submitReported udhi cause indicator (take 7 (drop scts (now («data» .entry)))) (record { pid = pid; dcs = dcs; udl = udl; ud = take n (drop (end - n) (now («data» .entry))) }); «replaced_escapes» = 0 } ⌝ }
+    ensures { λ r. ⌜ r ≡ record { outcome = Outcome.Done; message = submitReported «rp_outcome» udhi cause indicator (take 7 (drop scts (now («data» .entry)))) (record { pid = pid; dcs = dcs; udl = udl; ud = take n (drop (end - n) (now («data» .entry))) }); «replaced_escapes» = 0 } ⌝ }
 {
     let start = end - n;
     SubmitReportRead {
@@ -114,14 +124,21 @@ fn report(
             tp_dcs: dcs,
             tp_user_data_length: udl,
             tp_user_data: coding::data_with(&data[start..end]),
+            rp_outcome,
         },
         replaced_escapes: 0,
     }
 }
 
 // What follows first octet and cause.
-fn after_cause(data: &[u8], place: Place, udhi: u8, cause: OptionalOctet) -> SubmitReportRead
-    ensures { λ r. ⌜ submitReportReadSays r ≡ (answer blankReport (readFrom (afterCause udhi cause) (now («data» .entry)) (place .at)), replacedOf (textsRead (now («data» .entry))) (readFrom (afterCause udhi cause) (now («data» .entry)) (place .at))) ⌝ }
+fn after_cause(
+    data: &[u8],
+    place: Place,
+    rp_outcome: RpOutcome,
+    udhi: u8,
+    cause: OptionalOctet,
+) -> SubmitReportRead
+    ensures { λ r. ⌜ submitReportReadSays r ≡ (answer blankReport (readFrom (afterCause «rp_outcome» udhi cause) (now («data» .entry)) (place .at)), replacedOf (textsRead (now («data» .entry))) (readFrom (afterCause «rp_outcome» udhi cause) (now («data» .entry)) (place .at))) ⌝ }
 {
     let Octet::Read(indicator, place2) = parameters::reading::read_indicator(data, place) else {
         return refused(Refusal::OctetsEnd);
@@ -136,7 +153,19 @@ fn after_cause(data: &[u8], place: Place, udhi: u8, cause: OptionalOctet) -> Sub
     ) else {
         return refused(Refusal::OctetsEnd);
     };
-    report(udhi, cause, indicator, data, scts, pid, dcs, udl, n, end.at)
+    report(
+        rp_outcome,
+        udhi,
+        cause,
+        indicator,
+        data,
+        scts,
+        pid,
+        dcs,
+        udl,
+        n,
+        end.at,
+    )
 }
 
 // The standard's limit of user data: a cause held means RP-ERROR.
@@ -161,7 +190,13 @@ impl SmsSubmitReport {
         if first % 4 != MTI_SUBMIT {
             return refused(Refusal::WrongMessageType);
         }
-        after_cause(data, place, first / 64 % 2, OptionalOctet::Absent)
+        after_cause(
+            data,
+            place,
+            RpOutcome::RpAck,
+            first / 64 % 2,
+            OptionalOctet::Absent,
+        )
     }
 
     // The layout carried in an RP-ERROR (TP-Failure-Cause present). Where an unused bit of the first octet is set the
@@ -182,7 +217,13 @@ impl SmsSubmitReport {
         let Octet::Read(cause, next) = place.octet(data) else {
             return refused(Refusal::OctetsEnd);
         };
-        after_cause(data, next, first / 64 % 2, OptionalOctet::Present(cause))
+        after_cause(
+            data,
+            next,
+            RpOutcome::RpError,
+            first / 64 % 2,
+            OptionalOctet::Present(cause),
+        )
     }
 
     // Writes the report to the start of a lent output, its user data within a limit.
@@ -194,9 +235,13 @@ impl SmsSubmitReport {
         if (14 < m) | (255 < n) {
             return Written::Refused(Refusal::LengthTooLarge);
         }
+        let outcome = self.rp_outcome;
+        let cause = self.tp_failure_cause;
+        if !parameters::outcome_agrees(outcome, cause) {
+            return Written::Refused(Refusal::OutcomeDisagrees);
+        }
         let digits = self.tp_service_centre_timestamp.digits;
         let octets = self.tp_user_data.octets;
-        let cause = self.tp_failure_cause;
         let pid = self.tp_pid;
         let dcs = self.tp_dcs;
         let udl = self.tp_user_data_length;

@@ -31,6 +31,7 @@ pub use octets::Outcome;
 pub use octets::Refusal;
 pub use octets::Written;
 pub use parameters::OptionalOctet;
+pub use parameters::RpOutcome;
 pub use status_report::SmsStatusReport;
 pub use status_report::StatusReportRead;
 pub use submit::SmsSubmit;

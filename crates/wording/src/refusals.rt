@@ -1,5 +1,5 @@
 // The refusals in words: the name of each, and what it means. In the lists a refusal stands at its number:
-// place 0 is empty, since no refusal has that number, and so are 27 to 36, whose refusals are not here yet.
+// place 0 is empty, since no refusal has that number, and so are 27 and 28, 30 to 36, whose refusals are not here yet.
 use output::Output;
 use text_fields::lists::entry;
 use tpdu::Outcome;
@@ -43,7 +43,7 @@ fn put_name(out: &mut Output, at: usize, refusal: u8) -> usize {
         TooManyParts\n\
         \n\
         \n\
-        \n\
+        OutcomeDisagrees\n\
         \n\
         \n\
         \n\
@@ -85,7 +85,7 @@ fn put_meaning(out: &mut Output, at: usize, refusal: u8) -> usize {
         No cutting of the text into at most 255 parts exists\n\
         \n\
         \n\
-        \n\
+        The outcome is RP-ERROR without a cause, or RP-ACK with one\n\
         \n\
         \n\
         \n\

@@ -11,7 +11,7 @@ use Rattle.deliver_report.proofs.after_cause.Statement.{statement}
 use Rattle.deliver_report.proofs.after_cause.Tie as tie
 
 returns : tie.Need-returns
-returns c = rw (c .refused .ensures, no-indicator _ _ _ _ (sym (c .before .before .before .read-indicator .ensures) ∙ ap octetSays (c .before .enum-told .given .1)))
+returns c = rw (c .refused .ensures, no-indicator _ _ _ _ _ (sym (c .before .before .before .read-indicator .ensures) ∙ ap octetSays (c .before .enum-told .given .1)))
 
 returns-2 : tie.Need-returns-2
 returns-2 c =
@@ -19,7 +19,7 @@ returns-2 c =
     let i = p .before .before in
     rw (
       c .refused2 .ensures,
-      no-parameters _ _ _ _ (sym (i .before .before .read-indicator .ensures) ∙ ap octetSays (i .indicator .given .1)) (sym (p .read-parameters .ensures) ∙ ap parametersSays (c .before .enum-told2 .given .1)),
+      no-parameters _ _ _ _ _ (sym (i .before .before .read-indicator .ensures) ∙ ap octetSays (i .indicator .given .1)) (sym (p .read-parameters .ensures) ∙ ap parametersSays (c .before .enum-told2 .given .1)),
     )
 
 report-requires : tie.Need-report-requires
@@ -37,7 +37,7 @@ returns-3 c =
     let i = p .before .before in
     let indicated = sym (i .before .before .read-indicator .ensures) ∙ ap octetSays (i .indicator .given .1) in
     let found = parameters-after _ _ indicated (λ j. i .before .before .before .shared-slice-known .given j .fits) (sym (p .read-parameters .ensures) ∙ ap parametersSays (c .before .before .pid .given .1)) in
-    rw (c .report .ensures, all-there _ _ _ _ indicated found)
+    rw (c .report .ensures, all-there _ _ _ _ _ indicated found)
 
 pub after-cause-spec : {M : Type 1} → statement M
 after-cause-spec =

@@ -10,13 +10,13 @@ use Rattle.submit_report.proofs.after_cause.Statement.{statement}
 use Rattle.submit_report.proofs.after_cause.Tie as tie
 
 returns : tie.Need-returns
-returns c = rw (c .refused .ensures, no-indicator _ _ _ _ (sym (c .before .before .before .read-indicator .ensures) ∙ ap octetSays (c .before .enum-told .given .1)))
+returns c = rw (c .refused .ensures, no-indicator _ _ _ _ _ (sym (c .before .before .before .read-indicator .ensures) ∙ ap octetSays (c .before .enum-told .given .1)))
 
 returns-2 : tie.Need-returns-2
 returns-2 c =
     let t = c .before .before .before in
     let i = t .before .before in
-    rw (c .refused2 .ensures, no-time _ _ _ _ (sym (i .before .before .read-indicator .ensures) ∙ ap octetSays (i .indicator .given .1)) (sym (t .span .ensures) ∙ ap spanSays (c .before .enum-told2 .given .1)))
+    rw (c .refused2 .ensures, no-time _ _ _ _ _ (sym (i .before .before .read-indicator .ensures) ∙ ap octetSays (i .indicator .given .1)) (sym (t .span .ensures) ∙ ap spanSays (c .before .enum-told2 .given .1)))
 
 returns-3 : tie.Need-returns-3
 returns-3 c =
@@ -25,7 +25,7 @@ returns-3 c =
     let i = t .before .before .before .before in
     rw (
       c .refused3 .ensures,
-      no-parameters _ _ _ _ (sym (i .before .before .read-indicator .ensures) ∙ ap octetSays (i .indicator .given .1)) (sym (t .before .before .span .ensures) ∙ ap spanSays (t .scts .given .1))
+      no-parameters _ _ _ _ _ (sym (i .before .before .read-indicator .ensures) ∙ ap octetSays (i .indicator .given .1)) (sym (t .before .before .span .ensures) ∙ ap spanSays (t .scts .given .1))
           (sym (p .read-parameters .ensures) ∙ ap parametersSays (c .before .enum-told3 .given .1)),
     )
 
@@ -48,7 +48,7 @@ returns-4 c =
     let indicated = sym (i .before .before .read-indicator .ensures) ∙ ap octetSays (i .indicator .given .1) in
     let timed = sym (t .before .before .span .ensures) ∙ ap spanSays (t .scts .given .1) in
     let found = parameters-inside _ _ indicated timed (λ j. i .before .before .before .shared-slice-known .given j .fits) (sym (p .read-parameters .ensures) ∙ ap parametersSays (c .before .before .pid .given .1)) in
-    rw (c .report .ensures, all-there _ _ _ _ indicated timed found)
+    rw (c .report .ensures, all-there _ _ _ _ _ indicated timed found)
 
 pub after-cause-spec : {M : Type 1} → statement M
 after-cause-spec =

@@ -1,26 +1,21 @@
--- `SmsSubmitReport::encode_within` meets its contract: the lengths are looked at first.
+-- `SmsSubmitReport::encode_within` meets its contract: the lengths are looked at first, then the outcome.
 -- Assumes nothing.
 use Prim.Native.Nat.{_≤_}
-use mathlib.Core.Path.{_≡_, sym}
+use mathlib.Core.Path.{_≡_, sym, _∙_}
 use native.Mathlib.Omega.{arith}
 use borrow.Author.Needs.{needs}
+use borrow.Author.Tests.{not-true, not-false}
 use lib.ListN.{length, length-take}
 use lib.Seq.{length-take-le}
 use Rattle.octets.specs.Answers.{refuses}
 use Rattle.octets.proofs.Laws.{lent-refused}
 use Rattle.submit_report.specs.declared.SmsSubmitReport.{SmsSubmitReport}
-use Rattle.submit_report.proofs.RecordWritten.{too-long, by-fields, all-fit}
-use Rattle.submit_report.proofs.writing.encode_fields.Reads as encode-fields-reads
-use Rattle.submit_report.proofs.SmsSubmitReport.encode_within.Reads as reads
-use Rattle.submit_report.proofs.SmsSubmitReport.encode_within.Lts as lts
+use Rattle.submit_report.proofs.RecordWritten.{too-long, outcome-disagrees, by-fields, all-fit}
 use Rattle.submit_report.proofs.SmsSubmitReport.encode_within.Statement.{statement}
 use Rattle.submit_report.proofs.SmsSubmitReport.encode_within.Tie as tie
 
 -- where the lengths pass no array
-abbrev Fits : Type 0
-Fits = lts.Else1 (encode-fields-reads.Asked, encode-fields-reads.Learnt) reads.Pre reads.Post
-
-module _ (c : Fits) where
+module _ (c : tie.Else1) where
   abbrev message : SmsSubmitReport
   message = c .before .before .args .self
 
@@ -35,10 +30,13 @@ encode-within-spec =
     tie.close
     (tie.spec
     (λ c. lent-refused refuses _ _ (too-long _ _ (c .if1 .taken)))
-    (λ c. timestamp-fits (c .before .before))
-    (λ c. sym (length-take-le _ _ (timestamp-fits (c .before .before .before))))
-    (λ c. data-fits (c .before .before .before))
-    (λ c. sym (length-take-le _ _ (data-fits (c .before .before .before .before))))
-    (λ c κs. let f = c .before .before .before .before .before in simp length-take (omega (arith, all-fit (f .before .before .args .self) (f .if1 .left) .1)))
+    (λ c κs. tt)
+    (λ c. lent-refused refuses _ _ (outcome-disagrees _ _ (c .before .before .if1 .left) (sym (c .before .outcome-agrees .ensures) ∙ not-true _ (c .if2 .taken))))
+    (λ c. timestamp-fits (c .before .before .before .before))
+    (λ c. sym (length-take-le _ _ (timestamp-fits (c .before .before .before .before .before))))
+    (λ c. data-fits (c .before .before .before .before .before))
+    (λ c. sym (length-take-le _ _ (data-fits (c .before .before .before .before .before .before))))
+    (λ c κs. let f = c .before .before .before .before .before .before .before in simp length-take (omega (arith, all-fit (f .before .before .args .self) (f .if1 .left) .1)))
     (λ c. search needs)
-    (λ c. rw (by-fields _ _ (c .before .before .before .before .before .before .before .before .if1 .left)) (c .before .before .encode-fields .ensures)))
+    (λ c. let a = c .before .before .before .before .before .before .before .before .before in
+    rw (by-fields _ (a .before .before .before .args .self) (a .before .if1 .left) (sym (a .outcome-agrees .ensures) ∙ not-false _ (c .before .before .before .before .before .before .before .before .if2 .left))) (c .before .before .encode-fields .ensures)))
