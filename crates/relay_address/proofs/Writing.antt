@@ -1,15 +1,15 @@
 -- What the checks find, and what is made of a record.
 -- Assumes nothing.
 use Prim.Native.Nat.{ℕ, _+_, _/_, _<_, _≤_}
-use mathlib.Core.Path.{_≡_, refl, sym, _∙_}
-use mathlib.Core.Bool.{Bool, true, false, not, _&&_}
+use mathlib.Core.Path.{_≡_}
+use mathlib.Core.Bool.{true, false, not, _&&_}
 use mathlib.Core.List.{List, [], _∷_}
 use native.Mathlib.Omega.{arith}
 use borrow.Author.Tests.{lt-leb, le-leb, leb-true, eq-eqb, ne-eqb, eqb-false, not-true}
 use lib.Dec.{eqb, leb}
 use lib.ListN.{length}
-use Rattle.octets.specs.Answers.{Said, gives, refuses, fine}
-use Rattle.octets.specs.Checks.{Check, _unless_, found, checked}
+use Rattle.octets.specs.Answers.{gives, refuses, fine}
+use Rattle.octets.specs.Checks.{_unless_, found, checked}
 use Rattle.octets.specs.Each.{each}
 use Rattle.octets.specs.Lent.{refused, made}
 use Rattle.octets.specs.declared.Refusal.the-variants.{LengthTooLarge, NumberTypeOrPlanTooLarge, NotInAlphabet, AddressTooLong, AlphanumericRelayAddress}

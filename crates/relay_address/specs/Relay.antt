@@ -51,13 +51,6 @@ relayAddressReadSays r = (outcomeSays (r .outcome), r .address, r .«octets_read
 unfoldable pub relayRead : List ℕ → Said Unit × RelayAddress × ℕ
 relayRead s = if leb (1 + getD s 0 0) (length s) then (fine, relayOf (counted s), 1 + getD s 0 0) else (refuses OctetsEnd, noRelay, 0)
 
--- both are absent, or type, plan and digits without F agree
-abbrev pub Agree : List ℕ → List ℕ → Type 0
-Agree [] [] = Unit
-Agree [] (p ∷ w) = ⊥
-Agree (o ∷ v) [] = ⊥
-Agree (o ∷ v) (p ∷ w) = (typeOfNumber o ≡ typeOfNumber p) × (planOf o ≡ planOf p) × (digitsIn v ≡ digitsIn w)
-
 -- ---- writing
 
 -- the value: digits two to an octet
