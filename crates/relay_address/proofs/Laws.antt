@@ -66,11 +66,6 @@ module _ (s : List ℕ) {a : RelayAddress} {n : ℕ} (e : relayRead s ≡ (fine,
 
 -- ---- equal addresses
 
--- the digits that a record holds
-pub digits-held : (ton npi : ℕ) (text : List ℕ) → digitsHeld (relayWith ton npi text) ≡ text
-unfolding relayWith
-digits-held ton npi text = take-pad 508 text
-
 digits-back : (value : List ℕ) → Octets value → map digitValue (map digitCharacter (digitsIn value)) ≡ digitsIn value
 digits-back value o = values-back (digitsIn value) (digits-small value o)
 
@@ -92,7 +87,7 @@ same (o ∷ v) (p ∷ w) oc od = (
 counted-octets : (s : List ℕ) → Octets s → Octets (counted s)
 counted-octets s o = octets-take (getD s 0 0) (drop 1 s) (octets-drop 1 s o)
 
--- two addresses that were read are equal exactly when both are absent, or type, plan and digits without F agree
+-- two addresses that were read are equal exactly when both are absent, or type, plan and digits without F agree (what was read is cleared: `read-cleared`)
 pub read-equal : (s t : List ℕ) → Octets s → Octets t → {a b : RelayAddress} {m n : ℕ} → relayRead s ≡ (fine, a, m) → relayRead t ≡ (fine, b, n) → (a ≡ b) ↔ Agree (counted s) (counted t)
 read-equal s t o p e f = rw (was-read s e .is, was-read t f .is) (same (counted s) (counted t) (counted-octets s o) (counted-octets t p))
 
@@ -170,6 +165,7 @@ unfolding relayOf
 none-read rest = read-whole (0x00 ∷ rest) (omega arith)
 
 module _ (a : RelayAddress) (typed : Typed a) where
+  -- what is known of an address that was written
   pub record Made (octets : List ℕ) : Type 0 where
     pub writable : Writable (a .ton) (a .npi) (digitsHeld a)
     pub few : a .«address_length» ≤ 508
