@@ -469,6 +469,55 @@ def address(dice):
     return f"address {ton} {npi} {hexed(text)}"
 
 
+# Addresses of the relay layer
+
+
+def relay_field(dice):
+    """Length octet, type octet and value, mostly of a length that can be written."""
+    size = dice.below(13)
+    if dice.chance(0.15):
+        size = dice.pick([10, 11, 12, 13, 14, 20, 21, 100, 253, 254, 255, dice.below(256)])
+    if size == 0:
+        return b"\0"
+    kind = (0x80 if dice.chance(0.9) else 0) | dice.below(8) << 4 | dice.pick([0, 1, 8, 15, dice.below(16)])
+    return bytes([size, kind]) + semi_octets(dice, size - 1, size > 1 and dice.chance(0.5))
+
+
+def relay(dice):
+    """An address whole, cut off, with octets after it, or with another length octet; or any octets."""
+    field = relay_field(dice)
+    way = dice.below(10)
+    if way < 2:
+        field = field[: dice.below(len(field))]
+    elif way < 4:
+        field += dice.octets(dice.between(1, 20))
+    elif way == 4:
+        field = bytes([(field[0] + dice.pick([1, 2, 254, 255])) % 256]) + field[1:]
+    elif way == 5:
+        field = dice.octets(dice.below(24))
+    return f"relay {cased(dice, hexed(field))}"
+
+
+def relay_write(dice):
+    if dice.chance(0.03):
+        return "relay-write - - -"
+    ton, npi = dice.below(8), dice.pick([0, 1, 15, dice.below(16)])
+    text = address_text(dice, 5 if dice.chance(0.05) else 1)
+    if dice.chance(0.2):
+        text = with_foreign(dice, text)
+    if dice.chance(0.02):
+        text = dice.pick([b"1", b"A", b"\xff"]) * dice.pick([20, 21, 290, 291, 507, 508, 509, 510, 600])
+    if dice.chance(0.08):
+        ton = dice.pick([7, 8, 9, 21, 255])
+    if dice.chance(0.08):
+        npi = dice.pick([15, 16, 17, 255])
+    return f"relay-write {ton} {npi} {cased(dice, hexed(text))}"
+
+
+def relay_well_formed(dice):
+    return dice.pick([relay, relay_write])(dice)
+
+
 def coding(dice):
     return f"coding {cased(dice, '%02x' % dice.below(256))}"
 
@@ -832,8 +881,8 @@ def empty_line(dice, request):
     return dice.pick([b"", b" ", b"   ", b"\r", b" \r", b"\t", b"\0", b"-"])
 
 
-def malformed(dice):
-    request = well_formed(dice).encode("utf-8")
+def malformed(dice, right=well_formed):
+    request = right(dice).encode("utf-8")
     ways = [marked, fields_moved, values_changed, values_changed, values_changed, renamed, spaced]
     way = dice.pick(ways)
     if dice.chance(0.03):
@@ -844,9 +893,9 @@ def malformed(dice):
 # The whole
 
 
-def up_to_two_octets():
+def up_to_two_octets(readers):
     """Every input of 0, 1 and 2 octets for each reader."""
-    for kind in READERS:
+    for kind in readers:
         yield f"{kind} -".encode()
         for first in range(256):
             yield f"{kind} {first:02x}".encode()
@@ -876,3 +925,13 @@ def at_random(seed):
     while True:
         request = dice.pick(WAYS)(dice)
         yield request if isinstance(request, bytes) else request.encode("utf-8")
+
+
+def relay_at_random(seed):
+    """Requests for addresses of the relay layer without end."""
+    dice = Dice(seed)
+    while True:
+        if dice.chance(0.06):
+            yield malformed(dice, relay_well_formed)
+        else:
+            yield relay_well_formed(dice).encode("utf-8")

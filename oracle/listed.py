@@ -7,8 +7,10 @@ port's arrays have fixed sizes and its counts stop at 255; the Rust's don't.
 TOO_LARGE = b"refused 1 LengthTooLarge"
 TOO_MANY = b"refused 22 TooManySeptets"
 TOO_SHORT = b"refused 23 OutputTooShort"
+ALPHANUMERIC = b"refused 32 AlphanumericRelayAddress"
 
 ADDRESS_ARRAY = 290
+RELAY_ARRAY = 508
 DATA_ARRAY = 255
 TIME_ARRAY = 14
 MOST_SEPTETS = 255
@@ -19,6 +21,7 @@ NAMES = {
     "b": "header and text take more than 255 septets in packing",
     "c": "a value is longer than the port's array",
     "d": "the octets don't fit the lent output",
+    "e": "type of number is 5 in a relay address, which the Rust refuses in words without a number",
 }
 
 
@@ -32,9 +35,11 @@ def expected(request, answer):
         return ("a", TOO_LARGE) if int(fields[1]) > MOST_SEPTETS and read_text(answer) else None
     if name in (b"pack", b"pack-header"):
         return ("b", TOO_MANY) if septets(answer) > MOST_SEPTETS else None
-    if name == b"address" or name.startswith(b"enc-"):
+    if name in (b"address", b"relay-write") or name.startswith(b"enc-"):
         if answer.startswith(b"refused ") and past_array(name, fields):
             return "c", TOO_LARGE
+    if name == b"relay-write" and answer == b"refused -":
+        return "e", ALPHANUMERIC
     if answer.startswith(b"ok ") and b"=" not in answer and (len(answer) - 3) // 2 > LENT:
         return "d", TOO_SHORT
     return None
@@ -55,6 +60,8 @@ def septets(answer):
 def past_array(name, fields):
     if name == b"address":
         return octets(fields[3]) > ADDRESS_ARRAY
+    if name == b"relay-write":
+        return octets(fields[3]) > RELAY_ARRAY
     return any(value_past_array(*field.split(b"=", 1)) for field in fields[1:])
 
 

@@ -5,6 +5,7 @@
 mod fields;
 mod records;
 mod refusals;
+mod relay;
 mod shown;
 
 use fields::{number, octet, octets, signed, text};
@@ -92,6 +93,8 @@ fn request(name: &[u8], given: &[&[u8]]) -> Result<String, Failure> {
         b"address" => address(given),
         b"coding" => coding(given),
         b"digits" => digits(given),
+        b"relay" => relay_read(given),
+        b"relay-write" => relay_written(given),
         _ => Err(bad("unknown request")),
     }
 }
@@ -142,13 +145,31 @@ fn packed_shown(packed: &[u8], septets: usize) -> String {
 }
 
 fn address(given: &[&[u8]]) -> Result<String, Failure> {
-    let [ton, npi, address] = exactly(given)?;
-    let address = tpdu::SMSAddress {
+    Ok(shown::hex(&address_of(exactly(given)?)?.encode(false)?))
+}
+
+/// The address of type of number, plan and text.
+fn address_of(fields: [&[u8]; 3]) -> Result<tpdu::SMSAddress, Failure> {
+    let [ton, npi, address] = fields;
+    Ok(tpdu::SMSAddress {
         ton: octet(ton)?,
         npi: octet(npi)?,
         address: text(&octets(address)?),
+    })
+}
+
+fn relay_read(given: &[&[u8]]) -> Result<String, Failure> {
+    let [data] = exactly(given)?;
+    let (address, read) = relay::read(&octets(data)?)?;
+    Ok(shown::relay_address(address.as_ref(), read))
+}
+
+fn relay_written(given: &[&[u8]]) -> Result<String, Failure> {
+    let address = match exactly(given)? {
+        [b"-", b"-", b"-"] => None,
+        fields => Some(address_of(fields)?),
     };
-    Ok(shown::hex(&address.encode(false)?))
+    Ok(shown::hex(&relay::written(address)?))
 }
 
 fn coding(given: &[&[u8]]) -> Result<String, Failure> {

@@ -30,6 +30,17 @@ pub fn fields(record: &Record, read: u64) -> String {
     line.0
 }
 
+/// An address of the relay layer, or none, and the number of octets that were read.
+pub fn relay_address(address: Option<&SMSAddress>, read: usize) -> String {
+    let mut line = Line(String::with_capacity(64));
+    line.number("read", read as u64);
+    match address {
+        Some(address) => line.address(address),
+        None => line.no_address(),
+    }
+    line.0
+}
+
 /// A line of fields.
 struct Line(String);
 

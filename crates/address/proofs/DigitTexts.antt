@@ -1,6 +1,6 @@
 -- Texts of digits: a digit's value and its character, there and back, of one and of a list; and semi-octets without F.
 -- Assumes nothing.
-use Prim.Native.Nat.{ℕ, suc, _<_, _≤_}
+use Prim.Native.Nat.{ℕ, suc, _+_, _*_, _/_, _%_, _<_, _≤_}
 use mathlib.Core.Path.{_≡_, refl, ap, ap₂}
 use mathlib.Core.Bool.{Bool, true, false}
 use mathlib.Core.List.{List, [], _∷_, map}
@@ -10,6 +10,7 @@ use lib.Dec.{eqb}
 use lib.ListN.{length}
 use Rattle.octets.specs.Choice.{if_then_else_}
 use Rattle.octets.specs.Each.{each}
+use Rattle.octets.specs.SemiOctets.{semiOctets, inPairs}
 use Rattle.octets.specs.Texts.{codes}
 use Rattle.octets.proofs.Choice.{and-true}
 use Rattle.octets.proofs.Table.{below}
@@ -44,6 +45,11 @@ unfolding each
 values-digits [] h = refl
 values-digits (d ∷ ds) h = rw (value-digit d (h 0)) (values-digits ds (λ i. h (suc i)))
 
+-- values → characters → values
+pub values-back : (ds : List ℕ) → Below 15 ds → map digitValue (map digitCharacter ds) ≡ ds
+values-back [] h = refl
+values-back (d ∷ ds) h = ap₂ _∷_ (value-back d (h 0)) (values-back ds (λ i. h (suc i)))
+
 -- characters → values → characters, where they are digits
 pub characters-back : (cs : List ℕ) → each isDigit cs ≡ true → (map digitCharacter (map digitValue cs) ≡ cs) × Below 15 (map digitValue cs)
 unfolding each
@@ -72,3 +78,16 @@ pub without-none : (ds : List ℕ) → Below 15 ds → withoutF ds ≡ ds
 unfolding withoutF
 without-none [] h = refl
 without-none (d ∷ ds) h = rw (ne-eqb d 0xf (λ e. omega (arith, h 0))) (ap (λ (l : List ℕ). d ∷ l) (without-none ds (λ i. h (suc i))))
+
+-- digits two to an octet and apart again: F is left out
+pub without-pairs : (ds : List ℕ) → Below 15 ds → withoutF (semiOctets (inPairs ds)) ≡ ds
+unfolding withoutF semiOctets inPairs
+without-pairs [] h = refl
+without-pairs (d ∷ []) h =
+    let low : (d + 16 * 0xf) % 16 ≡ d = omega (arith, h 0) in
+    let high : (d + 16 * 0xf) / 16 ≡ 0xf = omega (arith, h 0) in
+    rw (low, high, ne-eqb d 0xf (λ e. omega (arith, h 0)))
+without-pairs (d ∷ e ∷ ds) h =
+    let low : (d + 16 * e) % 16 ≡ d = omega (arith, h 0) in
+    let high : (d + 16 * e) / 16 ≡ e = omega (arith, h 0) in
+    rw (low, high, ne-eqb d 0xf (λ z. omega (arith, h 0)), ne-eqb e 0xf (λ z. omega (arith, h 1)), without-pairs ds (λ i. h (suc (suc i))))

@@ -56,8 +56,8 @@ fn semi_octet(octets: &[u8], i: usize) -> u8
 }
 
 // Stores the digits of so many semi-octets, without F; their number.
-fn digits_text(value: &[u8], count: usize, text: &mut [u8; 290]) -> usize
-    requires { ⌜ (count ≤ 255) × ((count + 1) / 2 ≤ length (now value)) × (length (now text) ≡ 290) ⌝ }
+pub fn digits_text(value: &[u8], count: usize, text: &mut [u8]) -> usize
+    requires { ⌜ (count ≤ length (now text)) × ((count + 1) / 2 ≤ length (now value)) ⌝ }
     ensures { λ r. ⌜ Wrote 0 (map digitCharacter (withoutF (take count (semiOctets (now (value .entry)))))) (now (text .entry)) r (now (text .exit)) ⌝ }
 {
     let mut n = 0;

@@ -37,7 +37,7 @@ fn semi_octet_from_character(character: u8) -> u8
 }
 
 // Every character is a digit, *, #, a, b or c.
-fn all_digits(text: &[u8]) -> bool
+pub fn all_digits(text: &[u8]) -> bool
     ensures { λ r. ⌜ r ≡ each isDigit (now (text .entry)) ⌝ }
 {
     let mut i = 0;
@@ -98,7 +98,7 @@ fn semi_octet_or_f(text: &[u8], i: usize) -> u8
 }
 
 // Writes digits two to an octet; the place after them.
-fn put_digits(text: &[u8], out: &mut [u8], at: usize) -> usize
+pub fn put_digits(text: &[u8], out: &mut [u8], at: usize) -> usize
     requires { ⌜ at + (length (now text) + 1) / 2 ≤ length (now out) ⌝ }
     ensures { λ r. ⌜ Wrote at (inPairs (map digitValue (now (text .entry)))) (now (out .entry)) r (now (out .exit)) ⌝ }
 {

@@ -1,9 +1,10 @@
-// The requests that name no kind of message: text packed, sent in parts and unpacked, addresses, codings, times and
-// header elements.
+// The requests that name no kind of message: text packed, sent in parts and unpacked, addresses of both layers, codings,
+// times and header elements.
 use crate::elements;
 use crate::fields;
 use crate::fields::Lent;
 use crate::fields::unless_refused;
+use crate::relay;
 use output::Output;
 use request_line::reasons;
 use request_line::values;
@@ -37,8 +38,12 @@ const ELEMENTS: usize = 8;
 
 const WRITE_ELEMENTS: usize = 9;
 
+const RELAY: usize = 10;
+
+const RELAY_WRITE: usize = 11;
+
 // How many there are; as a request's number it says that there is no such request.
-pub const REQUESTS: usize = 10;
+pub const REQUESTS: usize = 12;
 
 // The number of the request with a name.
 pub fn request_named(name: &[u8]) -> usize {
@@ -52,13 +57,18 @@ pub fn request_named(name: &[u8]) -> usize {
         coding\n\
         digits\n\
         elements\n\
-        write-elements\n";
+        write-elements\n\
+        relay\n\
+        relay-write\n";
     entry_number(names, name)
 }
 
 // The reason against the line of a request; `request_line::values::has_form` says which form each letter stands for.
 pub fn against_request(request: usize, line: &[u8]) -> usize {
-    let forms = b"wco\nwco\nwo\nwoo\nwxo\nwnno\nwd\nwnnnnnnz\nwo\nwe\n";
+    if request == RELAY_WRITE && relay::gives_none(line) {
+        return reasons::against_fields(b"w---", line);
+    }
+    let forms = b"wco\nwco\nwo\nwoo\nwxo\nwnno\nwd\nwnnnnnnz\nwo\nwe\nwo\nwnno\n";
     reasons::against_fields(entry(forms, request), line)
 }
 
@@ -200,6 +210,8 @@ pub fn answer(
         DIGITS => digits(line, show, out, at),
         ELEMENTS => elements::read(octets, show, out, at),
         WRITE_ELEMENTS => elements::write(field(line, 1), show, out, at),
+        RELAY => relay::read(octets, show, out, at),
+        RELAY_WRITE => relay::write(line, show, out, at),
         _ => at,
     }
 }

@@ -57,6 +57,12 @@ pub fn octets(out: &mut Output, at: usize, name: &[u8], octets: &[u8]) -> usize 
     put_hex(out, next, octets)
 }
 
+// Type of number, plan and text of an address.
+pub fn address(out: &mut Output, at: usize, ton: u8, npi: u8, text: &[u8]) -> usize {
+    let next = numbers(out, at, b" ton=\n npi=\n", &[ton, npi]);
+    octets(out, next, b" address=", text)
+}
+
 pub fn user_data(out: &mut Output, at: usize, name: &[u8], data: UserData) -> usize {
     let held = data.octets;
     octets(out, at, name, between(&held, 0, data.length))

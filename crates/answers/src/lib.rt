@@ -3,4 +3,5 @@ pub mod conversions;
 mod elements;
 pub mod fields;
 pub mod reading;
+mod relay;
 pub mod writing;

@@ -54,8 +54,8 @@ pub fn reader_named(name: &[u8]) -> Reader {
 
 fn address(out: &mut Output, at: usize, a: SMSAddress) -> usize {
     let text = a.address;
-    let next = fields::numbers(out, at, b" ton=\n npi=\n", &[a.ton, a.npi]);
-    fields::octets(out, next, b" address=", between(&text, 0, a.address_length))
+    let text = between(&text, 0, a.address_length);
+    fields::address(out, at, a.ton, a.npi, text)
 }
 
 fn protocol_and_coding(out: &mut Output, at: usize, pid: u8, dcs: u8) -> usize {

@@ -1,7 +1,7 @@
 -- The refusals, by the number that document 01 gives each ("Refused, by number"), and document 02 from 24 on.
 use Prim.Native.Nat.{ℕ}
 use Rattle.octets.specs.declared.Refusal.{Refusal}
-use Rattle.octets.specs.declared.Refusal.the-variants.{LengthTooLarge, OctetsEnd, WrongMessageType, UdhiTooLarge, ValidityFormatDisagrees, NoDestination, UserDataLengthDisagrees, UserDataTooLong, NumberTypeOrPlanTooLarge, NotInAlphabet, AddressTooLong, NotATime, IndicatorDisagrees, IndicatorExtended, UserDataWithoutLength, ParametersWithoutIndicator, HeaderNotWhole, HeaderPassesCount, TooFewOctets, CalendarOutOfRange, ZoneOutOfRange, TooManySeptets, OutputTooShort, ElementPassesHeader, ElementsTooLong, TooManyParts, OutcomeDisagrees}
+use Rattle.octets.specs.declared.Refusal.the-variants.{LengthTooLarge, OctetsEnd, WrongMessageType, UdhiTooLarge, ValidityFormatDisagrees, NoDestination, UserDataLengthDisagrees, UserDataTooLong, NumberTypeOrPlanTooLarge, NotInAlphabet, AddressTooLong, NotATime, IndicatorDisagrees, IndicatorExtended, UserDataWithoutLength, ParametersWithoutIndicator, HeaderNotWhole, HeaderPassesCount, TooFewOctets, CalendarOutOfRange, ZoneOutOfRange, TooManySeptets, OutputTooShort, ElementPassesHeader, ElementsTooLong, TooManyParts, OutcomeDisagrees, AlphanumericRelayAddress}
 
 abbrev pub refusalNumber : Refusal → ℕ
 -- a record's length field passes its array, or a text reader's count passes 255
@@ -58,3 +58,5 @@ refusalNumber ElementsTooLong = 25
 refusalNumber TooManyParts = 26
 -- the outcome is RP-ERROR without a cause, or RP-ACK with one
 refusalNumber OutcomeDisagrees = 29
+-- a relay address to be written has type of number 5
+refusalNumber AlphanumericRelayAddress = 32

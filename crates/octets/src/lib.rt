@@ -39,6 +39,7 @@ pub enum Refusal {
     ElementsTooLong,
     TooManyParts,
     OutcomeDisagrees,
+    AlphanumericRelayAddress,
 }
 
 impl Refusal {
@@ -74,6 +75,7 @@ impl Refusal {
             Refusal::ElementsTooLong => 25,
             Refusal::TooManyParts => 26,
             Refusal::OutcomeDisagrees => 29,
+            Refusal::AlphanumericRelayAddress => 32,
         }
     }
 }

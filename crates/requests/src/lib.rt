@@ -32,6 +32,8 @@ coding DCS                   the coding of user data
 digits Y M D H M S Z         the digits of a time
 elements HEX                 the elements of a header
 write-elements II:HEX,..     the header of elements
+relay HEX                    the address of the relay layer at the start of octets
+relay-write TON NPI HEX      the octets of an address of the relay layer; - - - is none
 
 docs/REQUESTS.md has the keys and the answers.
 ",

@@ -32,6 +32,8 @@ pub use octets::Refusal;
 pub use octets::Written;
 pub use parameters::OptionalOctet;
 pub use parameters::RpOutcome;
+pub use relay_address::RelayAddress;
+pub use relay_address::RelayAddressRead;
 pub use status_report::SmsStatusReport;
 pub use status_report::StatusReportRead;
 pub use submit::SmsSubmit;

@@ -1,5 +1,5 @@
 // The refusals in words: the name of each, and what it means. In the lists a refusal stands at its number:
-// place 0 is empty, since no refusal has that number, and so are 27 and 28, 30 to 36, whose refusals are not here yet.
+// place 0 is empty, since no refusal has that number, and so are 27 and 28, 30 and 31, 33 to 36, whose refusals are not here yet.
 use output::Output;
 use text_fields::lists::entry;
 use tpdu::Outcome;
@@ -46,7 +46,7 @@ fn put_name(out: &mut Output, at: usize, refusal: u8) -> usize {
         OutcomeDisagrees\n\
         \n\
         \n\
-        \n\
+        AlphanumericRelayAddress\n\
         \n\
         \n\
         \n\
@@ -88,7 +88,7 @@ fn put_meaning(out: &mut Output, at: usize, refusal: u8) -> usize {
         The outcome is RP-ERROR without a cause, or RP-ACK with one\n\
         \n\
         \n\
-        \n\
+        A relay address to be written has type of number 5\n\
         \n\
         \n\
         \n\

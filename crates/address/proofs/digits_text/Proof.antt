@@ -1,7 +1,7 @@
 -- `address::digits_text` meets its contract: the digits that are left, stored too, still give the whole.
 -- Assumes nothing.
 use Prim.Native.Nat.{ℕ, _+_, _/_, _-_, _≤_, _<_}
-use mathlib.Core.Path.{_≡_, sym, _∙_}
+use mathlib.Core.Path.{_≡_, refl, sym, _∙_}
 use mathlib.Core.List.{List, [], _∷_, map}
 use native.Mathlib.Omega.{arith}
 use native.Mathlib.Numerals.{add-one}
@@ -37,7 +37,7 @@ nothing ds i h = rw (drop-of-length-le ds h)
 abbrev Inv-loop : tie.InvT-loop
 Inv-loop value count text₀ n₀ i₀ text n i =
     let whole = digitsIn (take count (semiOctets value)) in
-    (i ≤ count) × (n ≤ i) × (length text ≡ 290) × Left (sets text₀ 0 whole) (0 + length whole) text n (digitsIn (drop i (take count (semiOctets value))))
+    (i ≤ count) × (n ≤ i) × (length text ≡ length text₀) × Left (sets text₀ 0 whole) (0 + length whole) text n (digitsIn (drop i (take count (semiOctets value))))
 
 abbrev μ-loop : tie.MeasureT-loop
 μ-loop value count text₀ n₀ i₀ text n i = count - i
@@ -52,19 +52,19 @@ read value count i x h e = getD-take count (semiOctets value) i 0 h ∙ sym e
 
 loop-again : tie.Need-loop-again Inv-loop μ-loop
 loop-again c =
-    let a = c .before .before .before .before .before .args in
+    let a = c .before .before .before .before .before .before .args in
     let l = c .before .before .before .loop in
     let h = c .before .before .loop-test .taken in
-    let size = long (now (a .value)) (a .count) (c .before .before .before .before .before .pre .1) in
+    let size = long (now (a .value)) (a .count) (c .before .before .before .before .before .before .pre .1) in
     let e = skipped (take (a .count) (semiOctets (now (a .value)))) (l .i) (omega arith) (read (now (a .value)) (a .count) (l .i) _ h (c .before .semi-octet .ensures .0) ∙ c .if1 .taken) in
     (omega arith, omega arith, l .inv .2, rw e at (l .inv .3))
 
 loop-again-2 : tie.Need-loop-again-2 Inv-loop μ-loop
 loop-again-2 c =
-    let a = c .before .before .before .before .before .before .args in
+    let a = c .before .before .before .before .before .before .before .args in
     let l = c .before .before .before .before .loop in
     let h = c .before .before .before .loop-test .taken in
-    let size = long (now (a .value)) (a .count) (c .before .before .before .before .before .before .pre .1) in
+    let size = long (now (a .value)) (a .count) (c .before .before .before .before .before .before .before .pre .1) in
     let r = read (now (a .value)) (a .count) (l .i) _ h (c .before .before .semi-octet .ensures .0) in
     let e = shown (take (a .count) (semiOctets (now (a .value)))) (l .i) (omega arith) (λ q. c .before .if1 .left (sym r ∙ q)) in (
       omega arith,
@@ -75,9 +75,9 @@ loop-again-2 c =
 
 returns : tie.Need-returns Inv-loop μ-loop
 returns c =
-    let a = c .before .before .before .args in
+    let a = c .before .before .before .before .args in
     let l = c .before .loop in
-    let size = long (now (a .value)) (a .count) (c .before .before .before .pre .1) in
+    let size = long (now (a .value)) (a .count) (c .before .before .before .before .pre .1) in
     let none-left : digitsIn (drop (l .i) (take (a .count) (semiOctets (now (a .value))))) ≡ [] = nothing (take (a .count) (semiOctets (now (a .value)))) (l .i) (omega (arith, c .loop-test .left)) in
     let done = left-end (l .inv .3) none-left in
     record { place = done .0; list = done .1 }
@@ -88,7 +88,7 @@ digits-text-spec =
     (tie.spec
     Inv-loop
     μ-loop
-    (λ c. (omega arith, omega arith, c .before .pre .2, left-start _ _ _))
+    (λ c. (omega arith, omega arith, refl, left-start _ _ _))
     (λ c κs. omega arith)
     (λ c. omega arith)
     (λ c. omega arith)
@@ -98,4 +98,5 @@ digits-text-spec =
     (λ c. omega arith)
     (λ c. omega arith)
     loop-again-2
+    (λ c. c .before .loop .inv .2)
     returns)
