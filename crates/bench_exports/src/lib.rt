@@ -175,11 +175,7 @@ pub extern "C" fn tpdu_to_columns(octets: &[u8], lengths: &[usize], out: &mut [u
 
 // The number of octets of the strings of a block.
 #[no_mangle]
-pub extern "C" fn tpdu_from_columns(
-    block: &[u8],
-    octets: &mut [u8],
-    lengths: &mut [usize],
-) -> usize
+pub extern "C" fn tpdu_from_columns(block: &[u8], octets: &mut [u8], lengths: &mut [usize]) -> usize
     ensures { λ r. ⌜ (r, now (octets .exit), now (lengths .exit)) ≡ stringsNumber (lendBoth (reading (now (block .entry))) (now (octets .entry)) (now (lengths .entry))) ⌝ }
 {
     let s = tpdu::from_columns(block, octets, lengths);

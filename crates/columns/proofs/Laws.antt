@@ -1,19 +1,19 @@
 -- Reading gives back what was written, and takes exactly what the writer can write.
 -- Assumes nothing.
-use Prim.Native.Nat.{ℕ, zero, suc, _+_, _-_, _<_, _≤_}
+use Prim.Native.Nat.{ℕ, zero, suc, _+_, _-_, _≤_}
 use mathlib.Core.Path.{_≡_, refl, sym, _∙_, ap, ap₂, subst}
-use mathlib.Core.Bool.{Bool, true, false, _&&_}
-use mathlib.Core.List.{List, [], _∷_, _++_, append-assoc, map}
+use mathlib.Core.Bool.{Bool, true, false}
+use mathlib.Core.List.{List, [], _∷_, _++_, append-assoc}
 use mathlib.Core.Option.{Option, none, some}
 use mathlib.Core.Logic.{_↔_}
 use native.Mathlib.Omega.{arith}
-use borrow.Author.Tests.{le-leb, lt-leb, leb-true, leb-false, eq-eqb, eqb-true}
+use borrow.Author.Tests.{le-leb, leb-true, eq-eqb, eqb-true}
 use lib.Dec.{leb, eqb}
 use lib.ListN.{length, take, drop, length-append, length-drop, length-map}
 use lib.Seq.{length-take-le, take-at, drop-at, take-add}
 use Rattle.octets.specs.Choice.{if_then_else_}
 use Rattle.octets.specs.Each.{Octets, each}
-use Rattle.octets.specs.Lent.{Making, refused, made}
+use Rattle.octets.specs.Lent.{made}
 use Rattle.octets.specs.declared.Refusal.the-variants.{LengthTooLarge, StringsTooLarge, BlockNotWhole}
 use Rattle.octets.specs.Answers.{Said, gives}
 use Rattle.octets.specs.Checks.{_unless_}
@@ -22,7 +22,7 @@ use Rattle.octets.proofs.Each.{octets-drop}
 use Rattle.octets.proofs.Checks.{check-holds, no-checks, made-told, holds}
 use Rattle.columns.specs.Numbers.{groups, numberAt}
 use Rattle.columns.specs.Blocks.{stringsIn, joined, lengths, sum, allowed, columns, numbers, block, dealt, lengthBefore, lengthThen, lengthsAt, stringsThen, countThen, stringsOf}
-use Rattle.columns.specs.Answers.{writing, MakingBoth, refusedBoth, madeBoth, madeOf, reading}
+use Rattle.columns.specs.Answers.{writing, refusedBoth, madeBoth, madeOf, reading}
 use Rattle.columns.proofs.Numbers.{read-groups, number-is}
 use Rattle.columns.proofs.Columns.{AtMost, length-columns, dealt-columns, columns-dealt}
 

@@ -2,7 +2,7 @@
 -- Assumes nothing.
 use Prim.Native.Nat.{ℕ, _+_, _<_, _≤_}
 use mathlib.Core.Path.{_≡_, refl, sym, _∙_, ap}
-use mathlib.Core.List.{List, [], _∷_, _++_}
+use mathlib.Core.List.{List}
 use mathlib.Core.Bool.{true}
 use mathlib.Core.Option.{Option, none, some}
 use native.Mathlib.Nat.{zero-add}
@@ -16,10 +16,10 @@ use Rattle.octets.specs.declared.Refusal.the-variants.{OutputTooShort, BlockNot
 use Rattle.octets.proofs.Laws.{sets-start}
 use Rattle.columns.specs.Numbers.{numberAt}
 use Rattle.columns.specs.Blocks.{joined, lengths, sum, allowed, dealt, lengthsAt, stringsThen, countThen, stringsOf}
-use Rattle.columns.specs.Answers.{SaidStrings, noStrings, MakingBoth, refusedBoth, madeBoth, madeOf, reading, lendBoth}
+use Rattle.columns.specs.Answers.{SaidStrings, noStrings, MakingBoth, refusedBoth, madeBoth, reading, lendBoth}
 use Rattle.columns.specs.Internal.{measured}
 use Rattle.columns.proofs.Columns.{columns-dealt}
-use Rattle.columns.proofs.Laws.{allowed-means, Lengths, lengths-are, sum-lengths}
+use Rattle.columns.proofs.Laws.{allowed-means, lengths-are, sum-lengths}
 
 -- ---- what is read
 

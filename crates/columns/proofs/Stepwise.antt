@@ -1,31 +1,26 @@
 -- What each loop keeps from step to step.
 -- Assumes nothing.
-use Prim.Native.Nat.{ℕ, zero, suc, _+_, _-_, _*_, _<_, _≤_}
-use mathlib.Core.Path.{_≡_, refl, sym, _∙_, ap, subst}
-use mathlib.Core.Bool.{Bool, true, false, _&&_}
+use Prim.Native.Nat.{ℕ, suc, _+_, _-_, _*_, _<_, _≤_}
+use mathlib.Core.Path.{_≡_, refl, sym, _∙_, ap}
+use mathlib.Core.Bool.{Bool, true, false}
 use mathlib.Core.List.{List, [], _∷_, _++_}
 use mathlib.Core.Option.{Option, none, some}
-use mathlib.Core.Logic.{⊎-elim}
 use native.Mathlib.Nat.{add-zero, zero-add, add-assoc}
 use native.Mathlib.Numerals.{add-one}
 use native.Mathlib.Omega.{arith}
-use borrow.Author.Tests.{le-leb, lt-leb, leb-true, leb-false, eqb-true, eqb-false}
+use borrow.Author.Tests.{le-leb, lt-leb, eqb-true, eqb-false}
 use lib.Dec.{leb, eqb}
-use lib.ListN.{length, getD, set, take, drop, length-set, length-drop, length-append, drop-of-length-le}
+use lib.ListN.{length, getD, set, take, drop, length-set, length-append, drop-of-length-le}
 use lib.Seq.{sets, drop-cons, getD-set-same, getD-set-other}
 use Rattle.octets.specs.Answers.{gives, refuses}
-use Rattle.octets.specs.Choice.{if_then_else_}
 use Rattle.octets.specs.Each.{each}
-use Rattle.octets.specs.Lent.{Wrote}
 use Rattle.octets.specs.declared.Refusal.the-variants.{StringsTooLarge}
-use Rattle.octets.proofs.Choice.{and-true}
 use Rattle.octets.proofs.Each.{each-next, each-fails, each-end}
-use Rattle.octets.proofs.Laws.{wrote-then, wrote-one}
 use Rattle.columns.specs.declared.Number.{Number}
 use Rattle.columns.specs.declared.Lengths.{Lengths}
 use Rattle.columns.specs.Numbers.{groups, numberAt}
 use Rattle.columns.specs.Blocks.{sum, allowed, numbers, lengthBefore, lengthThen, lengthsAt}
-use Rattle.columns.specs.Internal.{sizesOf, measured, NumberAs, LengthsAs, has, Raised, SummedUp, picked, scattered}
+use Rattle.columns.specs.Internal.{sizesOf, measured, NumberAs, LengthsAs, has, Raised, picked, scattered}
 use Rattle.columns.proofs.Numbers.{groups-few, no-number, one-group, two-groups, three-groups, group-missing, group-needless}
 use Rattle.columns.proofs.Laws.{length-first}
 use Rattle.columns.proofs.Places.{has-one, has-none, has-next, sum-next, sum-take}

@@ -1,11 +1,11 @@
 -- Strings taken from the columns one after the other, and put into them.
 -- Assumes nothing.
 use Prim.Native.Nat.{ℕ, zero, suc, _+_, _-_, _<_, _≤_}
-use mathlib.Core.Path.{_≡_, refl, sym, _∙_, ap, subst}
+use mathlib.Core.Path.{_≡_, refl, sym, _∙_, ap}
 use mathlib.Core.Bool.{Bool, true, false}
 use mathlib.Core.List.{List, [], _∷_, _++_, append-nil, append-assoc}
 use mathlib.Core.Logic.{_⊎_, inl, inr, ⊎-elim}
-use native.Mathlib.Nat.{add-zero, zero-add, add-suc, suc-add, not-suc-le-zero}
+use native.Mathlib.Nat.{add-zero, add-suc, suc-add, not-suc-le-zero}
 use native.Mathlib.Numerals.{add-one}
 use native.Mathlib.Omega.{arith}
 use borrow.Author.Tests.{eqb-true, eqb-false, ltb-true, ltb-false}
@@ -15,10 +15,10 @@ use lib.Seq.{sets, length-sets, take-suc, take-all, getD-drop, getD-set-same, ge
 use Rattle.octets.specs.Lent.{Wrote}
 use Rattle.octets.proofs.Laws.{wrote-then, kept-by}
 use Rattle.columns.specs.Blocks.{stringsIn, joined, lengths, sum, columns, dealt}
-use Rattle.columns.specs.Internal.{has, longerThan, startOf, placeOf, Raised, Starts, picked, scattered}
+use Rattle.columns.specs.Internal.{has, startOf, placeOf, Raised, Starts, picked, scattered}
 use Rattle.columns.proofs.Columns.{AtMost, length-columns, columns-dealt}
 use Rattle.columns.proofs.Laws.{lengths-in}
-use Rattle.columns.proofs.Places.{has-cases, has-one, has-none, has-next, start-first, start-all, place-next, place-before, place-inside, place-first, place-last, at-most-at, octet-at-place, column-octet, sum-next, sum-take, starts-next}
+use Rattle.columns.proofs.Places.{has-one, has-none, has-next, start-first, start-all, place-next, place-inside, place-first, place-last, at-most-at, octet-at-place, column-octet, sum-next, sum-take, starts-next}
 
 -- ---- both ways: the string at hand lies within the octets, its places within the block
 

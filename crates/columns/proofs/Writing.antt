@@ -1,27 +1,25 @@
 -- What writing comes to, case by case, and how large a block is.
 -- Assumes nothing.
-use Prim.Native.Nat.{ℕ, _+_, _*_, _<_, _≤_}
+use Prim.Native.Nat.{ℕ, zero, suc, _+_, _*_, _<_, _≤_}
 use mathlib.Core.Path.{_≡_, refl, sym, _∙_, ap}
 use mathlib.Core.Bool.{Bool, true, false}
-use mathlib.Core.List.{List, [], _∷_, _++_}
-use mathlib.Core.Logic.{⊎-elim}
+use mathlib.Core.List.{List, [], _∷_}
 use native.Mathlib.Omega.{arith}
 use borrow.Author.Tests.{lt-leb}
-use lib.ListN.{length, length-append, length-map}
+use lib.ListN.{length, replicate, length-append, length-map, length-replicate}
 use Rattle.octets.specs.Answers.{Said, gives, refuses}
 use Rattle.octets.specs.Choice.{if_then_else_}
 use Rattle.octets.specs.Checks.{checked}
-use Rattle.octets.specs.Lent.{Making, refused, made, Wrote}
+use Rattle.octets.specs.Lent.{refused, made, Wrote}
 use Rattle.octets.specs.declared.Refusal.the-variants.{LengthTooLarge, StringsTooLarge}
-use Rattle.octets.proofs.Checks.{check-holds}
 use Rattle.octets.proofs.Laws.{wrote-then}
 use Rattle.columns.specs.Numbers.{groups}
 use Rattle.columns.specs.Blocks.{stringsIn, lengths, sum, allowed, columns, numbers, block}
 use Rattle.columns.specs.Answers.{writing}
 use Rattle.columns.specs.Internal.{sizesOf}
-use Rattle.columns.proofs.Numbers.{groups-few}
+use Rattle.columns.proofs.Numbers.{groups-two, groups-few}
 use Rattle.columns.proofs.Columns.{AtMost, length-columns}
-use Rattle.columns.proofs.Laws.{allowed-means, lengths-in, writing-told}
+use Rattle.columns.proofs.Laws.{allowed-means, lengths-in, writing-done, writing-told}
 
 -- ---- refused
 
@@ -87,3 +85,28 @@ largest-block os ns b w e =
     let (a, h, is) = writing-told os ns b w e in
     let (few, most) = allowed-means ns .0 a in
     omega (arith, ap length is, block-size os ns a h, groups-few (length ns) (omega arith), numbers-few ns most, sum-few ns most)
+
+-- and so many for 1,000 strings of 255
+
+sum-full : (n : ℕ) → sum (replicate n 255) ≡ 255 * n
+unfolding sum
+sum-full zero = omega arith
+sum-full (suc n) = omega (arith, sum-full n)
+
+numbers-full : (n : ℕ) → length (numbers (replicate n 255)) ≡ 2 * n
+unfolding numbers
+numbers-full zero = omega arith
+numbers-full (suc n) = rw length-append (omega (arith, ap length (groups-two 255 (omega arith) (omega arith)), numbers-full n))
+
+most-full : (n : ℕ) → AtMost 255 (replicate n 255)
+most-full zero = tt
+most-full (suc n) = (omega arith, most-full n)
+
+pub largest-reached : (os : List ℕ) → 255000 ≤ length os → (b : List ℕ) × (writing os (replicate 1000 255) ≡ made b (gives 257002))
+largest-reached os h =
+    let ns : List ℕ = replicate 1000 255 in
+    let count = length-replicate {A = ℕ} 1000 255 in
+    let a = allowed-means ns .1 (omega (arith, count), most-full 1000) in
+    let enough : sum ns ≤ length os = omega (arith, sum-full 1000) in
+    let size : length (block (stringsIn ns os)) ≡ 257002 = block-size os ns a enough ∙ omega (arith, sum-full 1000, numbers-full 1000, ap length (ap groups count ∙ groups-two 1000 (omega arith) (omega arith))) in
+    (block (stringsIn ns os), writing-done os ns a enough ∙ ap (λ (n : ℕ). made (block (stringsIn ns os)) (gives n)) size)

@@ -1,7 +1,7 @@
--- Octet strings by column: their number, each length, every string's first octet, every second octet and so on, ended strings skipped.
-use Prim.Native.Nat.{ℕ, zero, suc, _+_, _-_, _≤_}
+-- Log blocks by column (document 02, Ask 13): the number of strings, then each length, then every string's first octet, every second octet and so on, ended strings skipped.
+use Prim.Native.Nat.{ℕ, zero, suc, _+_, _-_}
 use mathlib.Core.Path.{_≡_, refl}
-use mathlib.Core.Bool.{Bool, true, false, _&&_}
+use mathlib.Core.Bool.{Bool, _&&_}
 use mathlib.Core.List.{List, [], _∷_, _++_, map}
 use mathlib.Core.Option.{Option, none, some}
 use lib.ListN.{length, take, drop}
@@ -12,7 +12,7 @@ use Rattle.columns.specs.Numbers.{groups, groupsWithin, numberAt}
 
 -- ---- the strings, as they lie end to end with their lengths beside
 
--- strings of these lengths
+-- the strings of these lengths; octets after them are not looked at
 unfoldable pub stringsIn : List ℕ → List ℕ → List (List ℕ)
 stringsIn [] os = []
 stringsIn (n ∷ ns) os = take n os ∷ stringsIn ns (drop n os)
@@ -44,7 +44,7 @@ unfoldable pub rests : List (List ℕ) → List (List ℕ)
 rests [] = []
 rests (s ∷ ss) = drop 1 s ∷ rests ss
 
--- the first n columns
+-- the first n columns: every string's first octet, every second octet and so on
 unfoldable pub columns : ℕ → List (List ℕ) → List ℕ
 columns zero ss = []
 columns (suc n) ss = firsts ss ++ columns n (rests ss)
@@ -54,10 +54,11 @@ unfoldable pub numbers : List ℕ → List ℕ
 numbers [] = []
 numbers (n ∷ ns) = groups n ++ numbers ns
 
+-- the number of strings, each length, the columns; no string has more than 255
 unfoldable pub block : List (List ℕ) → List ℕ
 block ss = groups (length ss) ++ (numbers (lengths ss) ++ columns 255 ss)
 
--- ---- and back; the laws `read-block` and `block-read` say that this is the inverse, and takes nothing but blocks
+-- ---- and back (law `block-read` says without this walk which strings octets are the block of, and that there are none for other octets)
 
 -- how many strings of these lengths have an octet left
 unfoldable pub going : List ℕ → ℕ
@@ -91,11 +92,12 @@ unfoldable pub lengthsAt : ℕ → List ℕ → Option (List ℕ × List ℕ)
 lengthsAt zero os = some ([], os)
 lengthsAt (suc k) os = lengthThen (numberAt os) (λ rest. lengthsAt k rest)
 
--- what follows the lengths is their strings' octets, no fewer and no more
+-- what follows the lengths is the strings' octets, no fewer and no more
 abbrev pub stringsThen : Option (List ℕ × List ℕ) → Option (List (List ℕ))
 stringsThen none = none
 stringsThen (some (ns, os)) = if eqb (length os) (sum ns) then some (dealt 255 ns os) else none
 
+-- at most 1,000 strings
 abbrev pub countThen : Option (ℕ × List ℕ) → Option (List (List ℕ))
 countThen none = none
 countThen (some (n, os)) = let strings = stringsThen (lengthsAt n os) in if leb n 1000 then strings else none
@@ -107,6 +109,12 @@ stringsOf os = countThen (numberAt os)
 -- "abc", "", "de" are 3; 3, 0, 2; a d, b e, c. A block of no strings is 00
 rows : (block ((0x61 ∷ 0x62 ∷ 0x63 ∷ []) ∷ [] ∷ (0x64 ∷ 0x65 ∷ []) ∷ []) ≡ 3 ∷ 3 ∷ 0 ∷ 2 ∷ 0x61 ∷ 0x64 ∷ 0x62 ∷ 0x65 ∷ 0x63 ∷ [])
     × (stringsOf (3 ∷ 3 ∷ 0 ∷ 2 ∷ 0x61 ∷ 0x64 ∷ 0x62 ∷ 0x65 ∷ 0x63 ∷ []) ≡ some ((0x61 ∷ 0x62 ∷ 0x63 ∷ []) ∷ [] ∷ (0x64 ∷ 0x65 ∷ []) ∷ []))
-    × (block [] ≡ 0 ∷ []) × (stringsOf (0 ∷ []) ≡ some []) × (stringsOf (0 ∷ 0 ∷ []) ≡ none) × (stringsOf (1 ∷ 0x80 ∷ 0x02 ∷ []) ≡ none)
+    × (block [] ≡ 0 ∷ []) × (stringsOf (0 ∷ []) ≡ some [])
 unfolding block stringsOf groupsWithin numberAt numbers columns firsts rests lengthsAt sum dealt fronted going
-rows = (refl, refl, refl, refl, refl, refl)
+rows = (refl, refl, refl, refl)
+
+-- no blocks: an octet left over; one octet too few, and a length that is cut off; a length of 256; 1,001 strings; a needless group in the number of strings, and in a length
+no-blocks : (stringsOf (0 ∷ 0 ∷ []) ≡ none) × (stringsOf (1 ∷ 2 ∷ 0x61 ∷ []) ≡ none) × (stringsOf (1 ∷ 0x80 ∷ []) ≡ none) × (stringsOf (1 ∷ 0x80 ∷ 0x02 ∷ []) ≡ none)
+    × (stringsOf (0xe9 ∷ 0x07 ∷ []) ≡ none) × (stringsOf (0x80 ∷ 0x00 ∷ []) ≡ none) × (stringsOf (1 ∷ 0x80 ∷ 0x00 ∷ []) ≡ none)
+unfolding stringsOf numberAt lengthsAt sum
+no-blocks = (refl, refl, refl, refl, refl, refl, refl)

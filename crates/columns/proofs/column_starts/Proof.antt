@@ -1,6 +1,6 @@
 -- `columns::column_starts` meets its contract: each column's octets are counted, and added up.
 -- Assumes nothing.
-use Prim.Native.Nat.{ℕ, zero, suc, _+_, _<_}
+use Prim.Native.Nat.{ℕ, zero, suc}
 use mathlib.Core.Path.{_≡_, refl}
 use native.Mathlib.Omega.{arith}
 use denote.Ref.{now}

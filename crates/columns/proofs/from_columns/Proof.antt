@@ -1,6 +1,6 @@
 -- `columns::from_columns` meets its contract: the number of strings, their lengths, their octets; then 23.
 -- Assumes nothing.
-use Prim.Native.Nat.{ℕ, _+_, _-_, _<_, _≤_}
+use Prim.Native.Nat.{ℕ, _+_, _-_, _≤_}
 use mathlib.Core.Path.{_≡_, sym, _∙_, ap, subst}
 use mathlib.Core.Bool.{true}
 use mathlib.Core.List.{List}
@@ -9,11 +9,10 @@ use native.Mathlib.Omega.{arith}
 use denote.Ref.{now}
 use lib.ListN.{length, take, drop, length-drop}
 use lib.Seq.{sets, length-sets}
-use Rattle.octets.specs.declared.Refusal.the-variants.{OutputTooShort, BlockNotWhole}
+use Rattle.octets.specs.declared.Refusal.the-variants.{BlockNotWhole}
 use Rattle.octets.proofs.Laws.{kept-by}
 use Rattle.columns.specs.declared.Number.{Number}
 use Rattle.columns.specs.declared.Lengths.{Lengths}
-use Rattle.columns.specs.Numbers.{numberAt}
 use Rattle.columns.specs.Blocks.{joined, sum, allowed, dealt, lengthsAt}
 use Rattle.columns.specs.Answers.{madeBoth, reading}
 use Rattle.columns.specs.Internal.{NumberAs, LengthsAs}
@@ -31,6 +30,11 @@ use Rattle.columns.proofs.put_lengths.Reads as put-lengths-reads
 use Rattle.columns.proofs.refused.Reads as refused-reads
 use Rattle.columns.proofs.take_strings.Reads as take-strings-reads
 
+-- what the functions called ask and tell
+abbrev claims : lts.Claims
+claims =
+    (number-at-reads.Asked, number-at-reads.Learnt, refused-reads.Asked, refused-reads.Learnt, measure-reads.Asked, measure-reads.Learnt, put-lengths-reads.Asked, put-lengths-reads.Learnt, take-strings-reads.Asked, take-strings-reads.Learnt, done-reads.Asked, done-reads.Learnt)
+
 -- ---- the number of strings
 
 returns : tie.Need-returns
@@ -41,11 +45,7 @@ returns c =
 
 -- where it is known
 abbrev Counted : Type 0
-Counted =
-    lts.After-known-told
-    (number-at-reads.Asked, number-at-reads.Learnt, refused-reads.Asked, refused-reads.Learnt, measure-reads.Asked, measure-reads.Learnt, put-lengths-reads.Asked, put-lengths-reads.Learnt, take-strings-reads.Asked, take-strings-reads.Learnt, done-reads.Asked, done-reads.Learnt)
-    reads.Pre
-    reads.Post
+Counted = lts.After-known-told claims reads.Pre reads.Post
 
 abbrev block-of : Counted → List ℕ
 block-of c = now (c .before .before .before .before .before .before .before .args .block)
@@ -74,11 +74,7 @@ returns-3 c =
 
 -- where they are known
 abbrev Measured : Type 0
-Measured =
-    lts.After-known-told2
-    (number-at-reads.Asked, number-at-reads.Learnt, refused-reads.Asked, refused-reads.Learnt, measure-reads.Asked, measure-reads.Learnt, put-lengths-reads.Asked, put-lengths-reads.Learnt, take-strings-reads.Asked, take-strings-reads.Learnt, done-reads.Asked, done-reads.Learnt)
-    reads.Pre
-    reads.Post
+Measured = lts.After-known-told2 claims reads.Pre reads.Post
 
 abbrev counted-at : Measured → Counted
 counted-at m = m .before .before .before .before .before
@@ -112,7 +108,7 @@ returns-4 c =
     let k = known m in
     let b = block-of (counted-at m) in
     rw (c .refused4 .ensures)
-    (both-refused _ _ BlockNotWhole (octets-wrong b (counted (counted-at m) .0) (k .few) (k .there) (λ e. c .before .if2 .taken (sym (length-drop (body-of m) b) ∙ e ∙ sym (k .total)))))
+    (both-refused _ _ BlockNotWhole (octets-wrong b (counted (counted-at m) .0) (k .few) (k .there) (λ e. omega (arith, c .before .if2 .taken, length-drop (body-of m) b, e, k .total))))
 
 -- ---- their octets
 
@@ -144,11 +140,7 @@ returns-6 c =
 
 -- where the lengths are stored
 abbrev Stored : Type 0
-Stored =
-    lts.After-put-lengths
-    (number-at-reads.Asked, number-at-reads.Learnt, refused-reads.Asked, refused-reads.Learnt, measure-reads.Asked, measure-reads.Learnt, put-lengths-reads.Asked, put-lengths-reads.Learnt, take-strings-reads.Asked, take-strings-reads.Learnt, done-reads.Asked, done-reads.Learnt)
-    reads.Pre
-    reads.Post
+Stored = lts.After-put-lengths claims reads.Pre reads.Post
 
 abbrev measured-at : Stored → Measured
 measured-at p = p .before .before .before .before .before
@@ -193,8 +185,8 @@ returns-7 : tie.Need-returns-7
 returns-7 c =
     let p = c .before .before .before .before .before .before .before .before in
     let m = measured-at p in
-    let list = ap (λ (ls : List ℕ). sets (octets-of p) 0 (joined (dealt 255 ls (rest m (all-there p))))) (first p) in
-    both-done (octets-of p) (list-of p) (read m (all-there p)) (omega (arith, octets-size m (all-there p), octets-fit p)) (list-fits p) (c .done .ensures) (known m .size) (octets-size m (all-there p)) (c .before .before .before .take-strings .ensures .list ∙ list) (stored p)
+    let octets : c .before .before .before .take-strings .last .1 .1 .1 .0 ≡ sets (octets-of p) 0 (joined (dealt 255 (known m .ns) (rest m (all-there p)))) = rw (first p) at (c .before .before .before .take-strings .ensures .list) in
+    both-done (octets-of p) (list-of p) (read m (all-there p)) (omega (arith, octets-size m (all-there p), octets-fit p)) (list-fits p) (c .done .ensures) (known m .size) (octets-size m (all-there p)) octets (stored p)
 
 pub from-columns-spec : {M : Type 1} → statement M
 from-columns-spec =

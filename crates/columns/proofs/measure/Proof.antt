@@ -1,7 +1,7 @@
 -- `columns::measure` meets its contract: what is added up, with the lengths that are left, is all.
 -- Assumes nothing.
-use Prim.Native.Nat.{ℕ, _+_, _-_, _≤_, _<_}
-use mathlib.Core.Path.{_≡_, ap, subst}
+use Prim.Native.Nat.{_-_, _≤_}
+use mathlib.Core.Path.{subst}
 use native.Mathlib.Omega.{arith}
 use denote.Ref.{now}
 use Rattle.columns.specs.declared.Number.{Number}

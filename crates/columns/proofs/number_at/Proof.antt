@@ -1,7 +1,6 @@
 -- `columns::number_at` meets its contract, by the first octet and the second.
 -- Assumes nothing.
 use Prim.Native.Nat.{_+_}
-use mathlib.Core.Path.{_≡_}
 use native.Mathlib.Omega.{arith}
 use Rattle.columns.proofs.Stepwise.{number-ended, number-one, number-cut, number-needless, number-large, number-two}
 use Rattle.columns.proofs.number_at.Statement.{statement}

@@ -1,11 +1,10 @@
 -- `columns::put_lengths` meets its contract: what is left of the lengths, stored too, gives them all.
 -- Assumes nothing.
-use Prim.Native.Nat.{ℕ, _+_, _-_, _≤_, _<_}
-use mathlib.Core.Path.{_≡_, refl, _∙_, subst}
+use Prim.Native.Nat.{_-_}
+use mathlib.Core.Path.{_≡_, refl, subst}
 use native.Mathlib.Omega.{arith}
 use denote.Ref.{now}
 use lib.ListN.{length, length-set}
-use Rattle.columns.specs.declared.Number.{Number}
 use Rattle.columns.specs.Internal.{NumberAs}
 use Rattle.columns.proofs.Stepwise.{Storing, storing-start, storing-next, storing-bad, storing-end}
 use Rattle.columns.proofs.put_lengths.Statement.{statement}

@@ -1,6 +1,6 @@
 -- `columns::put_numbers` meets its contract: what is left of the lengths, written too, gives the whole.
 -- Assumes nothing.
-use Prim.Native.Nat.{ℕ, _+_, _-_, _≤_, _<_}
+use Prim.Native.Nat.{_+_, _-_, _≤_}
 use mathlib.Core.Path.{_≡_, refl, _∙_, ap}
 use native.Mathlib.Omega.{arith}
 use denote.Ref.{now}

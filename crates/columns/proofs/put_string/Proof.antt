@@ -1,11 +1,10 @@
 -- `columns::put_string` meets its contract: octet after octet stands in its place.
 -- Assumes nothing.
-use Prim.Native.Nat.{ℕ, _+_, _-_, _≤_}
-use mathlib.Core.Path.{_≡_, refl, sym, _∙_, ap, subst}
-use mathlib.Core.List.{List}
+use Prim.Native.Nat.{_-_, _≤_}
+use mathlib.Core.Path.{_≡_, refl}
 use native.Mathlib.Omega.{arith}
 use denote.Ref.{now}
-use lib.ListN.{length, getD, drop, length-set}
+use lib.ListN.{length, drop, length-set}
 use lib.Seq.{getD-drop}
 use Rattle.columns.specs.Internal.{scattered}
 use Rattle.columns.proofs.Stepwise.{scattered-next}

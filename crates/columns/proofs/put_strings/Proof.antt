@@ -1,10 +1,9 @@
 -- `columns::put_strings` meets its contract: string after string is put into the columns.
 -- Assumes nothing.
-use Prim.Native.Nat.{ℕ, _+_, _-_, _≤_, _<_}
-use mathlib.Core.Path.{_≡_}
+use Prim.Native.Nat.{_-_}
 use native.Mathlib.Omega.{arith}
 use denote.Ref.{now}
-use lib.ListN.{length, getD}
+use lib.ListN.{length}
 use Rattle.columns.proofs.Laws.{allowed-means}
 use Rattle.columns.proofs.Places.{at-most-at}
 use Rattle.columns.proofs.StringByString.{Putting, putting-start, putting-kept, putting-next, putting-end, string-inside, places-inside}

@@ -1,6 +1,6 @@
 -- `columns::sizes_of` meets its contract: what is counted, with the lengths that are left, is all.
 -- Assumes nothing.
-use Prim.Native.Nat.{ℕ, _+_, _-_, _≤_, _<_}
+use Prim.Native.Nat.{_-_}
 use native.Mathlib.Omega.{arith}
 use denote.Ref.{now}
 use lib.ListN.{length, getD}

@@ -1,9 +1,7 @@
 -- `columns::sum_up` meets its contract: what the counts passed come to stands in their places.
 -- Assumes nothing.
-use Prim.Native.Nat.{_+_, _-_, _≤_}
-use mathlib.Core.Path.{_≡_}
+use Prim.Native.Nat.{_-_, _≤_}
 use native.Mathlib.Omega.{arith}
-use lib.ListN.{length}
 use Rattle.columns.proofs.Stepwise.{Summing, summing-start, summing-within, summing-next}
 use Rattle.columns.proofs.sum_up.Statement.{statement}
 use Rattle.columns.proofs.sum_up.Tie as tie

@@ -1,12 +1,11 @@
 -- `columns::take_string` meets its contract: the octets are stored one by one, each from its place.
 -- Assumes nothing.
-use Prim.Native.Nat.{ℕ, _+_, _-_, _≤_}
-use mathlib.Core.Path.{_≡_, refl, sym, _∙_, ap, subst}
-use mathlib.Core.List.{List}
+use Prim.Native.Nat.{_+_, _-_, _≤_}
+use mathlib.Core.Path.{_≡_, refl}
 use native.Mathlib.Omega.{arith}
-use native.Mathlib.Nat.{add-zero, add-assoc}
+use native.Mathlib.Nat.{add-assoc}
 use denote.Ref.{now}
-use lib.ListN.{length, getD, length-set}
+use lib.ListN.{length, length-set}
 use Rattle.octets.specs.Lent.{Wrote}
 use Rattle.octets.proofs.Laws.{wrote-then, wrote-one}
 use Rattle.columns.specs.Internal.{picked}

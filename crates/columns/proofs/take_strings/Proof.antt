@@ -1,10 +1,9 @@
 -- `columns::take_strings` meets its contract: string after string is taken from the columns.
 -- Assumes nothing.
-use Prim.Native.Nat.{ℕ, _+_, _-_, _≤_, _<_}
-use mathlib.Core.Path.{_≡_}
+use Prim.Native.Nat.{_-_}
 use native.Mathlib.Omega.{arith}
 use denote.Ref.{now}
-use lib.ListN.{length, getD}
+use lib.ListN.{length}
 use Rattle.columns.proofs.Laws.{allowed-means}
 use Rattle.columns.proofs.Places.{at-most-at}
 use Rattle.columns.proofs.StringByString.{Taking, taking-start, taking-next, taking-end, string-inside, places-inside}

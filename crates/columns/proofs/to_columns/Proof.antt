@@ -1,6 +1,6 @@
 -- `columns::to_columns` meets its contract: 35, 1, 23; then the number of strings, the lengths and the columns.
 -- Assumes nothing.
-use Prim.Native.Nat.{ℕ, _+_, _<_, _≤_}
+use Prim.Native.Nat.{ℕ, _+_, _≤_}
 use mathlib.Core.Path.{_≡_, sym, _∙_, ap}
 use mathlib.Core.Bool.{true}
 use mathlib.Core.List.{List}
@@ -31,13 +31,14 @@ use Rattle.columns.proofs.sizes_of.Reads as sizes-of-reads
 returns : tie.Need-returns
 returns c = lent-refused refuses _ StringsTooLarge (too-large _ _ (sym (ap sizesSays (c .enum-told .given .1)) ∙ c .before .before .sizes-of .ensures))
 
+-- what the functions called ask and tell
+abbrev claims : lts.Claims
+claims =
+    (sizes-of-reads.Asked, sizes-of-reads.Learnt, groups-of-reads.Asked, groups-of-reads.Learnt, put-number-reads.Asked, put-number-reads.Learnt, put-numbers-reads.Asked, put-numbers-reads.Learnt, put-strings-reads.Asked, put-strings-reads.Learnt)
+
 -- where the sizes are known
 abbrev Known : Type 0
-Known =
-    lts.After-known-told
-    (sizes-of-reads.Asked, sizes-of-reads.Learnt, groups-of-reads.Asked, groups-of-reads.Learnt, put-number-reads.Asked, put-number-reads.Learnt, put-numbers-reads.Asked, put-numbers-reads.Learnt, put-strings-reads.Asked, put-strings-reads.Learnt)
-    reads.Pre
-    reads.Post
+Known = lts.After-known-told claims reads.Pre reads.Post
 
 module _ (c : Known) where
   abbrev os : List ℕ
@@ -75,11 +76,7 @@ returns-2 c = let k = c .before in lent-refused refuses _ LengthTooLarge (octets
 
 -- where there is room
 abbrev Room : Type 0
-Room =
-    lts.After-put-number-arg
-    (sizes-of-reads.Asked, sizes-of-reads.Learnt, groups-of-reads.Asked, groups-of-reads.Learnt, put-number-reads.Asked, put-number-reads.Learnt, put-numbers-reads.Asked, put-numbers-reads.Learnt, put-strings-reads.Asked, put-strings-reads.Learnt)
-    reads.Pre
-    reads.Post
+Room = lts.After-put-number-arg claims reads.Pre reads.Post
 
 abbrev known-at : Room → Known
 known-at p = p .before .before .before .before
@@ -89,11 +86,7 @@ room p = omega (arith, p .before .before .groups-of .ensures, p .before .if2 .le
 
 -- where the block is written
 abbrev Whole : Type 0
-Whole =
-    lts.After-slice-known4
-    (sizes-of-reads.Asked, sizes-of-reads.Learnt, groups-of-reads.Asked, groups-of-reads.Learnt, put-number-reads.Asked, put-number-reads.Learnt, put-numbers-reads.Asked, put-numbers-reads.Learnt, put-strings-reads.Asked, put-strings-reads.Learnt)
-    reads.Pre
-    reads.Post
+Whole = lts.After-slice-known4 claims reads.Pre reads.Post
 
 abbrev room-at : Whole → Room
 room-at c = c .before .before .before .before .before .before .before .before .before .before .before
