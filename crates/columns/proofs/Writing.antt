@@ -3,10 +3,11 @@
 use Prim.Native.Nat.{ℕ, zero, suc, _+_, _*_, _<_, _≤_}
 use mathlib.Core.Path.{_≡_, refl, sym, _∙_, ap}
 use mathlib.Core.Bool.{Bool, true, false}
-use mathlib.Core.List.{List, [], _∷_}
+use mathlib.Core.List.{List, [], _∷_, _++_}
 use native.Mathlib.Omega.{arith}
-use borrow.Author.Tests.{lt-leb}
-use lib.ListN.{length, replicate, length-append, length-map, length-replicate}
+use borrow.Author.Tests.{le-leb, lt-leb}
+use lib.ListN.{length, drop, replicate, length-append, length-drop, length-map, length-replicate}
+use lib.Seq.{take-append-le, drop-append-le}
 use Rattle.octets.specs.Answers.{Said, gives, refuses}
 use Rattle.octets.specs.Choice.{if_then_else_}
 use Rattle.octets.specs.Checks.{checked}
@@ -66,6 +67,18 @@ module _ (os ns : List ℕ) (a : allowed ns ≡ true) (enough : sum ns ≤ lengt
   pub block-written : {l l₁ l₂ l₃ : List ℕ} {n₁ n₂ n₃ : ℕ} → Wrote 0 (groups (length ns)) l n₁ l₁ → Wrote n₁ (numbers ns) l₁ n₂ l₂ → Wrote n₂ (columns 255 ss) l₂ n₃ l₃ → Wrote 0 (block ss) l n₃ l₃
   unfolding block
   block-written w₁ w₂ w₃ = rw (same-count, same-lengths) (wrote-then w₁ (wrote-then w₂ w₃))
+
+-- octets after the strings are not looked at
+strings-first : (ns os more : List ℕ) → sum ns ≤ length os → stringsIn ns (os ++ more) ≡ stringsIn ns os
+unfolding stringsIn sum
+strings-first [] os more h = refl
+strings-first (n ∷ ns) os more h = rw (take-append-le n os more (omega arith), drop-append-le n os more (omega arith), strings-first ns (drop n os) more (rw length-drop (omega arith)))
+
+pub after-the-strings : (os more ns : List ℕ) → sum ns ≤ length os → writing (os ++ more) ns ≡ writing os ns
+unfolding writing
+after-the-strings os more ns h =
+    let longer : sum ns ≤ length (os ++ more) = rw length-append (omega arith) in
+    rw (le-leb (sum ns) (length (os ++ more)) longer, le-leb (sum ns) (length os) h, strings-first ns os more h)
 
 -- ---- how large a block is
 
