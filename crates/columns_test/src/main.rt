@@ -91,7 +91,10 @@ fn main() {
     let mut back = [0u8; OCTETS];
     let mut list = [0usize; STRINGS];
     read(&block, &mut back, &mut list);
-    say_number(alike(&octets, &back), b" octets came back, the last length is ");
+    say_number(
+        alike(&octets, &back),
+        b" octets came back, the last length is ",
+    );
     say_number(list[999], b"\n");
     write(&octets[0..254999], &lengths, &mut block);
     write(&octets, &lengths, &mut block[0..257001]);
