@@ -1,5 +1,6 @@
-// The requests that name no kind of message: text packed, sent in parts and unpacked, addresses of both layers, codings,
-// times and header elements.
+// The requests that name no kind of message: text packed, converted, sent in parts and unpacked, addresses, codings,
+// times, header elements, and what else stands in docs/REQUESTS.md after these.
+use crate::blocks;
 use crate::elements;
 use crate::fields;
 use crate::fields::Lent;
@@ -42,8 +43,12 @@ const RELAY: usize = 10;
 
 const RELAY_WRITE: usize = 11;
 
+const TO_COLUMNS: usize = 12;
+
+const FROM_COLUMNS: usize = 13;
+
 // How many there are; as a request's number it says that there is no such request.
-pub const REQUESTS: usize = 12;
+pub const REQUESTS: usize = 14;
 
 // The number of the request with a name.
 pub fn request_named(name: &[u8]) -> usize {
@@ -59,7 +64,9 @@ pub fn request_named(name: &[u8]) -> usize {
         elements\n\
         write-elements\n\
         relay\n\
-        relay-write\n";
+        relay-write\n\
+        to-columns\n\
+        from-columns\n";
     entry_number(names, name)
 }
 
@@ -68,7 +75,24 @@ pub fn against_request(request: usize, line: &[u8]) -> usize {
     if request == RELAY_WRITE && relay::gives_none(line) {
         return reasons::against_fields(b"w---", line);
     }
-    let forms = b"wco\nwco\nwo\nwoo\nwxo\nwnno\nwd\nwnnnnnnz\nwo\nwe\nwo\nwnno\n";
+    if request == TO_COLUMNS {
+        return reasons::against_list(b'o', line);
+    }
+    let forms = b"\
+        wco\n\
+        wco\n\
+        wo\n\
+        woo\n\
+        wxo\n\
+        wnno\n\
+        wd\n\
+        wnnnnnnz\n\
+        wo\n\
+        we\n\
+        wo\n\
+        wnno\n\
+        \n\
+        wo\n";
     reasons::against_fields(entry(forms, request), line)
 }
 
@@ -212,6 +236,8 @@ pub fn answer(
         WRITE_ELEMENTS => elements::write(field(line, 1), show, out, at),
         RELAY => relay::read(octets, show, out, at),
         RELAY_WRITE => relay::write(line, show, out, at),
+        TO_COLUMNS => blocks::write(line, show, out, at),
+        FROM_COLUMNS => blocks::read(octets, show, out, at),
         _ => at,
     }
 }

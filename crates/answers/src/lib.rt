@@ -1,4 +1,5 @@
 // The answers to requests: a reader's record, a writer's octets, and conversions that need no message.
+mod blocks;
 pub mod conversions;
 mod elements;
 pub mod fields;

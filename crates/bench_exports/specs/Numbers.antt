@@ -4,6 +4,7 @@ use mathlib.Core.List.{List}
 use Rattle.octets.specs.Answers.{Said, gives, refuses}
 use Rattle.octets.specs.Refusals.{refusalNumber}
 use Rattle.gsm7.specs.Packing.{SaidCounts}
+use Rattle.columns.specs.Answers.{SaidStrings}
 
 -- of an outcome, with a count beside it
 abbrev pub numbered : Said Unit → ℕ → ℕ
@@ -22,3 +23,7 @@ lentNumber lent = (countNumber (lent .0), lent .1)
 -- of what a packer does, in one message or in several, and the buffer
 abbrev pub packedNumber : SaidCounts × List ℕ → ℕ × List ℕ
 packedNumber lent = (numbered (lent .0 .0) (lent .0 .1), lent .1)
+
+-- of what the reader of a block by column does, and both lent lists
+abbrev pub stringsNumber : SaidStrings × List ℕ × List ℕ → ℕ × List ℕ × List ℕ
+stringsNumber lent = (numbered (lent .0 .0) (lent .0 .2), lent .1, lent .2)

@@ -8,6 +8,7 @@ ghost use Rattle.octets.specs.Lent.{lend};
 ghost use Rattle.gsm7.specs.Packing.{packing, notPacked};
 ghost use Rattle.gsm7.specs.Reading.{unpacked};
 ghost use Rattle.concatenation.specs.Messages.{concatenating, notSent};
+ghost use Rattle.columns.specs.Answers.{writing, reading, lendBoth};
 ghost use Rattle.time.specs.Timestamp.{timestamp};
 ghost use Rattle.address.specs.Address.{encoding};
 ghost use Rattle.layout.specs.Demand.{rewriting};
@@ -17,7 +18,7 @@ ghost use Rattle.deliver.specs.Deliver.{deliver, delivering, blank as blankDeli
 ghost use Rattle.status_report.specs.StatusReport.{statusReport, statusReporting, blank as blankStatusReport};
 ghost use Rattle.submit_report.specs.SubmitReport.{ack as submitReportAck, submitReporting, blank as blankSubmitReport};
 ghost use Rattle.deliver_report.specs.DeliverReport.{error as deliverReportError, deliverReporting, blank as blankDeliverReport};
-ghost use Rattle.bench_exports.specs.Numbers.{numbered, countNumber, lentNumber, packedNumber};
+ghost use Rattle.bench_exports.specs.Numbers.{numbered, countNumber, lentNumber, packedNumber, stringsNumber};
 use tpdu::Outcome;
 use tpdu::SMSAddress;
 use tpdu::SmsDeliver;
@@ -161,6 +162,25 @@ pub extern "C" fn tpdu_concatenate(text: &[u8], reference: u8, out: &mut [u8]) -
     let c = tpdu::pack_gsm7_concatenated(text, reference, out);
     let outcome = c.outcome;
     taken(outcome, c.octets)
+}
+
+// The number of octets of a block by column.
+#[no_mangle]
+pub extern "C" fn tpdu_to_columns(octets: &[u8], lengths: &[usize], out: &mut [u8]) -> usize
+    ensures { λ r. ⌜ (r, now (out .exit)) ≡ lentNumber (lend refuses (writing (now (octets .entry)) (now (lengths .entry))) (now (out .entry))) ⌝ }
+{
+    let w = tpdu::to_columns(octets, lengths, out);
+    written(w)
+}
+
+// The number of octets of the strings of a block.
+#[no_mangle]
+pub extern "C" fn tpdu_from_columns(block: &[u8], octets: &mut [u8], lengths: &mut [usize]) -> usize
+    ensures { λ r. ⌜ (r, now (octets .exit), now (lengths .exit)) ≡ stringsNumber (lendBoth (reading (now (block .entry))) (now (octets .entry)) (now (lengths .entry))) ⌝ }
+{
+    let s = tpdu::from_columns(block, octets, lengths);
+    let outcome = s.outcome;
+    taken(outcome, s.octets)
 }
 
 // The number of octets of text.

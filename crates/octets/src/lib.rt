@@ -40,6 +40,8 @@ pub enum Refusal {
     TooManyParts,
     OutcomeDisagrees,
     AlphanumericRelayAddress,
+    StringsTooLarge,
+    BlockNotWhole,
 }
 
 impl Refusal {
@@ -76,6 +78,8 @@ impl Refusal {
             Refusal::TooManyParts => 26,
             Refusal::OutcomeDisagrees => 29,
             Refusal::AlphanumericRelayAddress => 32,
+            Refusal::StringsTooLarge => 35,
+            Refusal::BlockNotWhole => 36,
         }
     }
 }

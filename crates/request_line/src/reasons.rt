@@ -4,7 +4,10 @@ use crate::values::has_form;
 use output::Output;
 use text_fields::fields::field;
 use text_fields::fields::field_count;
+use text_fields::fields::field_start;
 use text_fields::lists::entry;
+use text_fields::slices::between;
+use text_fields::slices::find;
 
 pub const NONE: usize = 0;
 
@@ -76,6 +79,19 @@ pub fn against_fields(forms: &[u8], line: &[u8]) -> usize {
             return against_form(form);
         }
         i += 1;
+    }
+    NONE
+}
+
+// The reason against a line whose fields after the first, none or more, are to have a form: the first that has it not.
+pub fn against_list(form: u8, line: &[u8]) -> usize {
+    let mut start = field_start(line, 1);
+    while start < line.len() {
+        let end = find(line, start, b' ');
+        if start < end && !has_form(form, between(line, start, end)) {
+            return against_form(form);
+        }
+        start = end + 1;
     }
     NONE
 }

@@ -34,6 +34,8 @@ elements HEX                 the elements of a header
 write-elements II:HEX,..     the header of elements
 relay HEX                    the address of the relay layer at the start of octets
 relay-write TON NPI HEX      the octets of an address of the relay layer; - - - is none
+to-columns HEX HEX ..        the log block of octet strings, by column
+from-columns HEX             the octet strings of a log block
 
 docs/REQUESTS.md has the keys and the answers.
 ",

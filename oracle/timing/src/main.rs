@@ -45,6 +45,24 @@ extern "C" {
         room: usize,
     ) -> usize;
     fn tpdu_unpack(data: *const u8, length: usize, septets: usize) -> usize;
+    fn tpdu_to_columns(
+        octets: *const u8,
+        length: usize,
+        lengths: *const usize,
+        count: usize,
+        out: *mut u8,
+        room: usize,
+    ) -> usize;
+    fn tpdu_from_columns(
+        block: *const u8,
+        length: usize,
+        octets: *mut u8,
+        room: usize,
+        lengths: *mut usize,
+        list: usize,
+    ) -> usize;
+    fn plain_to_columns(octets: *const u8, lengths: *const usize, count: usize, out: *mut u8) -> usize;
+    fn plain_from_columns(block: *const u8, octets: *mut u8, lengths: *mut usize) -> usize;
     fn tpdu_address(
         ton: u8,
         npi: u8,
@@ -321,6 +339,82 @@ fn time_parts(text: &str) {
     row("the same 3 texts packed by the port", rust, timed(&mut alone));
 }
 
+/// Strings of these lengths by column, and back, beside plain loops in C; then nanoseconds an octet.
+fn time_columns(name: &str, lengths: &[usize]) {
+    let total: usize = lengths.iter().sum();
+    let octets: Vec<u8> = (0..total).map(|i| (i * 7 + i / 255) as u8).collect();
+    let mut block = vec![0u8; 257_002];
+    let mut others = vec![0u8; 257_002];
+    let mut back = vec![0u8; total];
+    let mut list = vec![0usize; lengths.len()];
+    let count = lengths.len();
+    let mut plain = || unsafe {
+        plain_to_columns(
+            black_box(octets.as_ptr()),
+            lengths.as_ptr(),
+            count,
+            black_box(others.as_mut_ptr()),
+        )
+    };
+    let mut port = || unsafe {
+        tpdu_to_columns(
+            black_box(octets.as_ptr()),
+            total,
+            lengths.as_ptr(),
+            count,
+            black_box(block.as_mut_ptr()),
+            257_002,
+        )
+    };
+    agreed(name, &mut plain, &mut port);
+    let size = port();
+    column_row(&format!("{name} by column"), total, few(&mut plain), few(&mut port));
+    assert_eq!(block, others, "{name}: the two blocks differ");
+    let mut plain = || unsafe {
+        plain_from_columns(
+            black_box(others.as_ptr()),
+            black_box(back.as_mut_ptr()),
+            list.as_mut_ptr(),
+        )
+    };
+    let plain_time = few(&mut plain);
+    let mut port = || unsafe {
+        tpdu_from_columns(
+            black_box(block.as_ptr()),
+            size,
+            black_box(back.as_mut_ptr()),
+            total,
+            list.as_mut_ptr(),
+            count,
+        )
+    };
+    assert_eq!(port(), total, "{name}: the octets that come back");
+    let port_time = few(&mut port);
+    assert_eq!(back, octets, "{name}: the octets come back");
+    column_row(&format!("{name} back"), total, plain_time, port_time);
+}
+
+/// Nanoseconds of one turn, for work that takes long: the least of several runs of few turns.
+fn few(turn: &mut impl FnMut() -> usize) -> f64 {
+    (0..RUNS)
+        .map(|_| {
+            let start = Instant::now();
+            for _ in 0..20 {
+                black_box(turn());
+            }
+            start.elapsed().as_nanos() as f64 / 20.0
+        })
+        .fold(f64::INFINITY, f64::min)
+}
+
+fn column_row(work: &str, octets: usize, plain: f64, port: f64) {
+    println!(
+        "| {work} | {plain:.0} | {port:.0} | {:.2} | {:.1} |",
+        port / octets as f64,
+        plain / port
+    );
+}
+
 fn time_address(name: &str, ton: u8, npi: u8, text: &str) {
     let mut out = [0u8; 12];
     let mut array = [0u8; 290];
@@ -371,4 +465,11 @@ fn main() {
     time_address("address of 11 digits", 1, 1, "31624578901");
     time_address("address of type 5", 5, 0, "Wiglanth");
     time_digits();
+    println!();
+    println!("| Work | plain C, ns | port, ns | port, ns an octet | C / port |");
+    println!("|---|---|---|---|---|");
+    time_columns("1,000 strings of 255 octets", &[255; 1000]);
+    let mut one = [0; 1000];
+    one[500] = 255;
+    time_columns("1,000 strings, one of 255 octets", &one);
 }

@@ -1,0 +1,4 @@
+pub mod Numbers
+pub mod Blocks
+pub mod Answers
+pub mod Internal
