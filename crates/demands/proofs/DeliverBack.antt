@@ -1,9 +1,10 @@
--- Demand 2 of document 01 for SMS-DELIVER: what was written is read back as the same record, time letters capital.
+-- Demand 2 of document 01 for SMS-DELIVER: what was written is read back as the same record, time letters capital. And each proper beginning of it is refused with 2 (document 02, Ask 9).
 -- Assumes nothing.
 use Prim.Native.Nat.{ℕ, _+_, _≤_}
 use mathlib.Core.Path.{_≡_, refl, sym, ap, _∙_}
 use mathlib.Core.Bool.{Bool, true, false, _&&_}
 use mathlib.Core.List.{List, [], _∷_, _++_, append-assoc}
+use mathlib.Core.Option.{none}
 use native.Mathlib.Omega.{arith}
 use borrow.Author.Tests.{eqb-true, ltb-false}
 use lib.Dec.{eqb, ltb}
@@ -23,10 +24,12 @@ use Rattle.time.proofs.Laws.{time-back, time-size}
 use Rattle.address.specs.Writing.{addressOctets, octetsOr, addressChecks}
 use Rattle.address.specs.Address.{addressIn, addressSize, canonicalAddress, textHeld, clearedAddress}
 use Rattle.address.proofs.Laws.{Spelled, address-passed, address-held}
+use Rattle.layout.specs.Cut.{Cut, Endless}
 use Rattle.layout.specs.Demand.{Demand2}
 use Rattle.layout.specs.Layout.{first, octet, octets, any, address, userData, isSet, messageType, kept, Format, field, done, reached, reading, readFrom, read}
+use Rattle.layout.proofs.Beginnings.{cut-read, cut-always}
 use Rattle.layout.proofs.Steps.{done-reached, then-goes-on}
-use Rattle.demands.proofs.LayoutBack.{field-read, field-last, message-read, done-read}
+use Rattle.layout.proofs.LayoutBack.{field-read, field-last, message-read, done-read}
 use Rattle.deliver.specs.declared.SmsDeliver.{SmsDeliver}
 use Rattle.deliver.specs.Deliver.{delivered, format, deliver, flagsOf, delivering, tooLong, cleared, capitalised, Typed}
 use Rattle.deliver.specs.Layout.{Fields, bits, fields}
@@ -106,11 +109,21 @@ module _ (f : ℕ) (whole : kept bits f ≡ f) (mti : messageType f ≡ 0) (oa :
       ∙ field-read (octets any 7) _ scts (udl ∷ ud) (at + 1 + 1) seven ∙ field-read octet _ (udl ∷ []) ud (at + 1 + 1 + length scts) refl
       ∙ field-last (userData (dataOctets (codingOf dcs) udl)) _ ud (at + 1 + 1 + length scts + 1) size-is ∙ done-read [] _ _
 
-  written-read : read deliver (f ∷ oa ++ pid ∷ dcs ∷ scts ++ udl ∷ ud) ≡ reached (delivered its-fields) (1 + length oa + 1 + 1 + length scts + 1 + length ud)
+  abbrev string : List ℕ
+  string = f ∷ oa ++ pid ∷ dcs ∷ scts ++ udl ∷ ud
+
+  -- to their end
+  written-read : read deliver string ≡ reached (delivered its-fields) (length string)
   unfolding read format
   written-read =
-      let s = (f ∷ oa) ++ (pid ∷ dcs ∷ scts) ++ (udl ∷ ud) in
-      then-goes-on s fields 0 (ap (λ s. readFrom fields s 0) (append-assoc (f ∷ oa) (pid ∷ dcs ∷ scts) (udl ∷ ud)) ∙ to-first _ ∙ to-pid _ ∙ to-end _) (λ x. done (delivered x)) ∙ done-reached s _ _
+      let n : 1 + length oa + 1 + 1 + length scts + 1 + length ud ≡ length string = simp length-append (omega arith) in
+      then-goes-on string fields 0 (ap (λ s. readFrom fields s 0) (append-assoc (f ∷ oa) (pid ∷ dcs ∷ scts) (udl ∷ ud)) ∙ to-first _ ∙ to-pid _ ∙ to-end _) (λ x. done (delivered x))
+      ∙ done-reached string _ _ ∙ ap (reached (delivered its-fields)) n
+
+-- the layout never asks whether the string has ended
+endless : Endless format
+unfolding format fields
+endless f oa pid dcs scts udl ud = tt
 
 -- ---- the record that they make
 
@@ -157,33 +170,48 @@ module _ {octets : List ℕ} {answer : Said ℕ} (r : SmsDeliver) (e : deliverin
       let n = time-size (digitsOf (r .«tp_service_centre_timestamp»)) (passed .time-is) in
       rw (← passed .is) (simp length-append (omega (arith, n, passed .few, passed .address .short)))
 
-  -- what was written is read back
-  read-back : Typed r → (q : SmsDeliver) × (n : ℕ) × (read deliver octets ≡ reached q n) × (cleared q ≡ capitalised (cleared r))
-  read-back (ha, ht, hd) =
+  abbrev to-fields : Fields
+  to-fields = record {
+    first = flagsOf r;
+    oa = addressOf r;
+    pid = r .«tp_pid»;
+    dcs = r .«tp_dcs»;
+    scts = timeOctets (digitsOf (r .«tp_service_centre_timestamp»));
+    udl = r .«tp_user_data_length»;
+    ud = dataOf (r .«tp_user_data»);
+  }
+
+  told : Tells (r .«tp_rp») (r .«tp_udhi») (r .«tp_sri») (r .«tp_lp») (r .«tp_mms») (flagsOf r)
+  told = first-tells (r .«tp_rp») (r .«tp_udhi») (r .«tp_sri») (r .«tp_lp») (r .«tp_mms»)
+
+  -- what was written is read back, to its end
+  read-back : read deliver octets ≡ reached (delivered to-fields) (length octets)
+  read-back =
+      let p = passed in
+      let seven = sym (time-size (digitsOf (r .«tp_service_centre_timestamp»)) (p .time-is)) in
+      rw (← p .is) (written-read (flagsOf r) (told .whole) (told .mti-is) (addressOf r) (p .address .whole) (p .address .again) (r .«tp_pid») (r .«tp_dcs») _ seven (r .«tp_user_data_length») (dataOf (r .«tp_user_data»)) (sym (p .size-is)))
+
+  -- as the same record
+  record-back : Typed r → cleared (delivered to-fields) ≡ capitalised (cleared r)
+  record-back (ha, ht, hd) =
       let p = passed in
       let a = r .«tp_originating_address» in
       let stamp = r .«tp_service_centre_timestamp» in
       let d = r .«tp_user_data» in
-      let oa = addressOf r in
-      let scts = timeOctets (digitsOf stamp) in
-      let f = flagsOf r in
-      let t = first-tells (r .«tp_rp») (r .«tp_udhi») (r .«tp_sri») (r .«tp_lp») (r .«tp_mms») in
       let la : length (textHeld a) ≡ a .«address_length» = length-take-le (a .«address_length») (a .address) (omega (arith, ha, p .text-fits)) in
       let lt : length (digitsOf stamp) ≡ stamp .length = length-take-le (stamp .length) (stamp .digits) (omega (arith, ht, p .time-fits)) in
-      let ld : length (dataOf d) ≡ d .length = length-take-le (d .length) (d .octets) (omega (arith, hd, p .data-fits)) in (
-        delivered (record { first = f; oa = oa; pid = r .«tp_pid»; dcs = r .«tp_dcs»; scts = scts; udl = r .«tp_user_data_length»; ud = dataOf d }),
-        1 + length oa + 1 + 1 + length scts + 1 + length (dataOf d),
-        ap (read deliver) (sym (p .is))
-            ∙ written-read f (t .whole) (t .mti-is) oa (p .address .whole) (p .address .again) (r .«tp_pid») (r .«tp_dcs») scts (sym (time-size (digitsOf stamp) (p .time-is))) (r .«tp_user_data_length») (dataOf d) (sym (p .size-is)),
-        made-cleared _ ∙ same-record r f t (p .mti-is) oa scts (p .address .back ∙ address-held a la) (time-back stamp (p .time-is) lt) (data-back d ld),
-      )
+      let ld : length (dataOf d) ≡ d .length = length-take-le (d .length) (d .octets) (omega (arith, hd, p .data-fits)) in
+      made-cleared _ ∙ same-record r (flagsOf r) told (p .mti-is) _ _ (p .address .back ∙ address-held a la) (time-back stamp (p .time-is) lt) (data-back d ld)
 
 pub deliver-demand2 : Demand2 Typed cleared capitalised (λ r. deliver) delivering (λ r. fine) (λ r. false)
 deliver-demand2 = record {
-  back = λ r t octets n e x. read-back r e t;
+  back = λ r t octets n e x. (delivered (to-fields r e), length octets, read-back r e, record-back r e t);
   excepted = λ r t octets n e why x. absurd (never x);
   only = λ r why x. absurd (never x);
 }
+
+pub deliver-ends : Cut Typed cleared capitalised (λ r. deliver) delivering (λ r. none) (λ r. r)
+deliver-ends = cut-always _ _ _ _ _ λ r t octets n e. cut-read deliver endless octets (read-back r e)
 
 pub deliver-counts : (r : SmsDeliver) (xs : List ℕ) (a : Said ℕ) → delivering r ≡ made xs a → a ≡ gives (length xs)
 unfolding delivering making

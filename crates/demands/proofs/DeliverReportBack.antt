@@ -1,12 +1,14 @@
 -- Demand 2 of document 01 for SMS-DELIVER-REPORT: what was written is read back by the reader of its outcome as the same record.
+-- And each proper beginning of it is refused with 2 (document 02, Ask 9).
 -- Assumes nothing.
 use Prim.Native.Nat.{ℕ, _+_, _≤_}
 use mathlib.Core.Path.{_≡_, refl, sym, ap, _∙_}
 use mathlib.Core.Bool.{Bool, true, false, false≢true}
 use mathlib.Core.List.{List, [], _∷_, _++_}
+use mathlib.Core.Option.{none}
 use native.Mathlib.Omega.{arith}
 use borrow.Author.Tests.{ltb-false}
-use lib.ListN.{length, drop}
+use lib.ListN.{length, drop, length-append, length-drop}
 use lib.Seq.{length-take-le, drop-drop}
 use Rattle.octets.specs.Answers.{Said, gives, fine}
 use Rattle.octets.specs.Checks.{found}
@@ -15,8 +17,10 @@ use Rattle.octets.specs.declared.Refusal.the-variants.{LengthTooLarge, OutcomeD
 use Rattle.octets.proofs.Checks.{never, holds, both-hold, made-unless, made-told, made-counts}
 use Rattle.coding.specs.Coding.{dataOf}
 use Rattle.coding.proofs.Laws.{data-back}
+use Rattle.layout.specs.Cut.{Cut, EndlessLayout}
 use Rattle.layout.specs.Demand.{Demand2}
-use Rattle.layout.specs.Layout.{reached, readFrom, read}
+use Rattle.layout.specs.Layout.{leading, reached, after, reading, readFrom, read}
+use Rattle.layout.proofs.Beginnings.{cut-read, cut-always}
 use Rattle.layout.proofs.Steps.{done-reached}
 use Rattle.parameters.specs.Checking.{indicatorChecks, dataWithin}
 use Rattle.parameters.specs.Optional.{held}
@@ -27,7 +31,7 @@ use Rattle.parameters.specs.declared.OptionalOctet.the-variants.{Absent, Presen
 use Rattle.parameters.specs.declared.RpOutcome.{RpOutcome}
 use Rattle.parameters.specs.declared.RpOutcome.the-variants.{RpAck, RpError}
 use Rattle.parameters.proofs.Laws.{one-at-most}
-use Rattle.deliver_report.specs.Layout.{deliverReported}
+use Rattle.deliver_report.specs.Layout.{deliverReported, format}
 use Rattle.deliver_report.specs.Internal.{afterCause}
 use Rattle.deliver_report.specs.DeliverReport.{layoutOf, parametersOf, tooLong, deliverReportingWithin, deliverReporting, standardLimit, deliverReportingToStandard, cleared, capitalised, Typed}
 use Rattle.deliver_report.specs.Writing.{octetsIn, checksWithin}
@@ -35,23 +39,33 @@ use Rattle.deliver_report.specs.declared.SmsDeliverReport.{SmsDeliverReport}
 use Rattle.deliver_report.proofs.CheckByCheck.{size-is}
 use Rattle.deliver_report.proofs.Demand.{made-cleared}
 use Rattle.deliver_report.proofs.FieldByField.{outcomes}
-use Rattle.demands.proofs.ParametersBack.{octet-here, indicator-here, not-extended, parameters-here, parameters-limit}
+use Rattle.demands.specs.Cuts.{deliverReportOf}
+use Rattle.demands.proofs.ParametersBack.{parameters-endless, octet-here, indicator-here, not-extended, parameters-here, parameters-limit}
 
 -- ---- the octets of values that pass the checks
 
 module _ (limit pi : ℕ) (p : Parameters) (i : found (indicatorChecks pi (p .pid) (p .dcs) (p .udl)) ≡ fine) (d : found (dataWithin limit (p .dcs) (p .udl) (length (p .ud))) ≡ fine) where
   after-cause-back : (outcome : RpOutcome) (udhi : Bool) (cause : OptionalOctet) (s : List ℕ) (at : ℕ) → drop at s ≡ pi ∷ parametersOctets p
-      → readFrom (afterCause outcome udhi cause) s at ≡ reached (deliverReported outcome udhi cause pi p) (at + 1 + held (p .pid) + held (p .dcs) + held (p .udl) + length (p .ud))
-  after-cause-back outcome udhi cause s at e = indicator-here s at e _ (not-extended limit pi p [] 0 i d) ∙ parameters-here limit pi p i d s (at + 1) (sym (drop-drop 1 at s) ∙ ap (drop 1) e) _ ∙ done-reached s _ _
+      → readFrom (afterCause outcome udhi cause) s at ≡ reached (deliverReported outcome udhi cause pi p) (length s)
+  after-cause-back outcome udhi cause s at e =
+      let n : at + 1 + held (p .pid) + held (p .dcs) + held (p .udl) + length (p .ud) ≡ length s = omega (arith, length-drop at s, simp length-append at (ap length e)) in
+      indicator-here s at e _ (not-extended limit pi p [] 0 i d) ∙ parameters-here limit pi p i d s (at + 1) (sym (drop-drop 1 at s) ∙ ap (drop 1) e) _ ∙ done-reached s _ _ ∙ ap (reached (deliverReported outcome udhi cause pi p)) n
 
+  -- they are read to their end
   back : (udhi : Bool) (outcome : RpOutcome) (cause : OptionalOctet) → outcomeAgrees outcome cause ≡ true
-      → (n : ℕ) × (read (layoutOf outcome) (octetsIn udhi cause pi p) ≡ reached (deliverReported outcome udhi cause pi p) n)
-  back true RpAck Absent a = (_, outcomes (octetsIn true Absent pi p) .ack-goes-on (octet-here _ 0 refl) refl ∙ after-cause-back RpAck true Absent _ 1 refl)
-  back false RpAck Absent a = (_, outcomes (octetsIn false Absent pi p) .ack-goes-on (octet-here _ 0 refl) refl ∙ after-cause-back RpAck false Absent _ 1 refl)
-  back true RpError (Present x) a = (_, outcomes (octetsIn true (Present x) pi p) .error-goes-on (octet-here _ 0 refl) refl refl (octet-here _ 1 refl) ∙ after-cause-back RpError true (Present x) _ 2 refl)
-  back false RpError (Present x) a = (_, outcomes (octetsIn false (Present x) pi p) .error-goes-on (octet-here _ 0 refl) refl refl (octet-here _ 1 refl) ∙ after-cause-back RpError false (Present x) _ 2 refl)
+      → let s = octetsIn udhi cause pi p in read (layoutOf outcome) s ≡ reached (deliverReported outcome udhi cause pi p) (length s)
+  back true RpAck Absent a = outcomes (octetsIn true Absent pi p) .ack-goes-on (octet-here _ 0 refl) refl ∙ after-cause-back RpAck true Absent _ 1 refl
+  back false RpAck Absent a = outcomes (octetsIn false Absent pi p) .ack-goes-on (octet-here _ 0 refl) refl ∙ after-cause-back RpAck false Absent _ 1 refl
+  back true RpError (Present x) a = outcomes (octetsIn true (Present x) pi p) .error-goes-on (octet-here _ 0 refl) refl refl (octet-here _ 1 refl) ∙ after-cause-back RpError true (Present x) _ 2 refl
+  back false RpError (Present x) a = outcomes (octetsIn false (Present x) pi p) .error-goes-on (octet-here _ 0 refl) refl refl (octet-here _ 1 refl) ∙ after-cause-back RpError false (Present x) _ 2 refl
   back udhi RpAck (Present x) a = absurd (false≢true a)
   back udhi RpError Absent a = absurd (false≢true a)
+
+-- neither layout asks whether the string has ended
+endless-outcome : (outcome : RpOutcome) → EndlessLayout (layoutOf outcome)
+unfolding format readFrom reading after
+endless-outcome RpAck = λ first i. parameters-endless (leading i) _ λ p. tt
+endless-outcome RpError = (λ first cause i. parameters-endless (leading i) _ λ p. tt, refl)
 
 -- ---- a record
 
@@ -77,28 +91,33 @@ module _ {octets : List ℕ} {answer : Said ℕ} (limit : ℕ) (r : SmsDeliverRe
   at-most-within : length octets ≤ 5 + held (r .«tp_failure_cause») + limit
   at-most-within = rw (← passed .is, size-is) (omega (arith, parameters-limit limit (parametersOf r) (passed .held)))
 
-  -- what was written is read back
-  read-back : Typed r → (q : SmsDeliverReport) × (n : ℕ) × (read (layoutOf (r .«rp_outcome»)) octets ≡ reached q n) × (cleared q ≡ capitalised (cleared r))
+  abbrev made-record : SmsDeliverReport
+  made-record = deliverReported (r .«rp_outcome») (r .«tp_udhi») (r .«tp_failure_cause») (r .«tp_parameter_indicator») (parametersOf r)
+
+  -- what was written is read back, to its end
+  read-back : read (deliverReportOf r) octets ≡ reached made-record (length octets)
+  read-back = rw (← passed .is) (back limit (r .«tp_parameter_indicator») (parametersOf r) (passed .indicator) (passed .held) (r .«tp_udhi») (r .«rp_outcome») (r .«tp_failure_cause») (passed .agrees))
+
+  -- as the same record
+  record-back : Typed r → cleared made-record ≡ capitalised (cleared r)
   unfolding deliverReported
-  read-back hd =
+  record-back hd =
       let d = r .«tp_user_data» in
-      let (n, is) = back limit (r .«tp_parameter_indicator») (parametersOf r) (passed .indicator) (passed .held) (r .«tp_udhi») (r .«rp_outcome») (r .«tp_failure_cause») (passed .agrees) in
-      let ld : length (dataOf d) ≡ d .length = length-take-le (d .length) (d .octets) (omega (arith, passed .data-fits)) in (
-        deliverReported (r .«rp_outcome») (r .«tp_udhi») (r .«tp_failure_cause») (r .«tp_parameter_indicator») (parametersOf r),
-        n,
-        ap (read (layoutOf (r .«rp_outcome»))) (sym (passed .is)) ∙ is,
-        made-cleared _ _ _ _ _ ∙ rw (data-back d ld),
-      )
+      let ld : length (dataOf d) ≡ d .length = length-take-le (d .length) (d .octets) (omega (arith, passed .data-fits)) in
+      made-cleared _ _ _ _ _ ∙ rw (data-back d ld)
 
 -- ---- the writer within the limit of each record
 
 module _ (limitOf : SmsDeliverReport → ℕ) where
-  pub deliver-report-demand2 : Demand2 Typed cleared capitalised (λ r. layoutOf (r .«rp_outcome»)) (λ r. deliverReportingWithin (limitOf r) r) (λ r. fine) (λ r. false)
+  pub deliver-report-demand2 : Demand2 Typed cleared capitalised deliverReportOf (λ r. deliverReportingWithin (limitOf r) r) (λ r. fine) (λ r. false)
   deliver-report-demand2 = record {
-    back = λ r t octets n e x. read-back (limitOf r) r e t;
+    back = λ r t octets n e x. (made-record (limitOf r) r e, length octets, read-back (limitOf r) r e, record-back (limitOf r) r e t);
     excepted = λ r t octets n e why x. absurd (never x);
     only = λ r why x. absurd (never x);
   }
+
+  pub deliver-report-ends : Cut Typed cleared capitalised deliverReportOf (λ r. deliverReportingWithin (limitOf r) r) (λ r. none) (λ r. r)
+  deliver-report-ends = cut-always _ _ _ _ _ λ r t octets n e. cut-read (deliverReportOf r) (endless-outcome (r .«rp_outcome»)) octets (read-back (limitOf r) r e)
 
   pub deliver-report-counts : (r : SmsDeliverReport) (xs : List ℕ) (a : Said ℕ) → deliverReportingWithin (limitOf r) r ≡ made xs a → a ≡ gives (length xs)
   unfolding deliverReportingWithin

@@ -3,13 +3,18 @@
 -- the canonical octets into any buffer that is long enough, except where `unwritable` has one of document 01's four cases. The last argument says whether the kind's writer refuses the stopped record.
 -- Demand 2: what a writer wrote is read back as the same record, time letters capital, by the reader of its outcome; SUBMIT's reader may answer 17 or 18, exactly where `headerAnswer` says so, and never without UDHI.
 -- The three writers to the standard's limits (`encode_to_standard`): they read back too, and differ from the ported ones in the limit of user data alone.
+-- Cut messages (document 02, Ask 9), as layout/specs/Cut.antt says them: each proper beginning of what a writer wrote is refused with 2 by the reader of that kind and outcome; the one exception is a STATUS-REPORT
+-- written with an indicator, cut just after status.
 -- Assumes nothing.
+use Prim.Native.Nat.{ℕ}
 use mathlib.Core.Bool.{true, false}
+use mathlib.Core.Option.{none}
 use lib.ListN.{length}
 use Rattle.octets.specs.Answers.{fine}
 use Rattle.coding.specs.Coding.{dataOf}
+use Rattle.layout.specs.Cut.{Cut, AnswersCut}
 use Rattle.layout.specs.Demand.{Demand2, Demand3, Answers2, Answers3}
-use Rattle.layout.proofs.Answered.{answers2, answers3}
+use Rattle.layout.proofs.Answered.{answers2, answers3, answers-cut}
 use Rattle.parameters.specs.Limits.{Limits}
 use Rattle.parameters.specs.Outcome.{OneOutcome}
 use Rattle.parameters.specs.declared.RpOutcome.the-variants.{RpAck, RpError}
@@ -18,21 +23,24 @@ use Rattle.submit.proofs.Demand.{submit-demand3}
 use Rattle.deliver.specs.Deliver as Deliver
 use Rattle.deliver.proofs.Demand.{deliver-demand3}
 use Rattle.submit_report.specs.SubmitReport as SubmitReport
+use Rattle.submit_report.specs.declared.SmsSubmitReport.{SmsSubmitReport}
 use Rattle.submit_report.proofs.Demand.{ack-demand3 as submit-ack, error-demand3 as submit-error}
 use Rattle.submit_report.proofs.Limits.{submit-report-limits}
 use Rattle.submit_report.proofs.EntryPoint.{ack-outcome as submit-ack-outcome, error-outcome as submit-error-outcome}
 use Rattle.deliver_report.specs.DeliverReport as DeliverReport
+use Rattle.deliver_report.specs.declared.SmsDeliverReport.{SmsDeliverReport}
 use Rattle.deliver_report.proofs.Demand.{ack-demand3 as deliver-ack, error-demand3 as deliver-error}
 use Rattle.deliver_report.proofs.Limits.{deliver-report-limits}
 use Rattle.deliver_report.proofs.EntryPoint.{ack-outcome as deliver-ack-outcome, error-outcome as deliver-error-outcome}
 use Rattle.status_report.specs.StatusReport as StatusReport
 use Rattle.status_report.proofs.Demand.{status-report-demand3}
 use Rattle.status_report.proofs.Limits.{status-report-limits}
-use Rattle.demands.proofs.SubmitBack.{submit-demand2, submit-counts}
-use Rattle.demands.proofs.DeliverBack.{deliver-demand2, deliver-counts}
-use Rattle.demands.proofs.SubmitReportBack.{submit-report-demand2, submit-report-counts}
-use Rattle.demands.proofs.DeliverReportBack.{deliver-report-demand2, deliver-report-counts}
-use Rattle.demands.proofs.StatusReportBack.{status-report-demand2, status-report-counts}
+use Rattle.demands.specs.Cuts.{submitReportOf, deliverReportOf, cutAfterStatus, withoutIndicator}
+use Rattle.demands.proofs.SubmitBack.{submit-demand2, submit-ends, submit-counts}
+use Rattle.demands.proofs.DeliverBack.{deliver-demand2, deliver-ends, deliver-counts}
+use Rattle.demands.proofs.SubmitReportBack.{submit-report-demand2, submit-report-ends, submit-report-counts}
+use Rattle.demands.proofs.DeliverReportBack.{deliver-report-demand2, deliver-report-ends, deliver-report-counts}
+use Rattle.demands.proofs.StatusReportBack.{status-report-demand2, status-report-ends, status-report-counts}
 
 -- ---- demand 3, of the seven readers
 
@@ -162,3 +170,40 @@ deliver-report-ack-outcome = deliver-ack-outcome
 
 pub deliver-report-error-outcome : OneOutcome DeliverReport.cleared (λ r. r .«rp_outcome») DeliverReport.withOutcome DeliverReport.error RpError
 deliver-report-error-outcome = deliver-error-outcome
+
+-- ---- cut messages, of the eight writers: a report's line is that of both its writers, whatever the limit of user data (140, or `standardLimit`)
+
+pub submit-cut : Cut Submit.Typed Submit.compared Submit.capitalised (λ r. Submit.submit) Submit.submitting (λ r. none) (λ r. r)
+submit-cut = submit-ends
+
+pub deliver-cut : Cut Deliver.Typed Deliver.cleared Deliver.capitalised (λ r. Deliver.deliver) Deliver.delivering (λ r. none) (λ r. r)
+deliver-cut = deliver-ends
+
+pub submit-report-cut : (limitOf : SmsSubmitReport → ℕ) → Cut SubmitReport.Typed SubmitReport.cleared SubmitReport.capitalised submitReportOf (λ r. SubmitReport.submitReportingWithin (limitOf r) r) (λ r. none) (λ r. r)
+submit-report-cut = submit-report-ends
+
+pub deliver-report-cut : (limitOf : SmsDeliverReport → ℕ) → Cut DeliverReport.Typed DeliverReport.cleared DeliverReport.capitalised deliverReportOf (λ r. DeliverReport.deliverReportingWithin (limitOf r) r) (λ r. none) (λ r. r)
+deliver-report-cut = deliver-report-ends
+
+pub status-report-cut : (limit : ℕ) → Cut StatusReport.Typed StatusReport.cleared StatusReport.capitalised (λ r. StatusReport.statusReport) (StatusReport.statusReportingWithin limit) cutAfterStatus withoutIndicator
+status-report-cut = status-report-ends
+
+-- and of what the public functions answer
+
+pub submit-answers-cut : AnswersCut Submit.Typed Submit.compared Submit.capitalised Submit.blank (λ r. Submit.submit) Submit.submitting (λ r. none) (λ r. r)
+submit-answers-cut = answers-cut _ _ _ _ _ _ _ _ submit-cut submit-counts
+
+pub deliver-answers-cut : AnswersCut Deliver.Typed Deliver.cleared Deliver.capitalised Deliver.blank (λ r. Deliver.deliver) Deliver.delivering (λ r. none) (λ r. r)
+deliver-answers-cut = answers-cut _ _ _ _ _ _ _ _ deliver-cut deliver-counts
+
+pub submit-report-answers-cut : (limitOf : SmsSubmitReport → ℕ)
+    → AnswersCut SubmitReport.Typed SubmitReport.cleared SubmitReport.capitalised SubmitReport.blank submitReportOf (λ r. SubmitReport.submitReportingWithin (limitOf r) r) (λ r. none) (λ r. r)
+submit-report-answers-cut limitOf = answers-cut _ _ _ _ _ _ _ _ (submit-report-cut limitOf) (submit-report-counts limitOf)
+
+pub deliver-report-answers-cut : (limitOf : SmsDeliverReport → ℕ)
+    → AnswersCut DeliverReport.Typed DeliverReport.cleared DeliverReport.capitalised DeliverReport.blank deliverReportOf (λ r. DeliverReport.deliverReportingWithin (limitOf r) r) (λ r. none) (λ r. r)
+deliver-report-answers-cut limitOf = answers-cut _ _ _ _ _ _ _ _ (deliver-report-cut limitOf) (deliver-report-counts limitOf)
+
+pub status-report-answers-cut : (limit : ℕ)
+    → AnswersCut StatusReport.Typed StatusReport.cleared StatusReport.capitalised StatusReport.blank (λ r. StatusReport.statusReport) (StatusReport.statusReportingWithin limit) cutAfterStatus withoutIndicator
+status-report-answers-cut limit = answers-cut _ _ _ _ _ _ _ _ (status-report-cut limit) (status-report-counts limit)

@@ -1,5 +1,4 @@
 pub mod Demands
-pub mod LayoutBack
 pub mod ParametersBack
 pub mod DeliverBack
 pub mod DeliverReportBack

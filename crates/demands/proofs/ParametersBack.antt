@@ -16,8 +16,10 @@ use Rattle.octets.specs.Places.{octetAt}
 use Rattle.octets.specs.declared.Refusal.the-variants.{IndicatorDisagrees, IndicatorExtended}
 use Rattle.octets.proofs.Checks.{holds}
 use Rattle.coding.specs.Coding.{codingOf, dataOctets}
+use Rattle.layout.specs.Cut.{Endless}
 use Rattle.layout.specs.Layout.{octet, userData, indicator, indicatorSize, bit, isSet, Format, field, _then_, reached, reading, readFrom, leading}
-use Rattle.demands.proofs.LayoutBack.{field-read, field-here}
+use Rattle.layout.proofs.LayoutBack.{field-read, field-here}
+use Rattle.layout.proofs.Beginnings.{endless-then}
 use Rattle.layout.proofs.Steps.{then-goes-on}
 use Rattle.parameters.specs.Optional.{octetsHeld, held, orZero}
 use Rattle.parameters.specs.Parameters.{Parameters, parametersOctets}
@@ -96,3 +98,19 @@ module _ {R : Type 0} (limit pi : ℕ) (p : Parameters) (i : found (indicatorChe
   parameters-here s at e next =
       let u : drop at s ≡ parametersOctets p ++ [] = e ∙ sym (append-nil (parametersOctets p)) in
       then-goes-on s (parameters pi) at (ap (λ (l : List ℕ). reading (parameters pi) l at) u ∙ parameters-back limit pi p [] at i d) next
+
+-- ---- no format of them asks whether the string has ended
+
+announced-endless : (b : Bool) → Endless (announced b)
+announced-endless true = λ c. tt
+announced-endless false = tt
+
+data-endless : (dcs udl : OptionalOctet) → Endless (dataFor dcs udl)
+data-endless dcs Absent = tt
+data-endless dcs (Present udl) = λ c. tt
+
+pub parameters-endless : {R : Type 0} (pi : ℕ) (next : Parameters → Format R) → ((p : Parameters) → Endless (next p)) → Endless (parameters pi then next)
+unfolding parameters
+parameters-endless pi next =
+    endless-then (parameters pi) next (endless-then (announced (isSet 0 pi)) _ (announced-endless (isSet 0 pi)) λ pid. endless-then (announced (isSet 1 pi)) _ (announced-endless (isSet 1 pi)) λ dcs.
+    endless-then (announced (isSet 2 pi)) _ (announced-endless (isSet 2 pi)) λ udl. endless-then (dataFor dcs udl) _ (data-endless dcs udl) λ ud. tt)

@@ -1,19 +1,22 @@
 -- Demand 2 of document 01 for SMS-SUBMIT: what was written is read back as the same record but for header and text, which are derived, time letters capital; or refused with 17 or 18 for the header in its data.
+-- And each proper beginning of it is refused with 2 (document 02, Ask 9).
 -- Assumes nothing.
 use Prim.Native.Nat.{ℕ, _+_, _*_, _≤_, _<_}
 use mathlib.Core.Path.{_≡_, refl, sym, ap, _∙_}
 use mathlib.Core.Bool.{Bool, true, false, _&&_}
 use mathlib.Core.List.{List, []}
+use mathlib.Core.Option.{none}
 use native.Mathlib.Omega.{arith}
 use borrow.Author.Tests.{eqb-true, ltb-true, le-leb}
 use lib.Dec.{eqb, ltb}
-use lib.ListN.{length}
+use lib.ListN.{length, take}
 use lib.Seq.{length-take-le}
 use Rattle.octets.specs.Answers.{Said, gives, refuses}
 use Rattle.octets.specs.Arrays.{pad}
 use Rattle.octets.specs.Choice.{if_then_else_, flag, lengthIf}
 use Rattle.octets.specs.Lent.{made}
 use Rattle.octets.specs.declared.Refusal.{Refusal}
+use Rattle.octets.specs.declared.Refusal.the-variants.{OctetsEnd}
 use Rattle.octets.proofs.Checks.{never, made-counts}
 use Rattle.octets.proofs.Choice.{and-true, both, both-holds, same, same-is}
 use Rattle.octets.proofs.Laws.{pad-full}
@@ -27,9 +30,11 @@ use Rattle.time.specs.declared.Time.{Time}
 use Rattle.time.proofs.Laws.{time-back}
 use Rattle.address.specs.Writing.{addressOctets, octetsOr}
 use Rattle.address.specs.Address.{addressIn, clearedAddress, textHeld}
-use Rattle.address.proofs.Laws.{address-passed, address-held}
+use Rattle.address.proofs.Laws.{Spelled, address-passed, address-held}
+use Rattle.layout.specs.Cut.{Cut}
 use Rattle.layout.specs.Demand.{Demand2}
-use Rattle.layout.specs.Layout.{isSet, messageType, read}
+use Rattle.layout.specs.Layout.{isSet, messageType, halted, read}
+use Rattle.layout.proofs.Beginnings.{cut-always}
 use Rattle.validity_period.specs.Validity.{formatOf, periodIn, periodOctets, isAbsolute, timeHolds, periodSize, ofFormat}
 use Rattle.validity_period.specs.declared.ValidityPeriod.{ValidityPeriod}
 use Rattle.validity_period.proofs.Period.{period-size}
@@ -38,7 +43,7 @@ use Rattle.submit.specs.Layout.{Fields, formatIn, headerSize, inCount}
 use Rattle.submit.specs.Submit.{submitted, submit, firstOf, submitting, headerAnswer, underived, compared, capitalised, Typed}
 use Rattle.submit.proofs.CheckByCheck.{Passed, all-passed, all-fit}
 use Rattle.submit.proofs.Demand.{made-cleared}
-use Rattle.demands.proofs.SubmitWritten.{ends, written-read}
+use Rattle.demands.proofs.SubmitWritten.{ends, written-read, written-cut}
 
 -- ---- the first octet tells its flags, its MTI and its format
 
@@ -123,15 +128,20 @@ module _ {octets : List ℕ} {answer : Said ℕ} (r : SmsSubmit) (typed : Typed 
   format-told : formatIn (firstOf r) ≡ formatOf (r .«tp_validity_period»)
   format-told = told .vpf-is ∙ passed .format-is
 
+  spelled : Spelled (r .«tp_destination_address» .ton) (r .«tp_destination_address» .npi) (textHeld (r .«tp_destination_address»)) (to-fields .da)
+  spelled = address-passed _ _ _ (passed .address)
+
+  period-is : periodSize (formatIn (firstOf r)) ≡ length (to-fields .vp)
+  period-is = rw format-told (sym (period-size (r .«tp_validity_period») (digitsOf (r .«validity_period_digits»)) (r .«validity_period_octets») (passed .time) (typed .2)))
+
   -- it is read as its fields, or as the answer of its header says
   read-back : read submit octets ≡ ends (headerAnswer r) (submitted to-fields) (length octets)
   unfolding headerAnswer
-  read-back =
-      let p = passed in
-      let to = r .«tp_destination_address» in
-      let spelled = address-passed (to .ton) (to .npi) (textHeld to) (p .address) in
-      let size : periodSize (formatIn (firstOf r)) ≡ length (to-fields .vp) = rw format-told (sym (period-size (r .«tp_validity_period») (digitsOf (r .«validity_period_digits»)) (r .«validity_period_octets») (p .time) (typed .2))) in
-      rw (← p .octets-are) (rw (told .udhi-is) at (written-read to-fields (told .small) (told .mti-is) (spelled .whole) (spelled .again) size (sym (p .size-is))))
+  read-back = rw (← passed .octets-are) (rw (told .udhi-is) at (written-read to-fields (told .small) (told .mti-is) (spelled .whole) (spelled .again) period-is (sym (passed .size-is))))
+
+  -- and each proper beginning of it is refused with 2
+  cut-back : (k : ℕ) → k < length octets → read submit (take k octets) ≡ halted OctetsEnd
+  cut-back = rw (← passed .octets-are) (written-cut to-fields (told .small) (told .mti-is) (spelled .whole) (spelled .again) period-is (sym (passed .size-is)))
 
   -- the fields make the same record
   record-back : compared (submitted to-fields) ≡ capitalised (compared r)
@@ -145,7 +155,7 @@ module _ {octets : List ℕ} {answer : Said ℕ} (r : SmsSubmit) (typed : Typed 
       let ld : length (dataOf d) ≡ d .length = length-take-le (d .length) (d .octets) (omega (arith, typed .3)) in
       let (period, digits, enhanced) = period-back (r .«tp_validity_period») (r .«validity_period_digits») (r .«validity_period_octets») (typed .1) few-digits (typed .2) (p .time) in
       ap underived (made-cleared to-fields)
-      ∙ same-record r (firstOf r) told (p .mti-is) (p .there) _ _ (address-passed (to .ton) (to .npi) (textHeld to) (p .address) .back ∙ address-held to la) (rw format-told period) (rw format-told digits) (rw format-told enhanced) (data-back d ld)
+      ∙ same-record r (firstOf r) told (p .mti-is) (p .there) _ _ (spelled .back ∙ address-held to la) (rw format-told period) (rw format-told digits) (rw format-told enhanced) (data-back d ld)
 
 -- without UDHI nothing is said of a header
 no-header : (coding : UserDataCoding) (udl : ℕ) → inCount coding udl 0 ≡ true
@@ -169,6 +179,9 @@ submit-demand2 = record {
   excepted = λ r t octets n e why x. read-back r t e ∙ rw x;
   only = only-udhi;
 }
+
+pub submit-ends : Cut Typed compared capitalised (λ r. submit) submitting (λ r. none) (λ r. r)
+submit-ends = cut-always _ _ _ _ _ λ r t octets n e. cut-back r t e
 
 pub submit-counts : (r : SmsSubmit) (xs : List ℕ) (a : Said ℕ) → submitting r ≡ made xs a → a ≡ gives (length xs)
 unfolding submitting

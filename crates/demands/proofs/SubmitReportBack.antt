@@ -1,13 +1,15 @@
 -- Demand 2 of document 01 for SMS-SUBMIT-REPORT: what was written is read back by the reader of its outcome as the same record, time letters capital.
+-- And each proper beginning of it is refused with 2 (document 02, Ask 9).
 -- Assumes nothing.
 use Prim.Native.Nat.{ℕ, zero, suc, _+_, _≤_}
 use mathlib.Core.Path.{_≡_, refl, sym, ap, _∙_}
 use mathlib.Core.Bool.{true, false, false≢true}
 use mathlib.Core.List.{List, [], _∷_, _++_}
+use mathlib.Core.Option.{none}
 use native.Mathlib.Omega.{arith}
 use borrow.Author.Tests.{leb-true, ltb-false}
 use lib.Dec.{leb, ltb}
-use lib.ListN.{length, drop}
+use lib.ListN.{length, drop, length-append, length-drop}
 use lib.Seq.{length-take-le, drop-drop, drop-at}
 use Rattle.octets.specs.Answers.{Said, gives, fine}
 use Rattle.octets.specs.Checks.{_unless_, found}
@@ -19,8 +21,10 @@ use Rattle.coding.specs.Coding.{dataOf}
 use Rattle.coding.proofs.Laws.{data-back}
 use Rattle.time.specs.Time.{isTime, timeOctets, digitsOf}
 use Rattle.time.proofs.Laws.{time-back, time-size}
+use Rattle.layout.specs.Cut.{Cut, EndlessLayout}
 use Rattle.layout.specs.Demand.{Demand2}
-use Rattle.layout.specs.Layout.{octets, any, reached, readFrom, read}
+use Rattle.layout.specs.Layout.{octets, any, leading, reached, after, reading, readFrom, read}
+use Rattle.layout.proofs.Beginnings.{cut-read, cut-always}
 use Rattle.layout.proofs.Steps.{done-reached}
 use Rattle.parameters.specs.Checking.{indicatorChecks, dataWithin}
 use Rattle.parameters.specs.Optional.{held}
@@ -31,7 +35,7 @@ use Rattle.parameters.specs.declared.OptionalOctet.the-variants.{Absent, Presen
 use Rattle.parameters.specs.declared.RpOutcome.{RpOutcome}
 use Rattle.parameters.specs.declared.RpOutcome.the-variants.{RpAck, RpError}
 use Rattle.parameters.proofs.Laws.{one-at-most}
-use Rattle.submit_report.specs.Layout.{submitReported}
+use Rattle.submit_report.specs.Layout.{submitReported, format}
 use Rattle.submit_report.specs.Internal.{afterCause}
 use Rattle.submit_report.specs.SubmitReport.{layoutOf, parametersOf, tooLong, submitReportingWithin, submitReporting, standardLimit, submitReportingToStandard, cleared, capitalised, Typed}
 use Rattle.submit_report.specs.Writing.{octetsIn, checksWithin}
@@ -39,29 +43,38 @@ use Rattle.submit_report.specs.declared.SmsSubmitReport.{SmsSubmitReport}
 use Rattle.submit_report.proofs.CheckByCheck.{size-is}
 use Rattle.submit_report.proofs.Demand.{made-cleared}
 use Rattle.submit_report.proofs.FieldByField.{outcomes}
-use Rattle.demands.proofs.LayoutBack.{field-here}
-use Rattle.demands.proofs.ParametersBack.{octet-here, indicator-here, not-extended, parameters-here, parameters-limit}
+use Rattle.layout.proofs.LayoutBack.{field-here}
+use Rattle.demands.specs.Cuts.{submitReportOf}
+use Rattle.demands.proofs.ParametersBack.{parameters-endless, octet-here, indicator-here, not-extended, parameters-here, parameters-limit}
 
 -- ---- the octets of values that pass the checks
 
 module _ (limit pi : ℕ) (digits : List ℕ) (w : isTime digits ≡ true) (p : Parameters) (i : found (indicatorChecks pi (p .pid) (p .dcs) (p .udl)) ≡ fine) (d : found (dataWithin limit (p .dcs) (p .udl) (length (p .ud))) ≡ fine) where
   after-cause-back : (outcome : RpOutcome) (udhi : ℕ) (cause : OptionalOctet) (s : List ℕ) (at : ℕ) → drop at s ≡ pi ∷ (timeOctets digits ++ parametersOctets p)
-      → readFrom (afterCause outcome udhi cause) s at ≡ reached (submitReported outcome udhi cause pi (timeOctets digits) p) (at + 1 + length (timeOctets digits) + held (p .pid) + held (p .dcs) + held (p .udl) + length (p .ud))
+      → readFrom (afterCause outcome udhi cause) s at ≡ reached (submitReported outcome udhi cause pi (timeOctets digits) p) (length s)
   after-cause-back outcome udhi cause s at e =
       let t : drop (at + 1) s ≡ timeOctets digits ++ parametersOctets p = sym (drop-drop 1 at s) ∙ ap (drop 1) e in
       let u : drop (at + 1 + length (timeOctets digits)) s ≡ parametersOctets p = sym (drop-drop _ (at + 1) s) ∙ ap (drop (length (timeOctets digits))) t ∙ drop-at (timeOctets digits) (parametersOctets p) _ refl in
+      let n : at + 1 + length (timeOctets digits) + held (p .pid) + held (p .dcs) + held (p .udl) + length (p .ud) ≡ length s = omega (arith, length-drop at s, simp length-append at (ap length e)) in
       indicator-here s at e _ (not-extended limit pi p [] 0 i d) ∙ field-here (octets any 7) _ s (at + 1) (timeOctets digits) (parametersOctets p) t (sym (time-size digits w))
-      ∙ parameters-here limit pi p i d s _ u _ ∙ done-reached s _ _
+      ∙ parameters-here limit pi p i d s _ u _ ∙ done-reached s _ _ ∙ ap (reached (submitReported outcome udhi cause pi (timeOctets digits) p)) n
 
+  -- they are read to their end
   back : (udhi : ℕ) → udhi ≤ 1 → (outcome : RpOutcome) (cause : OptionalOctet) → outcomeAgrees outcome cause ≡ true
-      → (n : ℕ) × (read (layoutOf outcome) (octetsIn udhi cause pi digits p) ≡ reached (submitReported outcome udhi cause pi (timeOctets digits) p) n)
-  back zero h RpAck Absent a = (_, outcomes (octetsIn 0 Absent pi digits p) .ack-goes-on (octet-here _ 0 refl) refl ∙ after-cause-back RpAck 0 Absent _ 1 refl)
-  back (suc zero) h RpAck Absent a = (_, outcomes (octetsIn 1 Absent pi digits p) .ack-goes-on (octet-here _ 0 refl) refl ∙ after-cause-back RpAck 1 Absent _ 1 refl)
-  back zero h RpError (Present x) a = (_, outcomes (octetsIn 0 (Present x) pi digits p) .error-goes-on (octet-here _ 0 refl) refl refl (octet-here _ 1 refl) ∙ after-cause-back RpError 0 (Present x) _ 2 refl)
-  back (suc zero) h RpError (Present x) a = (_, outcomes (octetsIn 1 (Present x) pi digits p) .error-goes-on (octet-here _ 0 refl) refl refl (octet-here _ 1 refl) ∙ after-cause-back RpError 1 (Present x) _ 2 refl)
+      → let s = octetsIn udhi cause pi digits p in read (layoutOf outcome) s ≡ reached (submitReported outcome udhi cause pi (timeOctets digits) p) (length s)
+  back zero h RpAck Absent a = outcomes (octetsIn 0 Absent pi digits p) .ack-goes-on (octet-here _ 0 refl) refl ∙ after-cause-back RpAck 0 Absent _ 1 refl
+  back (suc zero) h RpAck Absent a = outcomes (octetsIn 1 Absent pi digits p) .ack-goes-on (octet-here _ 0 refl) refl ∙ after-cause-back RpAck 1 Absent _ 1 refl
+  back zero h RpError (Present x) a = outcomes (octetsIn 0 (Present x) pi digits p) .error-goes-on (octet-here _ 0 refl) refl refl (octet-here _ 1 refl) ∙ after-cause-back RpError 0 (Present x) _ 2 refl
+  back (suc zero) h RpError (Present x) a = outcomes (octetsIn 1 (Present x) pi digits p) .error-goes-on (octet-here _ 0 refl) refl refl (octet-here _ 1 refl) ∙ after-cause-back RpError 1 (Present x) _ 2 refl
   back (suc (suc udhi)) h outcome cause a = absurd (omega arith)
   back udhi h RpAck (Present x) a = absurd (false≢true a)
   back udhi h RpError Absent a = absurd (false≢true a)
+
+-- neither layout asks whether the string has ended
+endless-outcome : (outcome : RpOutcome) → EndlessLayout (layoutOf outcome)
+unfolding format readFrom reading after
+endless-outcome RpAck = λ first i scts. parameters-endless (leading i) _ λ p. tt
+endless-outcome RpError = (λ first cause i scts. parameters-endless (leading i) _ λ p. tt, refl)
 
 -- ---- a record
 
@@ -96,30 +109,35 @@ module _ {os : List ℕ} {answer : Said ℕ} (limit : ℕ) (r : SmsSubmitReport)
   at-most-within : length os ≤ 12 + held (r .«tp_failure_cause») + limit
   at-most-within = rw (← passed .is, size-is _ _ _ _ _ (passed .time-is)) (omega (arith, parameters-limit limit (parametersOf r) (passed .held)))
 
-  -- what was written is read back
-  read-back : Typed r → (q : SmsSubmitReport) × (n : ℕ) × (read (layoutOf (r .«rp_outcome»)) os ≡ reached q n) × (cleared q ≡ capitalised (cleared r))
+  abbrev made-record : SmsSubmitReport
+  made-record = submitReported (r .«rp_outcome») (r .«tp_udhi») (r .«tp_failure_cause») (r .«tp_parameter_indicator») (timeOctets (digitsOf (r .«tp_service_centre_timestamp»))) (parametersOf r)
+
+  -- what was written is read back, to its end
+  read-back : read (submitReportOf r) os ≡ reached made-record (length os)
+  read-back = rw (← passed .is) (back limit (r .«tp_parameter_indicator») _ (passed .time-is) (parametersOf r) (passed .indicator) (passed .held) (r .«tp_udhi») (passed .udhi) (r .«rp_outcome») (r .«tp_failure_cause») (passed .agrees))
+
+  -- as the same record
+  record-back : Typed r → cleared made-record ≡ capitalised (cleared r)
   unfolding submitReported
-  read-back (ht, hd) =
+  record-back (ht, hd) =
       let stamp = r .«tp_service_centre_timestamp» in
       let d = r .«tp_user_data» in
-      let (n, is) = back limit (r .«tp_parameter_indicator») (digitsOf stamp) (passed .time-is) (parametersOf r) (passed .indicator) (passed .held) (r .«tp_udhi») (passed .udhi) (r .«rp_outcome») (r .«tp_failure_cause») (passed .agrees) in
       let lt : length (digitsOf stamp) ≡ stamp .length = length-take-le (stamp .length) (stamp .digits) (omega (arith, passed .time-fits)) in
-      let ld : length (dataOf d) ≡ d .length = length-take-le (d .length) (d .octets) (omega (arith, passed .data-fits)) in (
-        submitReported (r .«rp_outcome») (r .«tp_udhi») (r .«tp_failure_cause») (r .«tp_parameter_indicator») (timeOctets (digitsOf stamp)) (parametersOf r),
-        n,
-        ap (read (layoutOf (r .«rp_outcome»))) (sym (passed .is)) ∙ is,
-        made-cleared _ _ _ _ _ _ ∙ rw (time-back stamp (passed .time-is) lt, data-back d ld),
-      )
+      let ld : length (dataOf d) ≡ d .length = length-take-le (d .length) (d .octets) (omega (arith, passed .data-fits)) in
+      made-cleared _ _ _ _ _ _ ∙ rw (time-back stamp (passed .time-is) lt, data-back d ld)
 
 -- ---- the writer within the limit of each record
 
 module _ (limitOf : SmsSubmitReport → ℕ) where
-  pub submit-report-demand2 : Demand2 Typed cleared capitalised (λ r. layoutOf (r .«rp_outcome»)) (λ r. submitReportingWithin (limitOf r) r) (λ r. fine) (λ r. false)
+  pub submit-report-demand2 : Demand2 Typed cleared capitalised submitReportOf (λ r. submitReportingWithin (limitOf r) r) (λ r. fine) (λ r. false)
   submit-report-demand2 = record {
-    back = λ r t octets n e x. read-back (limitOf r) r e t;
+    back = λ r t octets n e x. (made-record (limitOf r) r e, length octets, read-back (limitOf r) r e, record-back (limitOf r) r e t);
     excepted = λ r t octets n e why x. absurd (never x);
     only = λ r why x. absurd (never x);
   }
+
+  pub submit-report-ends : Cut Typed cleared capitalised submitReportOf (λ r. submitReportingWithin (limitOf r) r) (λ r. none) (λ r. r)
+  submit-report-ends = cut-always _ _ _ _ _ λ r t octets n e. cut-read (submitReportOf r) (endless-outcome (r .«rp_outcome»)) octets (read-back (limitOf r) r e)
 
   pub submit-report-counts : (r : SmsSubmitReport) (xs : List ℕ) (a : Said ℕ) → submitReportingWithin (limitOf r) r ≡ made xs a → a ≡ gives (length xs)
   unfolding submitReportingWithin

@@ -1,14 +1,15 @@
--- Demands 2 and 3 of what the public functions answer, from those of reader and writer.
+-- Demands 2 and 3, and cut messages, of what the public functions answer, from those of reader and writer.
 -- Assumes nothing.
 use Prim.Native.Nat.{ℕ, _≤_, _<_}
 use mathlib.Core.Path.{_≡_, refl, sym, ap, _∙_}
 use mathlib.Core.Bool.{Bool, true, false}
 use mathlib.Core.List.{List, _++_}
 use mathlib.Core.Logic.{_↔_, ⊎-elim}
+use mathlib.Core.Option.{Option}
 use native.Mathlib.Omega.{arith}
 use lib.Dec.{leb}
 use lib.ListN.{length, take, drop}
-use lib.Seq.{take-at}
+use lib.Seq.{take-at, take-take}
 use Rattle.octets.specs.Answers.{Said, gives, refuses, fine}
 use Rattle.octets.specs.Choice.{if_then_else_}
 use Rattle.octets.specs.Each.{Octets}
@@ -16,6 +17,7 @@ use Rattle.octets.specs.Lent.{Making, refused, made, lend}
 use Rattle.octets.specs.declared.Refusal.{Refusal}
 use Rattle.octets.specs.declared.Refusal.the-variants.{OutputTooShort}
 use Rattle.octets.proofs.Choice.{chosen}
+use Rattle.layout.specs.Cut.{Cut, AnswersCut}
 use Rattle.layout.specs.Demand.{Demand2, Demand3, Answers2, Answers3}
 use Rattle.layout.specs.Layout.{Layout, Reached, reached, halted, read, answer, Generated, canonicalOf, unwritable}
 
@@ -58,4 +60,23 @@ module _ {R : Type 0} (blank : R) where
     answers2 = record {
       back = λ r t buffer n e x. let (q, m, is, same) = d .back r t _ n (written (write r) buffer n (counts r) e) x in (ap (λ y. answer blank y .0) is, ap (λ y. compared (answer blank y .1)) is ∙ same);
       excepted = λ r t buffer n e why x. ap (answer blank) (d .excepted r t _ n (written (write r) buffer n (counts r) e) why x);
+    }
+
+  -- of what was written, the first k octets are those of the buffer
+  module _ (Typed : R → Type 0) (compared capitalised : R → R) (layoutOf : R → Layout R) (write : R → Making (Said ℕ)) (exception : R → Option ℕ) (shortened : R → R)
+      (d : Cut Typed compared capitalised layoutOf write exception shortened) (counts : (r : R) (xs : List ℕ) (a : Said ℕ) → write r ≡ made xs a → a ≡ gives (length xs)) where
+    pub answers-cut : AnswersCut Typed compared capitalised blank layoutOf write exception shortened
+    answers-cut = record {
+      ends = λ r t buffer n e k h x.
+          let out = lend refuses (write r) buffer .1 in
+          let w = written (write r) buffer n (counts r) e in
+          let long : length (take n out) ≡ n = cc (counts r _ _ w) in
+          ap (answer blank) (rw (take-take k n out (omega arith)) at (d .ends r t _ n w k (omega arith) x));
+      takes = λ r t buffer n e k x.
+          let out = lend refuses (write r) buffer .1 in
+          let w = written (write r) buffer n (counts r) e in
+          let long : length (take n out) ≡ n = cc (counts r _ _ w) in
+          let (h, q, is, same) = d .takes r t _ n w k x in
+          let here = rw (take-take k n out (omega arith)) at is in
+          (omega arith, ap (λ y. answer blank y .0) here, ap (λ y. compared (answer blank y .1)) here ∙ same);
     }

@@ -7,3 +7,5 @@ pub mod Demand
 pub mod Steps
 pub mod Rewriting
 pub mod Answered
+pub mod LayoutBack
+pub mod Beginnings
