@@ -3,7 +3,6 @@
 use Prim.Native.Nat.{ℕ, zero, suc, _+_, _-_, _*_, _≤_, _<_}
 use mathlib.Core.Path.{_≡_, refl, sym, ap, _∙_}
 use mathlib.Core.List.{List, [], _∷_, _++_}
-use mathlib.Core.Logic.{_⊎_, inl, inr, _↔_}
 use mathlib.Core.Option.{Option, none, some}
 use native.Mathlib.Nat.{add-zero, le-refl}
 use native.Mathlib.Numerals.{add-one}
@@ -23,30 +22,6 @@ use Rattle.reassembly.specs.Part.{Part, textAfter, shownIn}
 use Rattle.reassembly.specs.Store.{codingIn, partAt, block, partOf, holding, holdings, missingFrom, shownParts}
 
 -- ---- which numbers are missing
-
--- n is one of the numbers
-abbrev pub Among : ℕ → List ℕ → Type 0
-Among n [] = ⊥
-Among n (k ∷ ks) = (n ≡ k) ⊎ Among n ks
-
-missing-is : (k : ℕ) (ps : List (Option Part)) (n : ℕ) → Among n (missingFrom k ps) → (k ≤ n) × (n < k + length ps) × (getD ps (n - k) none ≡ none)
-unfolding missingFrom
-missing-is k [] n e = absurd e
-missing-is k (none ∷ ps) n (inl e) = let z : n - k ≡ 0 = omega arith in (omega arith, omega arith, rw z)
-missing-is k (none ∷ ps) n (inr e) = let (a, b, c) = missing-is (suc k) ps n e in let z : n - k ≡ suc (n - suc k) = omega arith in (omega arith, omega arith, rw z c)
-missing-is k (some p ∷ ps) n e = let (a, b, c) = missing-is (suc k) ps n e in let z : n - k ≡ suc (n - suc k) = omega arith in (omega arith, omega arith, rw z c)
-
-is-missing : (k : ℕ) (ps : List (Option Part)) (i : ℕ) → i < length ps → getD ps i none ≡ none → Among (k + i) (missingFrom k ps)
-unfolding missingFrom
-is-missing k [] i h e = absurd (omega arith)
-is-missing k (none ∷ ps) zero h e = inl (omega arith)
-is-missing k (none ∷ ps) (suc i) h e = let z : k + suc i ≡ suc k + i = omega arith in inr (rw z (is-missing (suc k) ps i (omega arith) e))
-is-missing k (some p ∷ ps) zero h e = let z : _≡_ {A = ℕ} 0 1 = cc in absurd (omega arith)
-is-missing k (some p ∷ ps) (suc i) h e = let z : k + suc i ≡ suc k + i = omega arith in rw z (is-missing (suc k) ps i (omega arith) e)
-
--- the numbers told are those from 1 to the total whose part is not held
-pub missing-means : (ps : List (Option Part)) (i : ℕ) → Among (1 + i) (missingFrom 1 ps) ↔ ((i < length ps) × (getD ps i none ≡ none))
-missing-means ps i = (λ e. let (a, b, c) = missing-is 1 ps (1 + i) e in let z : 1 + i - 1 ≡ i = omega arith in (omega arith, rw z at c), λ (h, e). is-missing 1 ps i h e)
 
 pub missing-few : (k : ℕ) (ps : List (Option Part)) → length (missingFrom k ps) ≤ length ps
 unfolding missingFrom

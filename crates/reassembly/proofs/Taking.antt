@@ -103,23 +103,23 @@ module _ (a : SMSAddress) (r : Reference) (t : ℕ) (store : List ℕ) where
 
   -- what was found
   module _ (k : ℕ) (found : gives k ≡ findingBy a r t store) where
-    both : (fits store ≡ true) × (k ≡ slotWith key store)
+    pub found-is : (fits store ≡ true) × (k ≡ slotWith key store)
     unfolding findingBy finding
-    both =
+    found-is =
         ⊎-elim (λ (l, q). absurd (never (sym q)))
         (λ (l, q). ⊎-elim (λ (f, e). (f, sym (given e))) (λ (f, e). absurd (never (sym e))) (chosen (fits store) q))
         (chosen (ltb 290 (a .«address_length»)) (sym found))
 
     pub room : Room store
-    room = fits-room store (both .0)
+    room = fits-room store (found-is .0)
 
     -- the parts of an open message are at most 8
     pub total-few : k < 16 → t ≤ 8
     unfolding keyOctets
-    total-few h = open-total (slotAt k store) key (found-has key store k (both .1) h) (omega arith) (fits-slot store (both .0) k h)
+    total-few h = open-total (slotAt k store) key (found-has key store k (found-is .1) h) (omega arith) (fits-slot store (found-is .0) k h)
 
     none-open : 16 ≤ k → k ≡ 16
-    none-open h = let b = slot-bounds key store in omega (arith, both .1)
+    none-open h = let b = slot-bounds key store in omega (arith, found-is .1)
 
     -- ---- taking and dropping
 
