@@ -44,6 +44,13 @@ extern "C" {
         out: *mut u8,
         room: usize,
     ) -> usize;
+    fn tpdu_empty_store(store: *mut u8, length: usize) -> usize;
+    fn tpdu_accept_part(
+        store: *mut u8,
+        length: usize,
+        data: *const u8,
+        data_length: usize,
+    ) -> usize;
     fn tpdu_unpack(data: *const u8, length: usize, septets: usize) -> usize;
     fn tpdu_to_columns(
         octets: *const u8,
@@ -415,6 +422,62 @@ fn column_row(work: &str, octets: usize, plain: f64, port: f64) {
     );
 }
 
+/// A part accepted while 16 messages are open, beside its DELIVER read alone: by the Rust, and by
+/// the port. The driver takes the part's mark from its slot each time, so that it is stored anew.
+fn time_accepting() {
+    const STORE: usize = 37696;
+    const SLOT: usize = 2356;
+    let text = "Damp board at reel 3, call the second lead. ".repeat(4);
+    let part = |reference: u8, number: u8| {
+        let header = [0x05, 0x00, 0x03, reference, 0x02, number];
+        let (user_data, septets) = pack_gsm7_with_header(&header, &text[..153]).unwrap();
+        message(&[
+            &[0x44],
+            &ADDRESS,
+            &[0x00, 0x00],
+            &TIME,
+            &[septets as u8],
+            &user_data,
+        ])
+    };
+    let mut store = vec![0xffu8; STORE];
+    assert_eq!(unsafe { tpdu_empty_store(store.as_mut_ptr(), STORE) }, 0);
+    for reference in 0..16 {
+        let first = part(reference, 1);
+        let missing =
+            unsafe { tpdu_accept_part(store.as_mut_ptr(), STORE, first.as_ptr(), first.len()) };
+        assert_eq!(missing, 1, "part 2 is missing");
+    }
+    let second = part(15, 2);
+    let rust = timed(|| read_deliver(black_box(&second)));
+    let read = timed(|| unsafe { tpdu_read_deliver(black_box(second.as_ptr()), second.len()) });
+    let mut stored = || {
+        store[15 * SLOT + 3] = 0;
+        unsafe {
+            tpdu_accept_part(
+                black_box(store.as_mut_ptr()),
+                STORE,
+                black_box(second.as_ptr()),
+                second.len(),
+            )
+        }
+    };
+    assert_eq!(stored(), 0, "nothing is missing");
+    let accepted = timed(&mut stored);
+    let mut copied = || unsafe {
+        tpdu_accept_part(
+            black_box(store.as_mut_ptr()),
+            STORE,
+            black_box(second.as_ptr()),
+            second.len(),
+        )
+    };
+    let copy = timed(&mut copied);
+    row("read the DELIVER of a part", rust, read);
+    row("accept it, 16 messages open; the Rust reads it", rust, accepted);
+    row("accept a copy of it; the Rust reads it", rust, copy);
+}
+
 fn time_address(name: &str, ton: u8, npi: u8, text: &str) {
     let mut out = [0u8; 12];
     let mut array = [0u8; 290];
@@ -461,6 +524,7 @@ fn main() {
     );
     time_text("mixed text", "Größe: 4 um, 80 € [Rolle 3]. Perché? Cosi è gia {~} detruit; ¿que? Ñandu Åse Øre Ærø. Zwölf Öfen. ");
     time_parts(&"Damp board at reel 3, call the second lead. ".repeat(11)[..459]);
+    time_accepting();
     time_text("80 extension characters", &"^{}\\[~]|".repeat(10));
     time_address("address of 11 digits", 1, 1, "31624578901");
     time_address("address of type 5", 5, 0, "Wiglanth");
