@@ -105,7 +105,13 @@ fn reference_in(line: &[u8]) -> Reference {
 fn take(store: &mut Store, line: &[u8], show: bool, out: &mut Output, at: usize) -> usize {
     let total = values::number_of(field(line, 6));
     let mut lent = [0u8; 4080];
-    match tpdu::take_message(store, address_in(line), reference_in(line), total, &mut lent) {
+    match tpdu::take_message(
+        store,
+        address_in(line),
+        reference_in(line),
+        total,
+        &mut lent,
+    ) {
         MessageTaken::Whole(dcs, n) => {
             let next = fields::octet(out, at, b"ok dcs=", dcs);
             fields::octets(out, next, b" octets=", between(&lent, 0, n))
