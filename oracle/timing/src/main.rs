@@ -1,6 +1,7 @@
 //! Times the Rust and the port in one process, on the same inputs, and prints a table: nanoseconds
 //! each, and the ratio Rust / port. Each number is the median of several runs. What writing takes
 //! is the time of reading and writing back, less that of reading, which is taken in the same run.
+//! For blocks by column, which the Rust hasn't, a second table has plain loops in C.
 
 use std::hint::black_box;
 use std::io::Cursor;
@@ -375,7 +376,7 @@ fn time_columns(name: &str, lengths: &[usize]) {
     };
     agreed(name, &mut plain, &mut port);
     let size = port();
-    column_row(&format!("{name} by column"), total, few(&mut plain), few(&mut port));
+    column_row(&format!("{name} by column"), total, least(&mut plain), least(&mut port));
     assert_eq!(block, others, "{name}: the two blocks differ");
     let mut plain = || unsafe {
         plain_from_columns(
@@ -384,7 +385,7 @@ fn time_columns(name: &str, lengths: &[usize]) {
             list.as_mut_ptr(),
         )
     };
-    let plain_time = few(&mut plain);
+    let plain_time = least(&mut plain);
     let mut port = || unsafe {
         tpdu_from_columns(
             black_box(block.as_ptr()),
@@ -396,20 +397,18 @@ fn time_columns(name: &str, lengths: &[usize]) {
         )
     };
     assert_eq!(port(), total, "{name}: the octets that come back");
-    let port_time = few(&mut port);
+    let port_time = least(&mut port);
     assert_eq!(back, octets, "{name}: the octets come back");
     column_row(&format!("{name} back"), total, plain_time, port_time);
 }
 
-/// Nanoseconds of one turn, for work that takes long: the least of several runs of few turns.
-fn few(turn: &mut impl FnMut() -> usize) -> f64 {
-    (0..RUNS)
+/// Nanoseconds of one turn, for work that takes long: the least of many.
+fn least(turn: &mut impl FnMut() -> usize) -> f64 {
+    (0..400)
         .map(|_| {
             let start = Instant::now();
-            for _ in 0..20 {
-                black_box(turn());
-            }
-            start.elapsed().as_nanos() as f64 / 20.0
+            black_box(turn());
+            start.elapsed().as_nanos() as f64
         })
         .fold(f64::INFINITY, f64::min)
 }
