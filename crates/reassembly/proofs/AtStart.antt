@@ -2,11 +2,11 @@
 -- Assumes nothing.
 use Prim.Native.Nat.{ℕ, zero, suc, _+_, _≤_, _<_}
 use mathlib.Core.Path.{_≡_, refl, sym, ap, _∙_}
-use mathlib.Core.Bool.{Bool, true, false}
+use mathlib.Core.Bool.{Bool, true, false, _&&_}
 use mathlib.Core.List.{List, [], _∷_, _++_}
 use native.Mathlib.Numerals.{add-one}
 use native.Mathlib.Omega.{arith}
-use borrow.Author.Tests.{eqb-true, eq-eqb, ne-eqb}
+use borrow.Author.Tests.{eqb-true, eqb-false, eq-eqb, ne-eqb}
 use lib.Dec.{eqb}
 use lib.ListN.{length, getD, take, drop, length-take, take-append-drop, drop-of-length-le}
 use lib.Seq.{drop-cons}
@@ -58,3 +58,21 @@ module _ (xs s : List ℕ) where
     pub begins-end : length xs ≤ i → begins (drop i xs) (drop i s) ≡ true
     unfolding begins
     begins-end h = rw (drop-of-length-le xs h)
+
+-- a loop that looks at all: those passed, and one more
+pub begins-more : (xs s : List ℕ) (i : ℕ) → i < length xs → i < length s → (begins (take i xs) s && eqb (getD s i 0) (getD xs i 0)) ≡ begins (take (i + 1) xs) s
+unfolding begins
+begins-more [] s i h k = absurd (omega arith)
+begins-more (x ∷ xs) [] i h k = absurd (omega arith)
+begins-more (x ∷ xs) (y ∷ s) zero h k = by-test (eqb y x) refl (eqb x y) refl
+  where
+    by-test : (t : Bool) → eqb y x ≡ t → (u : Bool) → eqb x y ≡ u → t ≡ (u && true)
+    by-test true p true q = refl
+    by-test true p false q = absurd (eqb-false x y q (sym (eqb-true y x p)))
+    by-test false p true q = absurd (eqb-false y x p (sym (eqb-true x y q)))
+    by-test false p false q = refl
+begins-more (x ∷ xs) (y ∷ s) (suc i) h k = rw add-one (and-assoc (eqb x y) (begins (take i xs) s) (eqb (getD s i 0) (getD xs i 0)) ∙ ap (λ (t : Bool). eqb x y && t) (rw add-one at (begins-more xs s i (omega arith) (omega arith))))
+  where
+    and-assoc : (a b c : Bool) → ((a && b) && c) ≡ (a && (b && c))
+    and-assoc true b c = refl
+    and-assoc false b c = refl

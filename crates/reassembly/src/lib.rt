@@ -7,13 +7,18 @@ ghost use Rattle.octets.specs.Answers.{outcomeSays};
 ghost use Rattle.octets.specs.Arrays.{pad};
 ghost use Rattle.octets.specs.Lent.{Wrote};
 ghost use Rattle.coding.specs.Coding.{dataOctets};
+ghost use Rattle.layout.specs.Layout.{readFrom};
+ghost use Rattle.deliver.specs.Layout.{fields};
+ghost use Rattle.deliver.specs.Deliver.{delivered};
+ghost use Rattle.deliver.specs.Internal.{fieldsAt, foundSays as fieldsSay, Inside};
 ghost use Rattle.reassembly.specs.Part.{arrivalOf, textAfter, octetsAfter, shownIn};
 ghost use Rattle.reassembly.specs.Store.{begins as beginsWith, hasKey, isOpen as isOpenSlot, slotFits, storeOctets, slotWith, freeSlot, fits, referenceOctets, keyOctets, openedWith, withPart, messageIn, missingOf, shownOf};
 ghost use Rattle.reassembly.specs.Calls.{acceptedSays, takenSays, droppedSays, emptied, unaccepted, told, storing, joining, placingAs, arriving, accepting, handing, takingBy, findingBy, droppingBy};
 ghost use Rattle.reassembly.specs.Internal.{foundSays};
 use address::SMSAddress;
 use coding::UserDataCoding;
-use deliver::SmsDeliver;
+use deliver::reading::DeliverFields;
+use deliver::reading::DeliverFound;
 use octets::Outcome;
 use octets::Refusal;
 use part_number::PartNumber;
@@ -79,6 +84,20 @@ fn begins(s: &[u8], octets: &[u8]) -> bool
         i += 1;
     }
     true
+}
+
+// The octets stand at the start of others, which are as many at least. Octets that differ are rare here, so that looking at all is faster.
+fn all_same(s: &[u8], octets: &[u8]) -> bool
+    requires { ⌜ length (now octets) ≤ length (now s) ⌝ }
+    ensures { λ r. ⌜ r ≡ beginsWith (now (octets .entry)) (now (s .entry)) ⌝ }
+{
+    let mut same = true;
+    let mut i = 0;
+    while i < octets.len() {
+        same = same & (s[i] == octets[i]);
+        i += 1;
+    }
+    same
 }
 
 fn is_open(slot: &[u8]) -> bool
@@ -261,7 +280,7 @@ fn join(
     }
     let start = at + 1;
     let end = at + 256;
-    if !begins(&slot[start..end], data) {
+    if !all_same(&slot[start..end], data) {
         return refused(Refusal::NotAPart);
     }
     accepted(slot, reference, total, number)
@@ -392,25 +411,25 @@ fn find_by(store: &[u8], address: SMSAddress, reference: Reference, total: u8) -
     Found::Slot(find_message(store, &key[..length]))
 }
 
-// Accepts the part that a DELIVER is.
-fn accept_message(store: &mut [u8], m: SmsDeliver) -> PartAccepted
-    requires { ⌜ (storeOctets ≤ length (now store)) × (m .«tp_originating_address» .«address_length» ≤ 290) × (m .«tp_user_data» .length ≤ 255) ⌝ }
-    ensures { λ r. ⌜ (acceptedSays r, now (store .exit)) ≡ arriving (arrivalOf m) (now (store .entry)) ⌝ }
+// Accepts the part that a DELIVER is, by its fields.
+fn accept_fields(store: &mut [u8], data: &[u8], f: DeliverFields) -> PartAccepted
+    requires { ⌜ (storeOctets ≤ length (now store)) × (fieldsSay (now «data») (DeliverFound.Whole f) ≡ readFrom fields (now «data») 0) × Inside (now «data») (DeliverFound.Whole f) ⌝ }
+    ensures { λ r. ⌜ (acceptedSays r, now (store .exit)) ≡ arriving (arrivalOf (delivered (fieldsAt (now («data» .entry)) f))) (now (store .entry)) ⌝ }
 {
-    let k = m.tp_user_data.length;
-    let octets = m.tp_user_data.octets;
-    let udl = m.tp_user_data_length;
-    let dcs = m.tp_dcs;
-    match part_number::number_part(m.tp_udhi, dcs, udl, &octets[..k]) {
+    let start = f.data;
+    let end = start + f.octets;
+    let udhi = f.first / 64 % 2 == 1;
+    match part_number::number_part(udhi, f.dcs, f.udl, &data[start..end]) {
         PartNumber::Unnumbered(r) => refused(r),
         PartNumber::Numbered(reference, total, number) => {
-            let n = m.tp_originating_address.address_length;
-            let text = m.tp_originating_address.address;
+            let sender = address::address_at(data, f.address);
+            let n = sender.address_length;
+            let text = sender.address;
             let mut key = [0u8; 298];
             let length = put_key(
                 &mut key,
-                m.tp_originating_address.ton,
-                m.tp_originating_address.npi,
+                sender.ton,
+                sender.npi,
                 &text[..n],
                 reference,
                 total,
@@ -421,9 +440,9 @@ fn accept_message(store: &mut [u8], m: SmsDeliver) -> PartAccepted
                 reference,
                 total,
                 number,
-                dcs,
-                udl,
-                &octets[..k],
+                f.dcs,
+                f.udl,
+                &data[start..end],
             )
         }
     }
@@ -450,16 +469,13 @@ pub fn empty_store(store: &mut [u8]) -> Outcome
 pub fn accept_part(store: &mut [u8], data: &[u8]) -> PartAccepted
     ensures { λ r. ⌜ (acceptedSays r, now (store .exit)) ≡ accepting (now («data» .entry)) (now (store .entry)) ⌝ }
 {
-    let read = SmsDeliver::decode(data);
-    let outcome = read.outcome;
-    match outcome {
-        Outcome::Refused(r) => refused(r),
-        Outcome::Done => {
+    match deliver::reading::fields_of(data) {
+        DeliverFound::Refused(r) => refused(r),
+        DeliverFound::Whole(f) => {
             if !fits_store(&store[..]) {
                 return refused(Refusal::LengthTooLarge);
             }
-            let message = read.message;
-            accept_message(store, message)
+            accept_fields(store, data, f)
         }
     }
 }

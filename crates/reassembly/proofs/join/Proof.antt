@@ -10,12 +10,12 @@ use Rattle.reassembly.proofs.join.Tie as tie
 returns-4 : tie.Need-returns-4
 returns-4 c =
     let p = c .before .before .before .before .before .before .before .before .before .before .before .before .before .pre in
-    rw (c .refused3 .ensures) (joins-other _ _ _ _ _ _ (c .before .before .before .before .before .before .before .before .before .if1 .left) (c .before .before .before .before .before .before .before .if2 .left) (p .0) (p .2) (c .before .before .before .before .before .if3 .left) (sym (c .before .before .begins .ensures) ∙ not-true _ (c .before .if4 .taken)))
+    rw (c .refused3 .ensures) (joins-other _ _ _ _ _ _ (c .before .before .before .before .before .before .before .before .before .if1 .left) (c .before .before .before .before .before .before .before .if2 .left) (p .0) (p .2) (c .before .before .before .before .before .if3 .left) (sym (c .before .before .all-same .ensures) ∙ not-true _ (c .before .if4 .taken)))
 
 returns-5 : tie.Need-returns-5
 returns-5 c =
     let p = c .before .before .before .before .before .before .before .before .before .before .before .before .before .before .pre in
-    rw (c .accepted2 .ensures) (joins-again _ _ _ _ _ _ (c .before .before .before .before .before .before .before .before .before .before .if1 .left) (c .before .before .before .before .before .before .before .before .if2 .left) (p .0) (p .2) (c .before .before .before .before .before .before .if3 .left) (sym (c .before .before .before .begins .ensures) ∙ not-false _ (c .before .before .if4 .left)))
+    rw (c .accepted2 .ensures) (joins-again _ _ _ _ _ _ (c .before .before .before .before .before .before .before .before .before .before .if1 .left) (c .before .before .before .before .before .before .before .before .if2 .left) (p .0) (p .2) (c .before .before .before .before .before .before .if3 .left) (sym (c .before .before .before .all-same .ensures) ∙ not-false _ (c .before .before .if4 .left)))
 
 pub join-spec : {M : Type 1} → statement M
 join-spec =
