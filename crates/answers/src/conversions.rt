@@ -170,15 +170,20 @@ fn number(line: &[u8], n: usize) -> u8 {
     values::number_of(field(line, n))
 }
 
-fn address(line: &[u8], show: bool, out: &mut Output, at: usize) -> usize {
+// The address of a request: type, plan and text.
+pub fn address_in(line: &[u8]) -> SMSAddress {
     let mut address = [0u8; 290];
     let address_length = values::octets_of(field(line, 3), &mut address);
-    let a = SMSAddress {
+    SMSAddress {
         ton: number(line, 1),
         npi: number(line, 2),
         address,
         address_length,
-    };
+    }
+}
+
+fn address(line: &[u8], show: bool, out: &mut Output, at: usize) -> usize {
+    let a = address_in(line);
     let mut lent = [0u8; 255];
     let w = a.encode(&mut lent);
     fields::written(out, at, w, &lent, show)

@@ -4,6 +4,7 @@ use mathlib.Core.List.{List}
 use Rattle.octets.specs.Answers.{Said, gives, refuses}
 use Rattle.octets.specs.Refusals.{refusalNumber}
 use Rattle.gsm7.specs.Packing.{SaidCounts}
+use Rattle.reassembly.specs.Calls.{SaidPart}
 use Rattle.columns.specs.Answers.{SaidStrings}
 
 -- of an outcome, with a count beside it
@@ -27,3 +28,11 @@ packedNumber lent = (numbered (lent .0 .0) (lent .0 .1), lent .1)
 -- of what the reader of a block by column does, and both lent lists
 abbrev pub stringsNumber : SaidStrings × List ℕ × List ℕ → ℕ × List ℕ × List ℕ
 stringsNumber lent = (numbered (lent .0 .0) (lent .0 .2), lent .1, lent .2)
+
+-- of a store that is emptied, and the store
+abbrev pub emptiedNumber : Said Unit × List ℕ → ℕ × List ℕ
+emptiedNumber r = (numbered (r .0) 0, r .1)
+
+-- of a part that is accepted: how many are missing; and the store
+abbrev pub acceptedNumber : SaidPart × List ℕ → ℕ × List ℕ
+acceptedNumber r = (numbered (r .0 .0) (r .0 .5), r .1)

@@ -8,6 +8,7 @@ ghost use Rattle.octets.specs.Lent.{lend};
 ghost use Rattle.gsm7.specs.Packing.{packing, notPacked};
 ghost use Rattle.gsm7.specs.Reading.{unpacked};
 ghost use Rattle.concatenation.specs.Messages.{concatenating, notSent};
+ghost use Rattle.reassembly.specs.Calls.{emptied, accepting};
 ghost use Rattle.columns.specs.Answers.{writing, reading, lendBoth};
 ghost use Rattle.time.specs.Timestamp.{timestamp};
 ghost use Rattle.address.specs.Address.{encoding};
@@ -18,7 +19,7 @@ ghost use Rattle.deliver.specs.Deliver.{deliver, delivering, blank as blankDeli
 ghost use Rattle.status_report.specs.StatusReport.{statusReport, statusReporting, blank as blankStatusReport};
 ghost use Rattle.submit_report.specs.SubmitReport.{ack as submitReportAck, submitReporting, blank as blankSubmitReport};
 ghost use Rattle.deliver_report.specs.DeliverReport.{error as deliverReportError, deliverReporting, blank as blankDeliverReport};
-ghost use Rattle.bench_exports.specs.Numbers.{numbered, countNumber, lentNumber, packedNumber, stringsNumber};
+ghost use Rattle.bench_exports.specs.Numbers.{numbered, countNumber, lentNumber, packedNumber, emptiedNumber, acceptedNumber, stringsNumber};
 use tpdu::Outcome;
 use tpdu::SMSAddress;
 use tpdu::SmsDeliver;
@@ -181,6 +182,25 @@ pub extern "C" fn tpdu_from_columns(block: &[u8], octets: &mut [u8], lengths: &m
     let s = tpdu::from_columns(block, octets, lengths);
     let outcome = s.outcome;
     taken(outcome, s.octets)
+}
+
+// 0, and the store is empty.
+#[no_mangle]
+pub extern "C" fn tpdu_empty_store(store: &mut [u8]) -> usize
+    ensures { λ r. ⌜ (r, now (store .exit)) ≡ emptiedNumber (emptied (now (store .entry))) ⌝ }
+{
+    let outcome = tpdu::empty_store(store);
+    taken(outcome, 0)
+}
+
+// How many parts of the message are still missing.
+#[no_mangle]
+pub extern "C" fn tpdu_accept_part(store: &mut [u8], data: &[u8]) -> usize
+    ensures { λ r. ⌜ (r, now (store .exit)) ≡ acceptedNumber (accepting (now («data» .entry)) (now (store .entry))) ⌝ }
+{
+    let a = tpdu::accept_part(store, data);
+    let outcome = a.outcome;
+    taken(outcome, a.missing_count)
 }
 
 // The number of octets of text.

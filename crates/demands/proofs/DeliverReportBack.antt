@@ -52,14 +52,14 @@ module _ (limit pi : ℕ) (p : Parameters) (i : found (indicatorChecks pi (p .pi
       indicator-here s at e _ (not-extended limit pi p [] 0 i d) ∙ parameters-here limit pi p i d s (at + 1) (sym (drop-drop 1 at s) ∙ ap (drop 1) e) _ ∙ done-reached s _ _ ∙ ap (reached (deliverReported outcome udhi cause pi p)) n
 
   -- they are read to their end
-  back : (udhi : Bool) (outcome : RpOutcome) (cause : OptionalOctet) → outcomeAgrees outcome cause ≡ true
+  back : (outcome : RpOutcome) (cause : OptionalOctet) → outcomeAgrees outcome cause ≡ true → (udhi : Bool)
       → let s = octetsIn udhi cause pi p in read (layoutOf outcome) s ≡ reached (deliverReported outcome udhi cause pi p) (length s)
-  back true RpAck Absent a = outcomes (octetsIn true Absent pi p) .ack-goes-on (octet-here _ 0 refl) refl ∙ after-cause-back RpAck true Absent _ 1 refl
-  back false RpAck Absent a = outcomes (octetsIn false Absent pi p) .ack-goes-on (octet-here _ 0 refl) refl ∙ after-cause-back RpAck false Absent _ 1 refl
-  back true RpError (Present x) a = outcomes (octetsIn true (Present x) pi p) .error-goes-on (octet-here _ 0 refl) refl refl (octet-here _ 1 refl) ∙ after-cause-back RpError true (Present x) _ 2 refl
-  back false RpError (Present x) a = outcomes (octetsIn false (Present x) pi p) .error-goes-on (octet-here _ 0 refl) refl refl (octet-here _ 1 refl) ∙ after-cause-back RpError false (Present x) _ 2 refl
-  back udhi RpAck (Present x) a = absurd (false≢true a)
-  back udhi RpError Absent a = absurd (false≢true a)
+  back RpAck Absent a true = outcomes (octetsIn true Absent pi p) .ack-goes-on (octet-here _ 0 refl) refl ∙ after-cause-back RpAck true Absent _ 1 refl
+  back RpAck Absent a false = outcomes (octetsIn false Absent pi p) .ack-goes-on (octet-here _ 0 refl) refl ∙ after-cause-back RpAck false Absent _ 1 refl
+  back RpAck (Present x) a udhi = absurd (false≢true a)
+  back RpError Absent a udhi = absurd (false≢true a)
+  back RpError (Present x) a true = outcomes (octetsIn true (Present x) pi p) .error-goes-on (octet-here _ 0 refl) refl refl (octet-here _ 1 refl) ∙ after-cause-back RpError true (Present x) _ 2 refl
+  back RpError (Present x) a false = outcomes (octetsIn false (Present x) pi p) .error-goes-on (octet-here _ 0 refl) refl refl (octet-here _ 1 refl) ∙ after-cause-back RpError false (Present x) _ 2 refl
 
 -- neither layout asks whether the string has ended
 endless-outcome : (outcome : RpOutcome) → EndlessLayout (layoutOf outcome)
@@ -96,7 +96,7 @@ module _ {octets : List ℕ} {answer : Said ℕ} (limit : ℕ) (r : SmsDeliverRe
 
   -- what was written is read back, to its end
   read-back : read (deliverReportOf r) octets ≡ reached made-record (length octets)
-  read-back = rw (← passed .is) (back limit (r .«tp_parameter_indicator») (parametersOf r) (passed .indicator) (passed .held) (r .«tp_udhi») (r .«rp_outcome») (r .«tp_failure_cause») (passed .agrees))
+  read-back = rw (← passed .is) (back limit (r .«tp_parameter_indicator») (parametersOf r) (passed .indicator) (passed .held) (r .«rp_outcome») (r .«tp_failure_cause») (passed .agrees) (r .«tp_udhi»))
 
   -- as the same record
   record-back : Typed r → cleared made-record ≡ capitalised (cleared r)

@@ -13,6 +13,7 @@ use Rattle.address.specs.Address.{valueText, textIn, valueSeptets, septetsRead,
 use Rattle.address.specs.Writing.{addressOctets}
 use Rattle.layout.specs.Layout.{kept, after, reading, readFrom, read, answer, replacedOf}
 use Rattle.validity_period.specs.Validity.{periodSize}
+use Rattle.user_data_header.specs.Header.{inCount}
 use Rattle.deliver.specs.Layout as DeliverLayout
 use Rattle.deliver.specs.Deliver as Deliver
 use Rattle.submit.specs.Layout as SubmitLayout
@@ -56,5 +57,5 @@ sum s = replacedOf (Submit.textsRead s) (read Submit.submit s)
 
 -- "A" after an escape, in 7-bit coding and in 8-bit; after the header 01 1B too
 known-submit : (sum (to 0x01 0x00 0x02 (0x9b ∷ 0x20 ∷ [])) ≡ 2) × (sum (to 0x01 0x04 0x02 (0x9b ∷ 0x20 ∷ [])) ≡ 1) × (sum (to 0x41 0x00 0x05 (0x01 ∷ 0x1b ∷ 0x60 ∷ 0x13 ∷ 0x04 ∷ [])) ≡ 2)
-unfolding read readFrom reading after kept Submit.format SubmitLayout.fields Submit.submitted periodSize SubmitLayout.headerSize SubmitLayout.inCount codingOf characterSet dataOctets dataWith pad Submit.dataSeptets septetsRead valueSeptets numberOf lowestDigits septetsIn replacedInAll replacedIn replacedAfter replaced rowWith
+unfolding read readFrom reading after kept Submit.format SubmitLayout.fields Submit.submitted periodSize SubmitLayout.headerSize inCount codingOf characterSet dataOctets dataWith pad Submit.dataSeptets septetsRead valueSeptets numberOf lowestDigits septetsIn replacedInAll replacedIn replacedAfter replaced rowWith
 known-submit = (refl, refl, refl)

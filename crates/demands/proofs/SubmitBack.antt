@@ -25,6 +25,7 @@ use Rattle.coding.specs.Coding.{codingOf, dataOf, dataWith, clearedData}
 use Rattle.coding.specs.declared.UserDataCoding.{UserDataCoding}
 use Rattle.coding.specs.declared.UserDataCoding.the-variants.{Gsm7Bit, EightBit, Ucs2, Compressed}
 use Rattle.coding.proofs.Laws.{data-back}
+use Rattle.user_data_header.specs.Header.{inCount}
 use Rattle.time.specs.Time.{timeIn, timeDigits, capitals, digitsOf, clearedTime, capitalTime, TypedTime}
 use Rattle.time.specs.declared.Time.{Time}
 use Rattle.time.proofs.Laws.{time-back}
@@ -39,7 +40,7 @@ use Rattle.validity_period.specs.Validity.{formatOf, periodIn, periodOctets, is
 use Rattle.validity_period.specs.declared.ValidityPeriod.{ValidityPeriod}
 use Rattle.validity_period.proofs.Period.{period-size}
 use Rattle.submit.specs.declared.SmsSubmit.{SmsSubmit}
-use Rattle.submit.specs.Layout.{Fields, formatIn, headerSize, inCount}
+use Rattle.submit.specs.Layout.{Fields, formatIn, headerSize}
 use Rattle.submit.specs.Submit.{submitted, submit, firstOf, submitting, headerAnswer, underived, compared, capitalised, Typed}
 use Rattle.submit.proofs.CheckByCheck.{Passed, all-passed, all-fit}
 use Rattle.submit.proofs.Demand.{made-cleared}

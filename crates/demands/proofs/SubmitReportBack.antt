@@ -60,15 +60,16 @@ module _ (limit pi : ℕ) (digits : List ℕ) (w : isTime digits ≡ true) (p : 
       ∙ parameters-here limit pi p i d s _ u _ ∙ done-reached s _ _ ∙ ap (reached (submitReported outcome udhi cause pi (timeOctets digits) p)) n
 
   -- they are read to their end
-  back : (udhi : ℕ) → udhi ≤ 1 → (outcome : RpOutcome) (cause : OptionalOctet) → outcomeAgrees outcome cause ≡ true
+  back : (outcome : RpOutcome) (cause : OptionalOctet) → outcomeAgrees outcome cause ≡ true → (udhi : ℕ) → udhi ≤ 1
       → let s = octetsIn udhi cause pi digits p in read (layoutOf outcome) s ≡ reached (submitReported outcome udhi cause pi (timeOctets digits) p) (length s)
-  back zero h RpAck Absent a = outcomes (octetsIn 0 Absent pi digits p) .ack-goes-on (octet-here _ 0 refl) refl ∙ after-cause-back RpAck 0 Absent _ 1 refl
-  back (suc zero) h RpAck Absent a = outcomes (octetsIn 1 Absent pi digits p) .ack-goes-on (octet-here _ 0 refl) refl ∙ after-cause-back RpAck 1 Absent _ 1 refl
-  back zero h RpError (Present x) a = outcomes (octetsIn 0 (Present x) pi digits p) .error-goes-on (octet-here _ 0 refl) refl refl (octet-here _ 1 refl) ∙ after-cause-back RpError 0 (Present x) _ 2 refl
-  back (suc zero) h RpError (Present x) a = outcomes (octetsIn 1 (Present x) pi digits p) .error-goes-on (octet-here _ 0 refl) refl refl (octet-here _ 1 refl) ∙ after-cause-back RpError 1 (Present x) _ 2 refl
-  back (suc (suc udhi)) h outcome cause a = absurd (omega arith)
-  back udhi h RpAck (Present x) a = absurd (false≢true a)
-  back udhi h RpError Absent a = absurd (false≢true a)
+  back RpAck Absent a zero h = outcomes (octetsIn 0 Absent pi digits p) .ack-goes-on (octet-here _ 0 refl) refl ∙ after-cause-back RpAck 0 Absent _ 1 refl
+  back RpAck Absent a (suc zero) h = outcomes (octetsIn 1 Absent pi digits p) .ack-goes-on (octet-here _ 0 refl) refl ∙ after-cause-back RpAck 1 Absent _ 1 refl
+  back RpAck Absent a (suc (suc udhi)) h = absurd (omega arith)
+  back RpAck (Present x) a udhi h = absurd (false≢true a)
+  back RpError Absent a udhi h = absurd (false≢true a)
+  back RpError (Present x) a zero h = outcomes (octetsIn 0 (Present x) pi digits p) .error-goes-on (octet-here _ 0 refl) refl refl (octet-here _ 1 refl) ∙ after-cause-back RpError 0 (Present x) _ 2 refl
+  back RpError (Present x) a (suc zero) h = outcomes (octetsIn 1 (Present x) pi digits p) .error-goes-on (octet-here _ 0 refl) refl refl (octet-here _ 1 refl) ∙ after-cause-back RpError 1 (Present x) _ 2 refl
+  back RpError (Present x) a (suc (suc udhi)) h = absurd (omega arith)
 
 -- neither layout asks whether the string has ended
 endless-outcome : (outcome : RpOutcome) → EndlessLayout (layoutOf outcome)
@@ -114,7 +115,7 @@ module _ {os : List ℕ} {answer : Said ℕ} (limit : ℕ) (r : SmsSubmitReport)
 
   -- what was written is read back, to its end
   read-back : read (submitReportOf r) os ≡ reached made-record (length os)
-  read-back = rw (← passed .is) (back limit (r .«tp_parameter_indicator») _ (passed .time-is) (parametersOf r) (passed .indicator) (passed .held) (r .«tp_udhi») (passed .udhi) (r .«rp_outcome») (r .«tp_failure_cause») (passed .agrees))
+  read-back = rw (← passed .is) (back limit (r .«tp_parameter_indicator») _ (passed .time-is) (parametersOf r) (passed .indicator) (passed .held) (r .«rp_outcome») (r .«tp_failure_cause») (passed .agrees) (r .«tp_udhi») (passed .udhi))
 
   -- as the same record
   record-back : Typed r → cleared made-record ≡ capitalised (cleared r)

@@ -11,13 +11,14 @@ use Rattle.octets.specs.Answers.{Said, gives, refuses}
 use Rattle.octets.specs.Checks.{_unless_, found}
 use Rattle.octets.specs.declared.Refusal.the-variants.{OctetsEnd, HeaderNotWhole, HeaderPassesCount}
 use Rattle.coding.specs.Coding.{codingOf, dataOctets}
+use Rattle.user_data_header.specs.Header.{inCount}
 use Rattle.address.specs.Address.{addressSize, canonicalAddress}
 use Rattle.layout.specs.Layout.{octet, octets, any, Format, field, one, message, require, done, _then_, address, userData, messageType, Reached, reached, halted, reading, readFrom, plain, read}
 use Rattle.layout.proofs.Beginnings.{cut-read}
 use Rattle.layout.proofs.LayoutBack.{field-read, field-last, message-read, done-read}
 use Rattle.layout.proofs.Steps.{then-goes-on, then-ends}
 use Rattle.validity_period.specs.Validity.{periodSize}
-use Rattle.submit.specs.Layout.{Fields, formatIn, inCount, bits, fields}
+use Rattle.submit.specs.Layout.{Fields, formatIn, bits, fields}
 use Rattle.submit.specs.Submit.{headerIn, submitted, format, submit}
 use Rattle.submit.specs.declared.SmsSubmit.{SmsSubmit}
 use Rattle.submit.proofs.FieldByField.{kept-whole}

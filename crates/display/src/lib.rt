@@ -16,6 +16,7 @@ use crate::user_data::Shown;
 use crate::user_data::optional_user_data;
 use crate::user_data::user_data;
 use output::Output;
+use text_fields::slices::least;
 use tpdu::OptionalOctet;
 use tpdu::RpOutcome;
 use tpdu::SMSAddress;
@@ -30,16 +31,17 @@ use wording::labels;
 use wording::refusals::refusal_number;
 
 // ---- records: each function takes the number of the reader's refusal too, which is 0 if there is none, and the number
-// of escapes that the reader replaced, at most 145 in an address and 255 in user data
+// of escapes that the reader replaced
+
+// At most 145 are replaced in an address, and 255 in user data.
+const MOST_REPLACED: usize = 255;
 
 // A line for the characters that stand in for others: those that the reader counted, and those of the user data, which
 // were unpacked to be shown.
 fn stand_ins(out: &mut Output, shown: Shown, replaced: usize) -> usize {
-    stand_ins_line(
-        out,
-        shown.end,
-        shown.replaced as u32 + replaced as u16 as u32,
-    )
+    let in_data = least(MOST_REPLACED, shown.replaced);
+    let n = in_data + least(MOST_REPLACED, replaced);
+    stand_ins_line(out, shown.end, n)
 }
 
 fn deliver(
@@ -125,7 +127,7 @@ fn submit(out: &mut Output, at: usize, refusal: u8, message: SmsSubmit, replaced
         message.tp_user_data_length,
         message.tp_user_data_raw,
     );
-    stand_ins_line(out, shown.end, replaced as u16 as u32)
+    stand_ins_line(out, shown.end, replaced)
 }
 
 // No line without a cause.

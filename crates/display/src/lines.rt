@@ -140,7 +140,7 @@ pub fn cause_line(out: &mut Output, at: usize, cause: u8) -> usize {
 // ---- characters that stand in for others
 
 // How many characters stand in for others; no line where none does.
-pub fn stand_ins_line(out: &mut Output, at: usize, n: u32) -> usize {
+pub fn stand_ins_line(out: &mut Output, at: usize, n: usize) -> usize {
     if n == 0 {
         return at;
     }

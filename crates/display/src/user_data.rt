@@ -14,11 +14,10 @@ use wording::elements::put_elements;
 use wording::labels;
 use wording::refusals::refusal_number;
 
-// User data that were shown: the place after them, and how many escapes were replaced in their text, which has at most
-// 255 septets.
+// User data that were shown: the place after them, and how many escapes were replaced in their text.
 pub struct Shown {
     pub end: usize,
-    pub replaced: u16,
+    pub replaced: usize,
 }
 
 // Shown up to a place, with no text in septets.
@@ -59,7 +58,7 @@ fn septets(out: &mut Output, at: usize, udl: u8, data: &[u8]) -> Shown {
     let end = text_or_data(out, at, refusal, between(&text, 0, read.text_length), data);
     Shown {
         end,
-        replaced: read.replaced_escapes as u16,
+        replaced: read.replaced_escapes,
     }
 }
 
@@ -87,7 +86,7 @@ fn header_and_septets(out: &mut Output, at: usize, udl: u8, data: &[u8]) -> Show
     );
     Shown {
         end,
-        replaced: read.replaced_escapes as u16,
+        replaced: read.replaced_escapes,
     }
 }
 

@@ -21,18 +21,18 @@ use Rattle.header_elements.proofs.Held.{elements-fit}
 -- ---- the elements from a place on
 
 module _ (s : List ℕ) (at : ℕ) where
-  none-at : length s ≤ at → elementsOf (drop at s) ≡ gives []
+  pub none-at : length s ≤ at → elementsOf (drop at s) ≡ gives []
   unfolding elementsAfter
   none-at h = rw (drop-of-length-le s {i = at} h)
 
-  lone-at : at < length s → length s ≤ at + 1 → elementsOf (drop at s) ≡ refuses ElementPassesHeader
+  pub lone-at : at < length s → length s ≤ at + 1 → elementsOf (drop at s) ≡ refuses ElementPassesHeader
   lone-at h l = rw (drop-cons s at 0 h, drop-of-length-le s {i = suc at} (omega arith)) (lone (getD s at 0))
 
   module _ (two : at + 1 < length s) where
     abbrev n : ℕ
     n = getD s (at + 1) 0
 
-    abbrev value : List ℕ
+    abbrev pub value : List ℕ
     value = take n (drop (at + 2) s)
 
     both : drop at s ≡ getD s at 0 ∷ n ∷ drop (at + 2) s
@@ -41,10 +41,10 @@ module _ (s : List ℕ) (at : ℕ) where
         let f : at + 2 ≡ suc (suc at) = omega arith in
         rw (drop-cons s at 0 (omega arith), e, f, drop-cons s (suc at) 0 (omega arith))
 
-    passes-at : length s < at + 2 + n → elementsOf (drop at s) ≡ refuses ElementPassesHeader
+    pub passes-at : length s < at + 2 + n → elementsOf (drop at s) ≡ refuses ElementPassesHeader
     passes-at h = rw both (passes (getD s at 0) n (drop (at + 2) s) (rw length-drop (omega arith)))
 
-    element-at : at + 2 + n ≤ length s → elementsOf (drop at s) ≡ before (element (getD s at 0) value) (elementsOf (drop (at + 2 + n) s))
+    pub element-at : at + 2 + n ≤ length s → elementsOf (drop at s) ≡ before (element (getD s at 0) value) (elementsOf (drop (at + 2 + n) s))
     element-at h = rw (both, ← drop-drop n (at + 2) s) (one-more (getD s at 0) n (drop (at + 2) s) (rw length-drop (omega arith)))
 
 -- ---- what the reader answers, once elements are stored in the arrays from places on

@@ -1,7 +1,7 @@
 -- The refusals, by the number that document 01 gives each ("Refused, by number"), and document 02 from 24 on.
 use Prim.Native.Nat.{ℕ}
 use Rattle.octets.specs.declared.Refusal.{Refusal}
-use Rattle.octets.specs.declared.Refusal.the-variants.{LengthTooLarge, OctetsEnd, WrongMessageType, UdhiTooLarge, ValidityFormatDisagrees, NoDestination, UserDataLengthDisagrees, UserDataTooLong, NumberTypeOrPlanTooLarge, NotInAlphabet, AddressTooLong, NotATime, IndicatorDisagrees, IndicatorExtended, UserDataWithoutLength, ParametersWithoutIndicator, HeaderNotWhole, HeaderPassesCount, TooFewOctets, CalendarOutOfRange, ZoneOutOfRange, TooManySeptets, OutputTooShort, ElementPassesHeader, ElementsTooLong, TooManyParts, OutcomeDisagrees, AlphanumericRelayAddress, StringsTooLarge, BlockNotWhole}
+use Rattle.octets.specs.declared.Refusal.the-variants.{LengthTooLarge, OctetsEnd, WrongMessageType, UdhiTooLarge, ValidityFormatDisagrees, NoDestination, UserDataLengthDisagrees, UserDataTooLong, NumberTypeOrPlanTooLarge, NotInAlphabet, AddressTooLong, NotATime, IndicatorDisagrees, IndicatorExtended, UserDataWithoutLength, ParametersWithoutIndicator, HeaderNotWhole, HeaderPassesCount, TooFewOctets, CalendarOutOfRange, ZoneOutOfRange, TooManySeptets, OutputTooShort, ElementPassesHeader, ElementsTooLong, TooManyParts, StoreFull, NotAPart, OutcomeDisagrees, AlphanumericRelayAddress, StringsTooLarge, BlockNotWhole}
 
 abbrev pub refusalNumber : Refusal → ℕ
 -- a record's length field passes its array, or a text reader's count passes 255
@@ -56,6 +56,10 @@ refusalNumber ElementPassesHeader = 24
 refusalNumber ElementsTooLong = 25
 -- no cutting into at most 255 parts exists
 refusalNumber TooManyParts = 26
+-- a new message comes while 16 are open
+refusalNumber StoreFull = 27
+-- the user data are no part of a message in parts, or disagree with what is held of it
+refusalNumber NotAPart = 28
 -- the outcome is RP-ERROR without a cause, or RP-ACK with one
 refusalNumber OutcomeDisagrees = 29
 -- a relay address to be written has type of number 5

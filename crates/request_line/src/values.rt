@@ -78,6 +78,12 @@ fn is_flag(value: &[u8]) -> bool {
     value.len() == 1 && decimal(value) < 2
 }
 
+// The width of a reference.
+fn is_width(value: &[u8]) -> bool {
+    let n = decimal(value);
+    n == 8 || n == 16
+}
+
 // A number from -128 to 127.
 fn is_zone(value: &[u8]) -> bool {
     if begins(value, b"-") {
@@ -125,8 +131,8 @@ pub fn is_error(value: &[u8]) -> bool {
 }
 
 // Whether a value has the form that a letter stands for: w a word, any; f a flag; n a number to 255; c a number of up
-// to nine digits; z a zone; x an octet; d a coding, which is an octet too; o octets; e header elements; t a time; p a
-// validity period; a the outcome of a report; - absent; N and X: n and x, or absent.
+// to nine digits; r a reference; b its width in bits; z a zone; x an octet; d a coding, which is an octet too; o octets;
+// e header elements; t a time; p a validity period; a the outcome of a report; - absent; N and X: n and x, or absent.
 pub fn has_form(form: u8, value: &[u8]) -> bool {
     match form {
         b'w' => true,
@@ -134,6 +140,8 @@ pub fn has_form(form: u8, value: &[u8]) -> bool {
         b'n' => decimal(value) < 256,
         b'N' => decimal(value) < 256 || is_absent(value),
         b'c' => decimal(value) < NO_NUMBER,
+        b'r' => decimal(value) < 65536,
+        b'b' => is_width(value),
         b'z' => is_zone(value),
         b'x' | b'd' => is_octet(value),
         b'X' => is_octet(value) || is_absent(value),
@@ -156,6 +164,11 @@ pub fn flag_of(value: &[u8]) -> bool {
 pub fn number_of(value: &[u8]) -> u8 {
     let n = decimal(value);
     if n < 256 { n as u8 } else { 0 }
+}
+
+pub fn reference_of(value: &[u8]) -> u16 {
+    let n = decimal(value);
+    if n < 65536 { n as u16 } else { 0 }
 }
 
 // The number as far below zero as n is above.

@@ -27,6 +27,12 @@ unpack-header COUNT HEX      the same after a header
 pack HEX                     the septets of a text, which is given as UTF-8
 pack-header HEX HEX          the same after a header
 parts REF HEX                a text as one message, or in parts with this reference
+part HEX                     a DELIVER that is a part of a message, kept in the store
+take TON NPI HEX REF WIDTH TOTAL
+                             a message of the store that is whole, by its sender
+drop TON NPI HEX REF WIDTH TOTAL
+                             a message leaves the store
+empty-store                  all messages leave it
 address TON NPI HEX          the octets of an address
 coding DCS                   the coding of user data
 digits Y M D H M S Z         the digits of a time

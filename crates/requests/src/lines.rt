@@ -1,6 +1,7 @@
 // The lines of standard input, each held until it ends and then answered. Answers are written out before more is read,
 // so that another program can ask and wait for the answer.
 use crate::request::answer;
+use answers::gathering::Store;
 use libc::STDIN_FILENO;
 use libc::STDOUT_FILENO;
 use output::Output;
@@ -58,12 +59,19 @@ fn end_answer(out: &mut Output, at: usize) -> usize {
 }
 
 // Answers the line held.
-fn answer_line(line: &Line, length: usize, out: &mut Output, at: usize, show: bool) -> usize {
+fn answer_line(
+    line: &Line,
+    length: usize,
+    store: &mut Store,
+    out: &mut Output,
+    at: usize,
+    show: bool,
+) -> usize {
     if MOST_IN_LINE < length {
         let next = reasons::put_bad(out, at, reasons::LINE_TOO_LONG);
         return end_answer(out, next);
     }
-    let next = answer(between(line, 0, length), out, at, show);
+    let next = answer(between(line, 0, length), store, out, at, show);
     end_answer(out, next)
 }
 
@@ -72,6 +80,7 @@ fn answer_octets(
     octets: &[u8],
     line: &mut Line,
     held: usize,
+    store: &mut Store,
     out: &mut Output,
     show: bool,
 ) -> usize {
@@ -82,7 +91,7 @@ fn answer_octets(
         let end = find(octets, from, b'\n');
         n = add(line, n, between(octets, from, end));
         if end < octets.len() {
-            at = answer_line(line, without_cr(line, n), out, at, show);
+            at = answer_line(line, without_cr(line, n), store, out, at, show);
             n = 0;
             from = end + 1;
         } else {
@@ -104,6 +113,7 @@ fn answer_some(
     input: &mut Output,
     line: &mut Line,
     length: usize,
+    store: &mut Store,
     out: &mut Output,
     show: bool,
 ) -> Turn {
@@ -115,7 +125,7 @@ fn answer_some(
         };
     }
     let n = io::count(got, input);
-    let rest = answer_octets(between(input, 0, n), line, length, out, show);
+    let rest = answer_octets(between(input, 0, n), line, length, store, out, show);
     Turn {
         length: rest,
         more: true,
@@ -124,11 +134,17 @@ fn answer_some(
 
 // Reads and answers to the end of the input; the length of the line held. The turns are counted down from a number that
 // no input uses up.
-fn answer_all(input: &mut Output, line: &mut Line, out: &mut Output, show: bool) -> usize {
+fn answer_all(
+    input: &mut Output,
+    line: &mut Line,
+    store: &mut Store,
+    out: &mut Output,
+    show: bool,
+) -> usize {
     let mut length = 0;
     let mut turns = u64::MAX;
     while turns > 0 {
-        let turn = answer_some(input, line, length, out, show);
+        let turn = answer_some(input, line, length, store, out, show);
         length = turn.length;
         if !turn.more {
             return length;
@@ -139,19 +155,20 @@ fn answer_all(input: &mut Output, line: &mut Line, out: &mut Output, show: bool)
 }
 
 // Answers a last line that has no end.
-fn answer_last(line: &Line, length: usize, out: &mut Output, show: bool) {
+fn answer_last(line: &Line, length: usize, store: &mut Store, out: &mut Output, show: bool) {
     if length == 0 {
         return;
     }
-    let at = answer_line(line, length, out, 0, show);
+    let at = answer_line(line, length, store, out, 0, show);
     write_out(out, at);
 }
 
-// Answers each line of standard input.
+// Answers each line of standard input. The store of parts is zeros, which is empty.
 pub fn answer_requests(show: bool) {
     let mut input = io::large_buffer();
     let mut line = [0u8; 8192];
+    let mut store = [0u8; 37696];
     let mut out = io::large_buffer();
-    let length = answer_all(&mut input, &mut line, &mut out, show);
-    answer_last(&line, length, &mut out, show);
+    let length = answer_all(&mut input, &mut line, &mut store, &mut out, show);
+    answer_last(&line, length, &mut store, &mut out, show);
 }

@@ -2,6 +2,8 @@
 use answers::conversions;
 use answers::fields;
 use answers::fields::Lent;
+use answers::gathering;
+use answers::gathering::Store;
 use answers::reading;
 use answers::reading::Reader;
 use answers::reading::reader_named;
@@ -18,12 +20,13 @@ use text_fields::slices::between;
 use tpdu::Written;
 
 // What a line can ask for: a message read, or read and written back; a record written, by the number of its kind, to the
-// standard's limit of user data or not; or a conversion, by its number.
+// standard's limit of user data or not; a conversion, or something of the store, by its number.
 enum Request {
     Read(Reader),
     Rewrite(Reader),
     Write(usize, bool),
     Convert(usize),
+    Gather(usize),
 }
 
 fn request_named(name: &[u8]) -> Request {
@@ -39,6 +42,10 @@ fn request_named(name: &[u8]) -> Request {
     let request = conversions::request_named(name);
     if request < conversions::REQUESTS {
         return Request::Convert(request);
+    }
+    let of_store = gathering::request_named(name);
+    if of_store < gathering::REQUESTS {
+        return Request::Gather(of_store);
     }
     Request::Read(reader_named(name))
 }
@@ -57,6 +64,7 @@ fn against(request: Request, line: &[u8]) -> usize {
         Request::Read(reader) => against_message(reader, line),
         Request::Rewrite(reader) => against_message(reader, line),
         Request::Convert(number) => conversions::against_request(number, line),
+        Request::Gather(number) => gathering::against_request(number, line),
         Request::Write(kind, _) => keys::against_record(kind, line),
     }
 }
@@ -115,6 +123,7 @@ fn answer_octets(
     request: Request,
     line: &[u8],
     octets: &[u8],
+    store: &mut Store,
     show: bool,
     out: &mut Output,
     at: usize,
@@ -123,6 +132,7 @@ fn answer_octets(
         Request::Read(reader) => answer_read(reader, octets, show, out, at),
         Request::Rewrite(reader) => answer_rewritten(reader, octets, show, out, at),
         Request::Convert(number) => conversions::answer(number, line, octets, show, out, at),
+        Request::Gather(number) => gathering::answer(number, line, octets, store, show, out, at),
         Request::Write(kind, to_standard) => {
             writing::answer(kind, to_standard, line, show, out, at)
         }
@@ -130,14 +140,21 @@ fn answer_octets(
 }
 
 // The answer to a request that is well formed.
-fn answer_request(request: Request, line: &[u8], show: bool, out: &mut Output, at: usize) -> usize {
+fn answer_request(
+    request: Request,
+    line: &[u8],
+    store: &mut Store,
+    show: bool,
+    out: &mut Output,
+    at: usize,
+) -> usize {
     let mut octets = [0u8; 4096];
     let n = values::octets_of(last_field(line), &mut octets);
-    answer_octets(request, line, between(&octets, 0, n), show, out, at)
+    answer_octets(request, line, between(&octets, 0, n), store, show, out, at)
 }
 
 // The answer to a line, without its end.
-pub fn answer(line: &[u8], out: &mut Output, at: usize, show: bool) -> usize {
+pub fn answer(line: &[u8], store: &mut Store, out: &mut Output, at: usize, show: bool) -> usize {
     let name = field(line, 0);
     if name.len() == 0 {
         return reasons::put_bad(out, at, reasons::EMPTY_LINE);
@@ -147,5 +164,5 @@ pub fn answer(line: &[u8], out: &mut Output, at: usize, show: bool) -> usize {
     if reason != reasons::NONE {
         return reasons::put_bad(out, at, reason);
     }
-    answer_request(request, line, show, out, at)
+    answer_request(request, line, store, show, out, at)
 }

@@ -21,6 +21,7 @@ use Rattle.octets.proofs.Table.{below}
 use Rattle.coding.specs.Coding.{codingOf, dataOctets, dataWith, clearedData}
 use Rattle.coding.proofs.Laws.{data-held, data-at-most, data-limit, data-cleared}
 use Rattle.coding.specs.declared.UserData.{UserData}
+use Rattle.user_data_header.specs.Header.{inCount}
 use Rattle.time.specs.Time.{isTime, timeOctets, timeIn, digitsOf, clearedTime, TypedTime}
 use Rattle.time.specs.declared.Time.{Time}
 use Rattle.time.proofs.Laws.{time-cleared}
@@ -35,7 +36,7 @@ use Rattle.validity_period.specs.Validity.{periodIn, ofFormat, formatOf, isAbso
 use Rattle.validity_period.specs.declared.ValidityPeriod.{ValidityPeriod}
 use Rattle.validity_period.proofs.Period.{digitsCount, Held, period-held}
 use Rattle.submit.specs.declared.SmsSubmit.{SmsSubmit}
-use Rattle.submit.specs.Layout.{Fields, formatIn, headerSize, inCount, bits, fields}
+use Rattle.submit.specs.Layout.{Fields, formatIn, headerSize, bits, fields}
 use Rattle.submit.specs.Submit.{readable, textWith, headerIn, submitted, format, submit, lengthsFit, firstOf, octetsOf, submitting, cleared, Typed}
 use Rattle.submit.proofs.FieldByField.{kept-whole}
 use Rattle.submit.proofs.CheckByCheck.{digits-counted, toData, toAddress, last, to-data}

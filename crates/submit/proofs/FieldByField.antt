@@ -19,12 +19,13 @@ use Rattle.octets.proofs.Table.{below}
 use Rattle.coding.specs.Coding.{codingOf, dataOctets}
 use Rattle.coding.specs.declared.UserDataCoding.{UserDataCoding}
 use Rattle.coding.proofs.Laws.{data-at-most}
+use Rattle.user_data_header.specs.Header.{inCount}
 use Rattle.address.specs.Address.{addressSize, canonicalAddress}
 use Rattle.address.specs.Internal.{addressSpan}
 use Rattle.layout.specs.Layout.{Format, any, upTo, address, userData, isSet, field, require, done, cut, kept, messageType, Reached, reached, halted, readFrom}
 use Rattle.layout.proofs.Steps.{message-goes-on, message-differs, message-ends, octet-goes-on, octet-ends, span-goes-on, span-ends, address-goes-on, address-ends, require-holds, require-fails, done-reached, address-inside, address-starts}
 use Rattle.validity_period.specs.Validity.{periodSize}
-use Rattle.submit.specs.Layout.{Fields, formatIn, headerSize, inCount, bits, fields}
+use Rattle.submit.specs.Layout.{Fields, formatIn, headerSize, bits, fields}
 use Rattle.submit.specs.Internal.{afterCoding, afterFirst}
 
 -- ---- after TP-DCS

@@ -15,12 +15,13 @@ use Rattle.coding.specs.Coding.{codingOf, characterSet, dataOctets, dataWith}
 use Rattle.septets.specs.Septets.{numberOf, lowestDigits, septetsIn}
 use Rattle.gsm7.specs.Alphabet.{indexOf, character}
 use Rattle.gsm7.specs.Reading.{utf8, textOf, afterEscape}
+use Rattle.user_data_header.specs.Header.{inCount}
 use Rattle.time.specs.Time.{timeDigits, timeIn}
 use Rattle.address.specs.Writing.{digitCharacters, digitValue, isDigit, addressOctets}
 use Rattle.address.specs.Address.{digitCharacter, withoutF, valueText, textIn, addressWith, addressIn, canonicalAddress}
 use Rattle.layout.specs.Layout.{kept, reached, halted, after, reading, readFrom, fieldsOf, read, canonicalOf}
 use Rattle.validity_period.specs.Validity.{periodSize, periodIn}
-use Rattle.submit.specs.Layout.{Fields, headerSize, inCount, fields}
+use Rattle.submit.specs.Layout.{Fields, headerSize, fields}
 use Rattle.submit.specs.Submit.{readable, textWith, submitted, format, submit, submitting, headerAnswer}
 
 -- MR 07, "12" in a field with an F, PID and DCS 0

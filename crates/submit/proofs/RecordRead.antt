@@ -30,7 +30,8 @@ use Rattle.layout.proofs.Fields.{address-there}
 use Rattle.layout.proofs.Steps.{done-reached, then-goes-on, then-ends}
 use Rattle.validity_period.specs.Validity.{periodIn, ofFormat}
 use Rattle.validity_period.specs.declared.ValidityPeriod.{ValidityPeriod}
-use Rattle.submit.specs.Layout.{formatIn, inCount, fields}
+use Rattle.user_data_header.specs.Header.{inCount}
+use Rattle.submit.specs.Layout.{formatIn, fields}
 use Rattle.submit.specs.Internal.{fieldsAt, foundSays, Inside}
 use Rattle.submit.specs.declared.reading.SubmitFields.{SubmitFields}
 use Rattle.submit.specs.declared.reading.SubmitFound.{SubmitFound}

@@ -18,7 +18,7 @@ use Rattle.septets.specs.Septets.{septetsIn, headerSeptets, fillBits}
 use Rattle.septets.proofs.Inverse.{length-septets}
 use Rattle.gsm7.specs.Reading.{textOf, replacedIn}
 use Rattle.gsm7.proofs.DecodingLaws.{text-short, replaced-at-most}
-use Rattle.submit.specs.Layout.{inCount}
+use Rattle.user_data_header.specs.Header.{inCount}
 use Rattle.submit.specs.Submit.{readable, dataSeptets, textWith}
 use Rattle.submit.specs.declared.SubmitText.{SubmitText}
 

@@ -7,11 +7,12 @@ use lib.Dec.{leb}
 use lib.ListN.{length, take, drop}
 use Rattle.octets.specs.declared.Refusal.the-variants.{HeaderNotWhole, HeaderPassesCount}
 use Rattle.coding.specs.Coding.{codingOf, dataOctets}
+use Rattle.user_data_header.specs.Header.{inCount}
 use Rattle.address.specs.Address.{addressSize, canonicalAddress}
 use Rattle.address.specs.Writing.{addressOctets, octetsOr}
 use Rattle.layout.specs.Layout.{Format, Reached, reached, halted, field, one, require, done, address as addressKind, octets, any, userData, isSet, cut}
 use Rattle.validity_period.specs.Validity.{periodSize}
-use Rattle.submit.specs.Layout.{Fields, formatIn, headerSize, inCount}
+use Rattle.submit.specs.Layout.{Fields, formatIn, headerSize}
 use Rattle.submit.specs.declared.reading.SubmitFields.{SubmitFields}
 use Rattle.submit.specs.declared.reading.SubmitFound.{SubmitFound}
 use Rattle.submit.specs.declared.writing.SubmitValues.{SubmitValues}

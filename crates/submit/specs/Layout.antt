@@ -1,16 +1,13 @@
 -- SMS-SUBMIT (TS 23.040 §9.2.2.2): its layout.
 use Prim.Native.Nat.{ℕ, _/_, _%_}
-use mathlib.Core.Bool.{Bool, true}
+use mathlib.Core.Bool.{Bool}
 use mathlib.Core.List.{List, [], _∷_}
 use lib.Dec.{leb}
 use lib.ListN.{length}
 use Rattle.octets.specs.Choice.{if_then_else_}
 use Rattle.octets.specs.declared.Refusal.the-variants.{HeaderNotWhole, HeaderPassesCount}
 use Rattle.coding.specs.Coding.{codingOf, dataOctets}
-use Rattle.coding.specs.declared.UserDataCoding.{UserDataCoding}
-use Rattle.coding.specs.declared.UserDataCoding.the-variants.{Gsm7Bit, EightBit, Ucs2, Compressed}
-use Rattle.septets.specs.Septets.{headerSeptets}
-use Rattle.user_data_header.specs.Header.{headerOctets}
+use Rattle.user_data_header.specs.Header.{headerOctets, inCount}
 use Rattle.layout.specs.Layout.{Format, message, field, one, require, done, address, octets, any, userData, isSet}
 use Rattle.validity_period.specs.Validity.{periodSize}
 
@@ -19,13 +16,6 @@ use Rattle.validity_period.specs.Validity.{periodSize}
 -- the octets that a header takes: its first octet plus 1, and 1 where the data are empty and so don't hold it; none without TP-UDHI
 unfoldable pub headerSize : Bool → List ℕ → ℕ
 headerSize udhi ud = if udhi then headerOctets ud else 0
-
--- in 7-bit coding the septets that a header of h octets takes don't pass UDL
-unfoldable pub inCount : UserDataCoding → ℕ → ℕ → Bool
-inCount Gsm7Bit udl h = leb (headerSeptets h) udl
-inCount EightBit udl h = true
-inCount Ucs2 udl h = true
-inCount Compressed udl h = true
 
 -- ---- the layout
 

@@ -18,6 +18,7 @@ use Rattle.coding.specs.declared.UserDataCoding.the-variants.{Gsm7Bit, EightBit
 use Rattle.septets.specs.Septets.{numberOf, lowestDigits, septetsIn, headerSeptets, fillBits}
 use Rattle.gsm7.specs.Alphabet.{character}
 use Rattle.gsm7.specs.Reading.{utf8, textOf, afterEscape}
+use Rattle.user_data_header.specs.Header.{inCount}
 use Rattle.time.specs.Time.{timeIn, digitsOf, clearedTime, capitalTime, TypedTime}
 use Rattle.time.specs.declared.Time.{Time}
 use Rattle.address.specs.Address.{addressIn, addressWith, septetsRead, textHeld, clearedAddress, TypedAddress}
@@ -26,7 +27,7 @@ use Rattle.address.specs.declared.SMSAddress.{SMSAddress}
 use Rattle.layout.specs.Layout.{Format, Layout, plain, Reached, reached, halted, done, _then_, address as addressKind, isSet, messageType, cut}
 use Rattle.validity_period.specs.Validity.{periodIn, ofFormat, formatOf, isAbsolute, periodOctets, timeHolds}
 use Rattle.validity_period.specs.declared.ValidityPeriod.{ValidityPeriod}
-use Rattle.submit.specs.Layout.{Fields, formatIn, headerSize, inCount, fields}
+use Rattle.submit.specs.Layout.{Fields, formatIn, headerSize, fields}
 use Rattle.submit.specs.declared.SmsSubmit.{SmsSubmit}
 use Rattle.submit.specs.declared.SubmitRead.{SubmitRead}
 use Rattle.submit.specs.declared.SubmitText.{SubmitText}

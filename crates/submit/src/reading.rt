@@ -4,9 +4,8 @@ ghost use Prim.Native.Nat.{_+_, _≤_};
 ghost use lib.ListN.{length, drop};
 ghost use Rattle.layout.specs.Layout.{readFrom, cut, address as addressKind};
 ghost use Rattle.address.specs.Address.{addressSize, canonicalAddress};
-ghost use Rattle.submit.specs.Layout.{headerSize, inCount, fields};
+ghost use Rattle.submit.specs.Layout.{headerSize, fields};
 ghost use Rattle.submit.specs.Internal.{afterCoding, foundSays, Inside};
-use coding::UserDataCoding;
 use octets::Octet;
 use octets::Place;
 use octets::Refusal;
@@ -48,19 +47,6 @@ fn header_size(udhi: bool, data: &[u8]) -> usize
     data[0] as usize + 1
 }
 
-// In 7-bit coding a header of h octets takes septets of the count.
-fn in_count(coding: UserDataCoding, udl: u8, h: usize) -> bool
-    requires { ⌜ h ≤ 256 ⌝ }
-    ensures { λ r. ⌜ r ≡ inCount coding udl h ⌝ }
-{
-    match coding {
-        UserDataCoding::Gsm7Bit => septets::header_septets(h) <= udl as usize,
-        UserDataCoding::EightBit => true,
-        UserDataCoding::Ucs2 => true,
-        UserDataCoding::Compressed => true,
-    }
-}
-
 // What follows TP-DCS.
 fn after_coding(
     data: &[u8],
@@ -90,7 +76,7 @@ fn after_coding(
     if octets < header {
         return SubmitFound::Refused(Refusal::HeaderNotWhole);
     }
-    if !in_count(coding::user_data_coding(dcs), udl, header) {
+    if !user_data_header::in_count(coding::user_data_coding(dcs), udl, header) {
         return SubmitFound::Refused(Refusal::HeaderPassesCount);
     }
     SubmitFound::Whole(SubmitFields {

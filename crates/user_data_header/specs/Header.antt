@@ -1,15 +1,18 @@
 -- Text after a user data header (TS 23.040 §9.2.3.24), in 7-bit coding.
 use Prim.Native.Nat.{ℕ, _+_, _-_}
 use mathlib.Core.Path.{_≡_, refl}
+use mathlib.Core.Bool.{Bool, true}
 use mathlib.Core.List.{List, [], _∷_}
 use lib.ListN.{length, getD, take, drop}
-use lib.Dec.{eqb, ltb}
+use lib.Dec.{eqb, leb, ltb}
 use Rattle.octets.specs.Answers.{Said, refuses, fine, outcomeSays}
 use Rattle.octets.specs.Choice.{if_then_else_}
 use Rattle.octets.specs.Arrays.{pad}
 use Rattle.octets.specs.Lent.{Making, refused}
 use Rattle.octets.specs.declared.Refusal.{Refusal}
 use Rattle.octets.specs.declared.Refusal.the-variants.{LengthTooLarge, HeaderNotWhole, HeaderPassesCount, TooFewOctets}
+use Rattle.coding.specs.declared.UserDataCoding.{UserDataCoding}
+use Rattle.coding.specs.declared.UserDataCoding.the-variants.{Gsm7Bit, EightBit, Ucs2, Compressed}
 use Rattle.septets.specs.Septets.{numberOf, lowestDigits, septetsIn, octetCount, headerSeptets, fillBits}
 use Rattle.gsm7.specs.Alphabet.{rowWith, character, escaped, replaced}
 use Rattle.gsm7.specs.Reading.{utf8, textOf, afterEscape, replacedIn, replacedAfter}
@@ -19,6 +22,13 @@ use Rattle.user_data_header.specs.declared.UnpackedWithHeader.{UnpackedW
 -- the octets of a header: its first octet counts those that follow
 abbrev pub headerOctets : List ℕ → ℕ
 headerOctets os = getD os 0 0 + 1
+
+-- in 7-bit coding the septets that a header of h octets takes don't pass UDL
+unfoldable pub inCount : UserDataCoding → ℕ → ℕ → Bool
+inCount Gsm7Bit udl h = leb (headerSeptets h) udl
+inCount EightBit udl h = true
+inCount Ucs2 udl h = true
+inCount Compressed udl h = true
 
 -- what the reader's answer says: its outcome, the arrays of the header and of the text, each with the number of its octets, and how many escapes were replaced
 abbrev pub SaidHeader : Type 0

@@ -7,7 +7,8 @@ ghost use Rattle.octets.specs.declared.Refusal.the-variants.{LengthTooLarge, He
 ghost use Rattle.septets.specs.Septets.{septetsIn};
 ghost use Rattle.gsm7.specs.Reading.{textOf, replacedIn};
 ghost use Rattle.gsm7.specs.Packing.{packedSays, notPacked};
-ghost use Rattle.user_data_header.specs.Header.{headerOctets, unpackedWithHeaderSays, headerGiven, headerRefused, unpackedWithHeader, packingWithHeader};
+ghost use Rattle.user_data_header.specs.Header.{headerOctets, inCount, unpackedWithHeaderSays, headerGiven, headerRefused, unpackedWithHeader, packingWithHeader};
+use coding::UserDataCoding;
 use gsm7::packing::Packed;
 use octets::Outcome;
 use octets::Refusal;
@@ -64,6 +65,19 @@ pub fn header_octets(data: &[u8]) -> usize
     ensures { λ r. ⌜ (r ≡ headerOctets (now («data» .entry))) × (r ≤ 256) ⌝ }
 {
     septets::octet_or_zero(data, 0) as usize + 1
+}
+
+// In 7-bit coding a header of `h` octets takes septets of the count.
+pub fn in_count(coding: UserDataCoding, udl: u8, h: usize) -> bool
+    requires { ⌜ h ≤ 256 ⌝ }
+    ensures { λ r. ⌜ r ≡ inCount coding udl h ⌝ }
+{
+    match coding {
+        UserDataCoding::Gsm7Bit => septets::header_septets(h) <= udl as usize,
+        UserDataCoding::EightBit => true,
+        UserDataCoding::Ucs2 => true,
+        UserDataCoding::Compressed => true,
+    }
 }
 
 // A header of `h` octets, and the text of the septets that start `fill` bits after it, which are all there.

@@ -1,5 +1,5 @@
 // The refusals in words: the name of each, and what it means. In the lists a refusal stands at its number:
-// place 0 is empty, since no refusal has that number, and so are 27 and 28, 30 and 31, 33 and 34, whose refusals are not here yet.
+// place 0 is empty, since no refusal has that number, and so are 30 and 31, 33 and 34, whose refusals are not here yet.
 use output::Output;
 use text_fields::lists::entry;
 use tpdu::Outcome;
@@ -41,8 +41,8 @@ fn put_name(out: &mut Output, at: usize, refusal: u8) -> usize {
         ElementPassesHeader\n\
         ElementsTooLong\n\
         TooManyParts\n\
-        \n\
-        \n\
+        StoreFull\n\
+        NotAPart\n\
         OutcomeDisagrees\n\
         \n\
         \n\
@@ -83,8 +83,8 @@ fn put_meaning(out: &mut Output, at: usize, refusal: u8) -> usize {
         An element passes the header's end, or a lone identifier octet is left\n\
         Elements to be written need more than 255 octets after the first\n\
         No cutting of the text into at most 255 parts exists\n\
-        \n\
-        \n\
+        A new message comes while 16 are open\n\
+        The user data are no part of a message in parts, or disagree with what is held of it\n\
         The outcome is RP-ERROR without a cause, or RP-ACK with one\n\
         \n\
         \n\

@@ -1,6 +1,7 @@
 //! Times the Rust and the port in one process, on the same inputs, and prints a table: nanoseconds
 //! each, and the ratio Rust / port. Each number is the median of several runs. What writing takes
 //! is the time of reading and writing back, less that of reading, which is taken in the same run.
+//! For blocks by column, which the Rust hasn't, a second table has plain loops in C.
 
 use std::hint::black_box;
 use std::io::Cursor;
@@ -43,6 +44,13 @@ extern "C" {
         reference: u8,
         out: *mut u8,
         room: usize,
+    ) -> usize;
+    fn tpdu_empty_store(store: *mut u8, length: usize) -> usize;
+    fn tpdu_accept_part(
+        store: *mut u8,
+        length: usize,
+        data: *const u8,
+        data_length: usize,
     ) -> usize;
     fn tpdu_unpack(data: *const u8, length: usize, septets: usize) -> usize;
     fn tpdu_to_columns(
@@ -368,7 +376,7 @@ fn time_columns(name: &str, lengths: &[usize]) {
     };
     agreed(name, &mut plain, &mut port);
     let size = port();
-    column_row(&format!("{name} by column"), total, few(&mut plain), few(&mut port));
+    column_row(&format!("{name} by column"), total, least(&mut plain), least(&mut port));
     assert_eq!(block, others, "{name}: the two blocks differ");
     let mut plain = || unsafe {
         plain_from_columns(
@@ -377,7 +385,7 @@ fn time_columns(name: &str, lengths: &[usize]) {
             list.as_mut_ptr(),
         )
     };
-    let plain_time = few(&mut plain);
+    let plain_time = least(&mut plain);
     let mut port = || unsafe {
         tpdu_from_columns(
             black_box(block.as_ptr()),
@@ -389,20 +397,18 @@ fn time_columns(name: &str, lengths: &[usize]) {
         )
     };
     assert_eq!(port(), total, "{name}: the octets that come back");
-    let port_time = few(&mut port);
+    let port_time = least(&mut port);
     assert_eq!(back, octets, "{name}: the octets come back");
     column_row(&format!("{name} back"), total, plain_time, port_time);
 }
 
-/// Nanoseconds of one turn, for work that takes long: the least of several runs of few turns.
-fn few(turn: &mut impl FnMut() -> usize) -> f64 {
-    (0..RUNS)
+/// Nanoseconds of one turn, for work that takes long: the least of many.
+fn least(turn: &mut impl FnMut() -> usize) -> f64 {
+    (0..400)
         .map(|_| {
             let start = Instant::now();
-            for _ in 0..20 {
-                black_box(turn());
-            }
-            start.elapsed().as_nanos() as f64 / 20.0
+            black_box(turn());
+            start.elapsed().as_nanos() as f64
         })
         .fold(f64::INFINITY, f64::min)
 }
@@ -413,6 +419,62 @@ fn column_row(work: &str, octets: usize, plain: f64, port: f64) {
         port / octets as f64,
         plain / port
     );
+}
+
+/// A part accepted while 16 messages are open, beside its DELIVER read alone: by the Rust, and by
+/// the port. The driver takes the part's mark from its slot each time, so that it is stored anew.
+fn time_accepting() {
+    const STORE: usize = 37696;
+    const SLOT: usize = 2356;
+    let text = "Damp board at reel 3, call the second lead. ".repeat(4);
+    let part = |reference: u8, number: u8| {
+        let header = [0x05, 0x00, 0x03, reference, 0x02, number];
+        let (user_data, septets) = pack_gsm7_with_header(&header, &text[..153]).unwrap();
+        message(&[
+            &[0x44],
+            &ADDRESS,
+            &[0x00, 0x00],
+            &TIME,
+            &[septets as u8],
+            &user_data,
+        ])
+    };
+    let mut store = vec![0xffu8; STORE];
+    assert_eq!(unsafe { tpdu_empty_store(store.as_mut_ptr(), STORE) }, 0);
+    for reference in 0..16 {
+        let first = part(reference, 1);
+        let missing =
+            unsafe { tpdu_accept_part(store.as_mut_ptr(), STORE, first.as_ptr(), first.len()) };
+        assert_eq!(missing, 1, "part 2 is missing");
+    }
+    let second = part(15, 2);
+    let rust = timed(|| read_deliver(black_box(&second)));
+    let read = timed(|| unsafe { tpdu_read_deliver(black_box(second.as_ptr()), second.len()) });
+    let mut stored = || {
+        store[15 * SLOT + 3] = 0;
+        unsafe {
+            tpdu_accept_part(
+                black_box(store.as_mut_ptr()),
+                STORE,
+                black_box(second.as_ptr()),
+                second.len(),
+            )
+        }
+    };
+    assert_eq!(stored(), 0, "nothing is missing");
+    let accepted = timed(&mut stored);
+    let mut copied = || unsafe {
+        tpdu_accept_part(
+            black_box(store.as_mut_ptr()),
+            STORE,
+            black_box(second.as_ptr()),
+            second.len(),
+        )
+    };
+    let copy = timed(&mut copied);
+    row("read the DELIVER of a part", rust, read);
+    row("accept it, 16 messages open; the Rust reads it", rust, accepted);
+    row("accept a copy of it; the Rust reads it", rust, copy);
 }
 
 fn time_address(name: &str, ton: u8, npi: u8, text: &str) {
@@ -461,6 +523,7 @@ fn main() {
     );
     time_text("mixed text", "Größe: 4 um, 80 € [Rolle 3]. Perché? Cosi è gia {~} detruit; ¿que? Ñandu Åse Øre Ærø. Zwölf Öfen. ");
     time_parts(&"Damp board at reel 3, call the second lead. ".repeat(11)[..459]);
+    time_accepting();
     time_text("80 extension characters", &"^{}\\[~]|".repeat(10));
     time_address("address of 11 digits", 1, 1, "31624578901");
     time_address("address of type 5", 5, 0, "Wiglanth");

@@ -7,7 +7,7 @@ use Rattle.bench_exports.proofs.tpdu_read_submit.Statement.{statement}
 use Rattle.bench_exports.proofs.tpdu_read_submit.Tie as tie
 
 returns : tie.Need-returns
-returns c = c .taken .ensures ∙ ap (λ z. numbered (z .0 .0) (z .1 .0)) (c .before .decode-sms-submit-tpdu .ensures)
+returns c = c .taken .ensures ∙ ap (λ z. numbered (z .0 .0) (z .1)) (c .before .decode-sms-submit-tpdu .ensures)
 
 pub tpdu-read-submit-spec : {M : Type 1} → statement M
 tpdu-read-submit-spec = tie.close (tie.spec (λ c κs. search needs) (λ c κs. search needs) returns)

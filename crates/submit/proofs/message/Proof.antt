@@ -12,7 +12,7 @@ use lib.Seq.{length-take-le}
 use Rattle.coding.specs.Coding.{dataOctets}
 use Rattle.coding.specs.declared.UserDataCoding.{UserDataCoding}
 use Rattle.gsm7.specs.Reading.{replacedIn}
-use Rattle.submit.specs.Layout.{inCount}
+use Rattle.user_data_header.specs.Header.{inCount}
 use Rattle.submit.specs.Submit.{readable, dataSeptets, textWith}
 use Rattle.submit.specs.declared.reading.SubmitFields.{SubmitFields}
 use Rattle.submit.proofs.Text.{text-stored}

@@ -4,7 +4,7 @@ use native.Mathlib.Omega.{arith}
 use borrow.Author.Needs.{needs}
 use borrow.Author.Tests.{leb-true}
 use Rattle.coding.proofs.Laws.{data-at-most}
-use Rattle.submit.specs.Layout.{inCount}
+use Rattle.user_data_header.specs.Header.{inCount}
 use Rattle.gsm7.specs.Reading.{replacedIn}
 use Rattle.submit.specs.Submit.{readable, dataSeptets}
 use Rattle.submit.proofs.put_readable.Statement.{statement}

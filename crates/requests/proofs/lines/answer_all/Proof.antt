@@ -5,10 +5,10 @@ use Rattle.requests.proofs.lines.answer_all.Statement.{statement}
 use Rattle.requests.proofs.lines.answer_all.Tie as tie
 
 abbrev Inv-loop : tie.InvT-loop
-Inv-loop input₀ line₀ out₀ show length₀ turns₀ input line out length turns = Unit {0}
+Inv-loop input₀ line₀ store₀ out₀ show length₀ turns₀ input line store out length turns = Unit {0}
 
 abbrev μ-loop : tie.MeasureT-loop
-μ-loop input₀ line₀ out₀ show length₀ turns₀ input line out length turns = turns
+μ-loop input₀ line₀ store₀ out₀ show length₀ turns₀ input line store out length turns = turns
 
 pub answer-all-spec : {M : Type 1} → statement M
 answer-all-spec =

@@ -7,10 +7,10 @@ use Rattle.requests.proofs.lines.answer_octets.Statement.{statement}
 use Rattle.requests.proofs.lines.answer_octets.Tie as tie
 
 abbrev Inv-loop : tie.InvT-loop
-Inv-loop octets line₀ held out₀ show n₀ at₀ from₀ line out n at from = Unit {0}
+Inv-loop octets line₀ held store₀ out₀ show n₀ at₀ from₀ line store out n at from = Unit {0}
 
 abbrev μ-loop : tie.MeasureT-loop
-μ-loop octets line₀ held out₀ show n₀ at₀ from₀ line out n at from = length octets - from
+μ-loop octets line₀ held store₀ out₀ show n₀ at₀ from₀ line store out n at from = length octets - from
 
 pub answer-octets-spec : {M : Type 1} → statement M
 answer-octets-spec =

@@ -10,7 +10,7 @@ use Rattle.octets.specs.Places.{octetAt, spanAt}
 use Rattle.octets.proofs.Places.{octet-read, span-there, span-inside}
 use Rattle.coding.specs.Coding.{codingOf, dataOctets}
 use Rattle.coding.proofs.Laws.{size-told}
-use Rattle.submit.specs.Layout.{inCount}
+use Rattle.user_data_header.specs.Header.{inCount}
 use Rattle.submit.specs.Internal.{fieldsAt}
 use Rattle.submit.proofs.FieldByField.{no-period, no-udl, no-data, not-whole, passes-count, all-there, header-is, data-few}
 use Rattle.submit.proofs.reading.after_coding.Statement.{statement}

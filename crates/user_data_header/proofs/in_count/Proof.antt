@@ -1,9 +1,9 @@
--- `submit::reading::in_count` meets its contract: only 7-bit coding counts septets.
+-- `user_data_header::in_count` meets its contract: only 7-bit coding counts septets.
 -- Assumes nothing.
 use borrow.Author.Needs.{needs}
-use Rattle.submit.specs.Layout.{inCount}
-use Rattle.submit.proofs.reading.in_count.Statement.{statement}
-use Rattle.submit.proofs.reading.in_count.Tie as tie
+use Rattle.user_data_header.specs.Header.{inCount}
+use Rattle.user_data_header.proofs.in_count.Statement.{statement}
+use Rattle.user_data_header.proofs.in_count.Tie as tie
 
 pub in-count-spec : {M : Type 1} → statement M
 unfolding inCount

@@ -1,0 +1,4 @@
+pub mod Part
+pub mod Store
+pub mod Calls
+pub mod Internal

@@ -1,0 +1,10 @@
+pub mod Runs
+pub mod Slot
+pub mod Held
+pub mod Pigeonhole
+pub mod Step
+pub mod Calls
+pub mod Made
+pub mod Unchanged
+pub mod Sizes
+pub mod Claims
