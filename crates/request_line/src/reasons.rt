@@ -1,7 +1,6 @@
 // The reasons for which a line isn't well formed, by number: the answer for a reason stands in a list at its number.
 use crate::keys::put_key_name;
 use crate::values::has_form;
-use crate::values::is_octets;
 use output::Output;
 use text_fields::fields::field;
 use text_fields::fields::field_count;
