@@ -5,6 +5,7 @@ use crate::elements;
 use crate::fields;
 use crate::fields::Lent;
 use crate::fields::unless_refused;
+use crate::page;
 use crate::relay;
 use output::Output;
 use request_line::reasons;
@@ -47,8 +48,10 @@ const TO_COLUMNS: usize = 12;
 
 const FROM_COLUMNS: usize = 13;
 
+const PAGE: usize = 14;
+
 // How many there are; as a request's number it says that there is no such request.
-pub const REQUESTS: usize = 14;
+pub const REQUESTS: usize = 15;
 
 // The number of the request with a name.
 pub fn request_named(name: &[u8]) -> usize {
@@ -66,7 +69,8 @@ pub fn request_named(name: &[u8]) -> usize {
         relay\n\
         relay-write\n\
         to-columns\n\
-        from-columns\n";
+        from-columns\n\
+        page\n";
     entry_number(names, name)
 }
 
@@ -75,7 +79,7 @@ pub fn against_request(request: usize, line: &[u8]) -> usize {
     if request == RELAY_WRITE && relay::gives_none(line) {
         return reasons::against_fields(b"w---", line);
     }
-    if request == TO_COLUMNS {
+    if request == TO_COLUMNS || request == PAGE {
         return reasons::against_list(b'o', line);
     }
     let forms = b"\
@@ -92,7 +96,8 @@ pub fn against_request(request: usize, line: &[u8]) -> usize {
         wo\n\
         wnno\n\
         \n\
-        wo\n";
+        wo\n\
+        \n";
     reasons::against_fields(entry(forms, request), line)
 }
 
@@ -243,6 +248,7 @@ pub fn answer(
         RELAY_WRITE => relay::write(line, show, out, at),
         TO_COLUMNS => blocks::write(line, show, out, at),
         FROM_COLUMNS => blocks::read(octets, show, out, at),
+        PAGE => page::answer(line, show, out, at),
         _ => at,
     }
 }

@@ -4,6 +4,7 @@ pub mod conversions;
 mod elements;
 pub mod fields;
 pub mod gathering;
+pub mod page;
 pub mod reading;
 mod relay;
 pub mod writing;

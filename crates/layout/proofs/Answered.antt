@@ -21,6 +21,19 @@ use Rattle.layout.specs.Cut.{Cut, AnswersCut}
 use Rattle.layout.specs.Demand.{Demand2, Demand3, Answers2, Answers3}
 use Rattle.layout.specs.Layout.{Layout, Reached, reached, halted, read, answer, Generated, canonicalOf, unwritable}
 
+-- n octets written are those that were made
+pub written : (m : Making (Said ℕ)) (buffer : List ℕ) (n : ℕ) → ((xs : List ℕ) (a : Said ℕ) → m ≡ made xs a → a ≡ gives (length xs)) → lend refuses m buffer .0 ≡ gives n → (m ≡ made (take n (lend refuses m buffer .1)) (gives n))
+unfolding lend
+written (refused why) buffer n counts e = let z : _≡_ {A = ℕ} 0 1 = cc in absurd (omega arith)
+written (made xs a) buffer n counts e = by (leb (length xs) (length buffer)) e
+  where
+    lent : Bool → Said ℕ × List ℕ
+    lent b = if b then (a, xs ++ drop (length xs) buffer) else (refuses OutputTooShort, buffer)
+
+    by : (b : Bool) → lent b .0 ≡ gives n → made xs a ≡ made (take n (lent b .1)) (gives n)
+    by true e = let size : length xs ≡ n = cc (counts xs a refl) in rw (e, ← size, take-at xs (drop (length xs) buffer) (length xs) refl)
+    by false e = let z : _≡_ {A = ℕ} 0 1 = cc in absurd (omega arith)
+
 module _ {R : Type 0} (blank : R) where
   -- done, the answer has the record that was read
   done-read : (x : Reached R) → answer blank x .0 ≡ fine → (n : ℕ) × (x ≡ reached (answer blank x .1) n)
@@ -40,19 +53,6 @@ module _ {R : Type 0} (blank : R) where
           d .equals s t _ _ n m os ot is also;
       writes = λ s o e. let (n, is) = done-read (read l s) e in d .writes s _ n o is;
     }
-
-  -- n octets written are those that were made
-  written : (m : Making (Said ℕ)) (buffer : List ℕ) (n : ℕ) → ((xs : List ℕ) (a : Said ℕ) → m ≡ made xs a → a ≡ gives (length xs)) → lend refuses m buffer .0 ≡ gives n → (m ≡ made (take n (lend refuses m buffer .1)) (gives n))
-  unfolding lend
-  written (refused why) buffer n counts e = let z : _≡_ {A = ℕ} 0 1 = cc in absurd (omega arith)
-  written (made xs a) buffer n counts e = by (leb (length xs) (length buffer)) e
-    where
-      lent : Bool → Said ℕ × List ℕ
-      lent b = if b then (a, xs ++ drop (length xs) buffer) else (refuses OutputTooShort, buffer)
-
-      by : (b : Bool) → lent b .0 ≡ gives n → made xs a ≡ made (take n (lent b .1)) (gives n)
-      by true e = let size : length xs ≡ n = cc (counts xs a refl) in rw (e, ← size, take-at xs (drop (length xs) buffer) (length xs) refl)
-      by false e = let z : _≡_ {A = ℕ} 0 1 = cc in absurd (omega arith)
 
   module _ (Typed : R → Type 0) (compared capitalised : R → R) (layoutOf : R → Layout R) (write : R → Making (Said ℕ)) (exception : R → Said Unit) (may : R → Bool)
       (d : Demand2 Typed compared capitalised layoutOf write exception may) (counts : (r : R) (xs : List ℕ) (a : Said ℕ) → write r ≡ made xs a → a ≡ gives (length xs)) where

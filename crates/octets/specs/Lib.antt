@@ -8,3 +8,4 @@ pub mod Places
 pub mod SemiOctets
 pub mod Each
 pub mod Texts
+pub mod Decimal

@@ -1,7 +1,7 @@
 -- The refusals, by the number that document 01 gives each ("Refused, by number"), and document 02 from 24 on.
 use Prim.Native.Nat.{ℕ}
 use Rattle.octets.specs.declared.Refusal.{Refusal}
-use Rattle.octets.specs.declared.Refusal.the-variants.{LengthTooLarge, OctetsEnd, WrongMessageType, UdhiTooLarge, ValidityFormatDisagrees, NoDestination, UserDataLengthDisagrees, UserDataTooLong, NumberTypeOrPlanTooLarge, NotInAlphabet, AddressTooLong, NotATime, IndicatorDisagrees, IndicatorExtended, UserDataWithoutLength, ParametersWithoutIndicator, HeaderNotWhole, HeaderPassesCount, TooFewOctets, CalendarOutOfRange, ZoneOutOfRange, TooManySeptets, OutputTooShort, ElementPassesHeader, ElementsTooLong, TooManyParts, StoreFull, NotAPart, OutcomeDisagrees, AlphanumericRelayAddress, StringsTooLarge, BlockNotWhole}
+use Rattle.octets.specs.declared.Refusal.the-variants.{LengthTooLarge, OctetsEnd, WrongMessageType, UdhiTooLarge, ValidityFormatDisagrees, NoDestination, UserDataLengthDisagrees, UserDataTooLong, NumberTypeOrPlanTooLarge, NotInAlphabet, AddressTooLong, NotATime, IndicatorDisagrees, IndicatorExtended, UserDataWithoutLength, ParametersWithoutIndicator, HeaderNotWhole, HeaderPassesCount, TooFewOctets, CalendarOutOfRange, ZoneOutOfRange, TooManySeptets, OutputTooShort, ElementPassesHeader, ElementsTooLong, TooManyParts, StoreFull, NotAPart, OutcomeDisagrees, AlphanumericRelayAddress, TooManyRecords, RecipientNotPrintable, StringsTooLarge, BlockNotWhole}
 
 abbrev pub refusalNumber : Refusal → ℕ
 -- a record's length field passes its array, or a text reader's count passes 255
@@ -64,6 +64,10 @@ refusalNumber NotAPart = 28
 refusalNumber OutcomeDisagrees = 29
 -- a relay address to be written has type of number 5
 refusalNumber AlphanumericRelayAddress = 32
+-- more than 99 records
+refusalNumber TooManyRecords = 33
+-- a recipient passes 20 octets or holds one outside 20 to 7E
+refusalNumber RecipientNotPrintable = 34
 -- more than 1,000 strings, or one longer than 255 octets
 refusalNumber StringsTooLarge = 35
 -- a block ends early, has octets left over, or has a number too large or with a needless group

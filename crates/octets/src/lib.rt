@@ -42,6 +42,8 @@ pub enum Refusal {
     NotAPart,
     OutcomeDisagrees,
     AlphanumericRelayAddress,
+    TooManyRecords,
+    RecipientNotPrintable,
     StringsTooLarge,
     BlockNotWhole,
 }
@@ -82,6 +84,8 @@ impl Refusal {
             Refusal::NotAPart => 28,
             Refusal::OutcomeDisagrees => 29,
             Refusal::AlphanumericRelayAddress => 32,
+            Refusal::TooManyRecords => 33,
+            Refusal::RecipientNotPrintable => 34,
             Refusal::StringsTooLarge => 35,
             Refusal::BlockNotWhole => 36,
         }

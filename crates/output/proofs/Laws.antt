@@ -18,8 +18,9 @@ use Rattle.octets.proofs.Choice.{and-means}
 use Rattle.octets.proofs.Each.{each-means}
 use Rattle.octets.proofs.Laws.{sets-start}
 use Rattle.time.specs.Time.{isHex, hexValue}
+use Rattle.octets.specs.Decimal.{significant}
 use Rattle.output.specs.declared.hexadecimal.HexRead.{HexRead}
-use Rattle.output.specs.Output.{appended, significant}
+use Rattle.output.specs.Output.{appended}
 use Rattle.output.specs.Hexadecimal.{lowerDigit, hexText, isHexText, octetsOf, readInto}
 use Rattle.output.proofs.Digits.{lower-digit}
 

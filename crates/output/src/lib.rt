@@ -3,7 +3,8 @@
 pub mod hexadecimal;
 
 ghost use mathlib.Core.Path.{_≡_};
-ghost use Rattle.output.specs.Output.{appended, decimalText};
+ghost use Rattle.octets.specs.Decimal.{decimalText};
+ghost use Rattle.output.specs.Output.{appended};
 
 // What a program has answered and not yet written out.
 pub type Output = [u8; 65536];

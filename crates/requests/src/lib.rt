@@ -1,5 +1,6 @@
 // The program tpdutool: requests on standard input, a line each, are answered on standard output (docs/REQUESTS.md).
 mod lines;
+mod page;
 mod request;
 
 use libc::STDOUT_FILENO;
@@ -13,6 +14,7 @@ fn say_usage() {
         b"\
 tpdutool         answers requests on standard input, a line each, with a line each
 tpdutool show    answers for people, several lines a message
+tpdutool page    prints the shift page of the status reports on standard input
 tpdutool help    says this
 
 deliver HEX, submit HEX, submit-report-ack HEX, submit-report-error HEX,
@@ -42,13 +44,15 @@ relay HEX                    the address of the relay layer at the start of octe
 relay-write TON NPI HEX      the octets of an address of the relay layer; - - - is none
 to-columns HEX HEX ..        the log block of octet strings, by column
 from-columns HEX             the octet strings of a log block
+page HEX ..                  the shift page of status reports
 
 docs/REQUESTS.md has the keys and the answers.
 ",
     );
 }
 
-// Without an argument it answers requests, with `show` for people; else it says how it is used.
+// Without an argument it answers requests, with `show` for people; with `page` it prints a page; else it says how it is
+// used.
 pub fn run() {
     let count = os::arg_count();
     if count <= 1 {
@@ -59,6 +63,10 @@ pub fn run() {
     let n = os::arg(1, &mut argument);
     if count == 2 && same(between(&argument, 0, n), b"show") {
         lines::answer_requests(true);
+        return;
+    }
+    if count == 2 && same(between(&argument, 0, n), b"page") {
+        page::print_page();
         return;
     }
     say_usage();

@@ -10,16 +10,16 @@ use text_fields::slices::between;
 use text_fields::slices::find;
 
 // The line that is held. A length of MOST_IN_LINE + 1 says that it has too many octets.
-type Line = [u8; 8192];
+pub type Line = [u8; 8192];
 
-const MOST_IN_LINE: usize = 8192;
+pub const MOST_IN_LINE: usize = 8192;
 
 // The output is written out once it has this many octets: so 16,384 are free for each answer, more than any has. (The
 // longest is that of `parts`, some 15,200.)
 const MOST_HELD: usize = 49153;
 
 // Adds octets to a line; its length then.
-fn add(line: &mut Line, length: usize, octets: &[u8]) -> usize {
+pub fn add(line: &mut Line, length: usize, octets: &[u8]) -> usize {
     if MOST_IN_LINE < length {
         return length;
     }
@@ -30,7 +30,7 @@ fn add(line: &mut Line, length: usize, octets: &[u8]) -> usize {
 }
 
 // The length of a line without the CR of its end.
-fn without_cr(line: &Line, length: usize) -> usize {
+pub fn without_cr(line: &Line, length: usize) -> usize {
     if length == 0 {
         return 0;
     }
@@ -44,7 +44,7 @@ fn without_cr(line: &Line, length: usize) -> usize {
 }
 
 // Writes the answers out.
-fn write_out(out: &Output, at: usize) {
+pub fn write_out(out: &Output, at: usize) {
     io::write_all(STDOUT_FILENO, between(out, 0, at));
 }
 

@@ -18,6 +18,10 @@ use Rattle.time.specs.declared.Time.{Time}
 unfoldable pub hexDigit : ℕ → ℕ
 hexDigit value = getD (codes "0123456789ABCDEF") value 0
 
+-- an octet in two capital digits, the high half first
+abbrev pub inHex : ℕ → List ℕ
+inHex octet = hexDigit (octet / 16) ∷ hexDigit (octet % 16) ∷ []
+
 -- 0 to 9, A to F or a to f
 unfoldable pub isHex : ℕ → Bool
 isHex c = within (code "0") (code "9") c || within (code "A") (code "F") c || within (code "a") (code "f") c
@@ -53,9 +57,10 @@ isTime digits = eqb (length digits) 14 && each isHex digits
 known-time : (timeOctets (codes "24021512304500") ≡ 0x42 ∷ 0x20 ∷ 0x51 ∷ 0x21 ∷ 0x03 ∷ 0x54 ∷ 0x00 ∷ [])
     × (timeDigits (0x42 ∷ 0x20 ∷ 0x51 ∷ 0x21 ∷ 0x03 ∷ 0x54 ∷ 0x00 ∷ []) ≡ codes "24021512304500")
     × (timeOctets (codes "fFaA") ≡ 0xff ∷ 0xaa ∷ []) × (timeDigits (0xff ∷ 0xa9 ∷ []) ≡ codes "FF9A")
+    × (inHex 0x4f ≡ codes "4F")
     × (isTime (codes "240215123045fA") ≡ true) × (isTime (codes "240215123045gA") ≡ false) × (isTime (codes "240215123045f") ≡ false)
 unfolding codes hexDigit isHex hexValue timeDigits timeOctets isTime each
-known-time = (refl, refl, refl, refl, refl, refl, refl)
+known-time = (refl, refl, refl, refl, refl, refl, refl, refl)
 
 -- ---- times in records
 

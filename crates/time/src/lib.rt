@@ -16,7 +16,7 @@ pub struct Time {
 }
 
 // The capital hexadecimal digit of a value below 16; the letters stand 7 characters after the figures.
-fn hex_digit(value: u8) -> u8
+pub fn hex_digit(value: u8) -> u8
     requires { ⌜ value < 16 ⌝ }
     ensures { λ r. ⌜ r ≡ hexDigit value ⌝ }
 {

@@ -47,6 +47,7 @@ pub use reassembly::empty_store;
 pub use reassembly::take_message;
 pub use relay_address::RelayAddress;
 pub use relay_address::RelayAddressRead;
+pub use shift_page::shift_page;
 pub use status_report::SmsStatusReport;
 pub use status_report::StatusReportRead;
 pub use submit::SmsSubmit;

@@ -1,5 +1,5 @@
 // The refusals in words: the name of each, and what it means. In the lists a refusal stands at its number:
-// place 0 is empty, since no refusal has that number, and so are 30 and 31, 33 and 34, whose refusals are not here yet.
+// place 0 is empty, since no refusal has that number, and so are 30 and 31, whose refusals are not here yet.
 use output::Output;
 use text_fields::lists::entry;
 use tpdu::Outcome;
@@ -47,8 +47,8 @@ fn put_name(out: &mut Output, at: usize, refusal: u8) -> usize {
         \n\
         \n\
         AlphanumericRelayAddress\n\
-        \n\
-        \n\
+        TooManyRecords\n\
+        RecipientNotPrintable\n\
         StringsTooLarge\n\
         BlockNotWhole\n";
     output::put(out, at, entry(names, refusal as usize))
@@ -89,8 +89,8 @@ fn put_meaning(out: &mut Output, at: usize, refusal: u8) -> usize {
         \n\
         \n\
         A relay address to be written has type of number 5\n\
-        \n\
-        \n\
+        More than 99 records\n\
+        A recipient passes 20 octets or holds one outside 20 to 7E\n\
         More than 1,000 strings, or one longer than 255 octets\n\
         A block ends early, has octets left over, or has a number too large or with a needless group\n";
     output::put(out, at, entry(meanings, refusal as usize))

@@ -9,7 +9,7 @@ use borrow.Author.Tests.{ltb-true}
 use lib.ListN.{length, drop, length-set, length-drop}
 use lib.Seq.{take-all}
 use Rattle.octets.proofs.Choice.{and-true}
-use Rattle.output.specs.Output.{significant, decimalText}
+use Rattle.octets.specs.Decimal.{significant, decimalText}
 use Rattle.output.proofs.Laws.{digits-next, digits-none}
 use Rattle.output.proofs.put_decimal.Statement.{statement}
 use Rattle.output.proofs.put_decimal.Tie as tie

@@ -9,7 +9,7 @@ abbrev Inv-loop : tie.InvT-loop
 Inv-loop row line key₀ key = Unit {0}
 
 abbrev μ-loop : tie.MeasureT-loop
-μ-loop row line key₀ key = 24 - key
+μ-loop row line key₀ key = 25 - key
 
 pub against-values-spec : {M : Type 1} → statement M
 against-values-spec =

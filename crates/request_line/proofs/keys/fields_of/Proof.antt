@@ -10,7 +10,7 @@ abbrev Inv-loop : tie.InvT-loop
 Inv-loop kind n₀ key₀ n key = n ≤ key + 1
 
 abbrev μ-loop : tie.MeasureT-loop
-μ-loop kind n₀ key₀ n key = 24 - key
+μ-loop kind n₀ key₀ n key = 25 - key
 
 pub fields-of-spec : {M : Type 1} → statement M
 fields-of-spec =

@@ -1,0 +1,2 @@
+pub mod ShiftPage
+pub mod Told
