@@ -2,9 +2,9 @@
 // times, header elements, and what else stands in docs/REQUESTS.md after these.
 use crate::blocks;
 use crate::elements;
+use crate::fields;
 use crate::fields::Lent;
 use crate::fields::unless_refused;
-use crate::fields;
 use crate::page;
 use crate::relay;
 use output::Output;
