@@ -50,8 +50,12 @@ const FROM_COLUMNS: usize = 13;
 
 const PAGE: usize = 14;
 
+const UCS2_TO_GSM7: usize = 15;
+
+const GSM7_TO_UCS2: usize = 16;
+
 // How many there are; as a request's number it says that there is no such request.
-pub const REQUESTS: usize = 15;
+pub const REQUESTS: usize = 17;
 
 // The number of the request with a name.
 pub fn request_named(name: &[u8]) -> usize {
@@ -70,7 +74,9 @@ pub fn request_named(name: &[u8]) -> usize {
         relay-write\n\
         to-columns\n\
         from-columns\n\
-        page\n";
+        page\n\
+        ucs2-to-gsm7\n\
+        gsm7-to-ucs2\n";
     entry_number(names, name)
 }
 
@@ -97,7 +103,9 @@ pub fn against_request(request: usize, line: &[u8]) -> usize {
         wnno\n\
         \n\
         wo\n\
-        \n";
+        \n\
+        wo\n\
+        wco\n";
     reasons::against_fields(entry(forms, request), line)
 }
 
@@ -217,6 +225,19 @@ fn digits(line: &[u8], show: bool, out: &mut Output, at: usize) -> usize {
     unless_refused(out, at, p2, outcome, show)
 }
 
+fn ucs2_to_gsm7(octets: &[u8], show: bool, out: &mut Output, at: usize) -> usize {
+    let mut lent = [0u8; 255];
+    let p = tpdu::ucs2_to_gsm7(octets, &mut lent);
+    packed(p, &lent, show, out, at)
+}
+
+// At most 255 septets are shown, two octets each.
+fn gsm7_to_ucs2(octets: &[u8], septets: usize, show: bool, out: &mut Output, at: usize) -> usize {
+    let mut lent = [0u8; 510];
+    let w = tpdu::gsm7_to_ucs2(octets, septets, &mut lent);
+    fields::written_to(out, at, w, &lent, show)
+}
+
 // ---- answers
 
 // The septets that a request counts.
@@ -249,6 +270,8 @@ pub fn answer(
         TO_COLUMNS => blocks::write(line, show, out, at),
         FROM_COLUMNS => blocks::read(octets, show, out, at),
         PAGE => page::answer(line, show, out, at),
+        UCS2_TO_GSM7 => ucs2_to_gsm7(octets, show, out, at),
+        GSM7_TO_UCS2 => gsm7_to_ucs2(octets, count(line), show, out, at),
         _ => at,
     }
 }

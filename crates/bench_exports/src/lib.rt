@@ -8,6 +8,7 @@ ghost use Rattle.octets.specs.Lent.{lend};
 ghost use Rattle.gsm7.specs.Packing.{packing, notPacked};
 ghost use Rattle.gsm7.specs.Reading.{unpacked};
 ghost use Rattle.concatenation.specs.Messages.{concatenating, notSent};
+ghost use Rattle.ucs2.specs.Ucs2.{toGsm7, toUcs2};
 ghost use Rattle.reassembly.specs.Calls.{emptied, accepting};
 ghost use Rattle.columns.specs.Answers.{writing, reading, lendBoth};
 ghost use Rattle.time.specs.Timestamp.{timestamp};
@@ -211,6 +212,25 @@ pub extern "C" fn tpdu_unpack(data: &[u8], septets: usize) -> usize
     let u = tpdu::unpack_gsm7(data, septets);
     let outcome = u.outcome;
     taken(outcome, u.text_length)
+}
+
+// The number of octets packed.
+#[no_mangle]
+pub extern "C" fn tpdu_ucs2_to_gsm7(ucs2: &[u8], out: &mut [u8]) -> usize
+    ensures { λ r. ⌜ (r, now (out .exit)) ≡ packedNumber (lend notPacked (toGsm7 (now (ucs2 .entry))) (now (out .entry))) ⌝ }
+{
+    let p = tpdu::ucs2_to_gsm7(ucs2, out);
+    let outcome = p.outcome;
+    taken(outcome, p.octets)
+}
+
+// The number of octets of UCS2.
+#[no_mangle]
+pub extern "C" fn tpdu_gsm7_to_ucs2(data: &[u8], septets: usize, out: &mut [u8]) -> usize
+    ensures { λ r. ⌜ (r, now (out .exit)) ≡ lentNumber (lend refuses (toUcs2 (now («data» .entry)) septets) (now (out .entry))) ⌝ }
+{
+    let w = tpdu::gsm7_to_ucs2(data, septets, out);
+    written(w)
 }
 
 // An address whose text is the first octets of an array.

@@ -14,8 +14,7 @@ use Rattle.octets.specs.Answers.{gives}
 use Rattle.octets.specs.Lent.{Wrote}
 use Rattle.octets.proofs.Laws.{kept-by}
 use Rattle.gsm7.specs.Alphabet.{extension, row}
-use Rattle.gsm7.specs.Characters.{Entry, plain, extended, octetsFor, septetsFor}
-use Rattle.gsm7.specs.Reading.{utf8}
+use Rattle.gsm7.specs.Characters.{Entry, plain, extended, characterOf, septetsFor}
 use Rattle.gsm7.specs.Writing.{codeOf, firstCharacter, before, scan}
 use Rattle.gsm7.proofs.Tables.{Says, code-says}
 use Rattle.gsm7.proofs.Scanning.{first-width, entry-few, scan-end, scan-read}
@@ -97,7 +96,7 @@ module _ (text : List ℕ) (from : ℕ) (p : List ℕ) (i : ℕ) (s : Storing te
     rest-is : scan (drop i text) 0 ≡ before (gives ks) (scan (drop (i + w) text) 0)
     rest-is = scan-read text i h c w e ∙ rw is
 
-    entry-of : (e : Entry) × (octetsFor e ≡ utf8 c) × (septetsFor e ≡ ks)
+    entry-of : (e : Entry) × (characterOf e ≡ c) × (septetsFor e ≡ ks)
     entry-of = subst (Says c) is (code-says c)
 
     -- there is room for one character more

@@ -21,7 +21,7 @@ use Rattle.septets.proofs.Inverse.{unpack-pack}
 use Rattle.gsm7.specs.Alphabet.{alphabet, extension, row, character}
 use Rattle.gsm7.specs.Reading.{utf8, textOf, afterEscape, replacedIn, replacedAfter}
 use Rattle.gsm7.specs.Writing.{same, codeOf, before, startingWith, scan, septetsOf, twoOctets, threeOctets, firstCharacter}
-use Rattle.gsm7.specs.Characters.{Entry, plain, extended, octetsFor, septetsFor, spelled, coded}
+use Rattle.gsm7.specs.Characters.{Entry, plain, extended, characterOf, octetsFor, septetsFor, spelled, coded}
 use Rattle.gsm7.proofs.Utf8.{utf8-one, utf8-two, utf8-three}
 use Rattle.gsm7.proofs.FirstCharacter.{two, three, two-read, three-read}
 use Rattle.gsm7.proofs.Scanning.{first-width, scan-read}
@@ -146,26 +146,25 @@ first-of c rest h = by-test (ltb c 0x80) refl (ltb c 0x800) refl
         (first-three-octets a b d rest (omega arith) ∙ three-read a b d (omega arith) (rw back) (rw back) (rw back) ∙ ap (λ (n : ℕ). gives (n, 3)) back)
 
 -- so its code comes first, and then the septets of what follows
-scan-utf8 : (c : ℕ) (rest : List ℕ) → c < 0x10000 → scan (utf8 c ++ rest) 0 ≡ before (codeOf c) (scan rest 0)
+pub scan-utf8 : (c : ℕ) (rest : List ℕ) → c < 0x10000 → scan (utf8 c ++ rest) 0 ≡ before (codeOf c) (scan rest 0)
 scan-utf8 c rest h =
     let some-octet = first-width (utf8 c ++ rest) c (length (utf8 c)) (first-of c rest h) in
     let longer : 0 < length (utf8 c ++ rest) = rw length-append (omega arith) in
     scan-read (utf8 c ++ rest) 0 longer c (length (utf8 c)) (first-of c rest h) ∙ rw (zero-add, drop-append-seam)
 
--- an entry's character is below 10000 (hexadecimal), has at least one octet, and its code is the entry's
-abbrev characterOf : Entry → ℕ
-characterOf (plain code h n) = character code
-characterOf (extended place h) = getD extension place (row 0 0) .character
-
+-- an entry's character is below 10000 (hexadecimal), and its code is the entry's
 character-small : (e : Entry) → characterOf e < 0x10000
 unfolding character
 character-small (plain code h n) = ltb-true _ _ (below (λ k. ltb (getD alphabet k 0) 0x10000) 128 refl code h)
 character-small (extended place h) = ltb-true _ _ (below (λ i. ltb (getD extension i (row 0 0) .character) 0x10000) 10 refl place h)
 
+pub entry-coded : (e : Entry) → codeOf (characterOf e) ≡ gives (septetsFor e)
+entry-coded (plain code h n) = alphabet-one-to-one code h n
+entry-coded (extended place h) = extension-coded place h
+
 scan-entry : (e : Entry) (rest : List ℕ) (ss : List ℕ) → scan rest 0 ≡ some ss → scan (octetsFor e ++ rest) 0 ≡ some (septetsFor e ++ ss)
 unfolding before
-scan-entry (plain code h n) rest ss p = scan-utf8 (character code) rest (character-small (plain code h n)) ∙ rw (alphabet-one-to-one code h n, p)
-scan-entry (extended place h) rest ss p = scan-utf8 _ rest (character-small (extended place h)) ∙ rw (extension-coded place h, p)
+scan-entry e rest ss p = scan-utf8 (characterOf e) rest (character-small e) ∙ rw (entry-coded e, p)
 
 -- what entries spell has their codes as its septets
 pub written : (es : List Entry) → septetsOf (spelled es) ≡ some (coded es)
@@ -182,7 +181,7 @@ read-coded (plain code h n ∷ es) = rw (ne-eqb code 0x1b n, read-coded es)
 read-coded (extended place h ∷ es) = rw (extension-shown place h, read-coded es)
 
 -- no escape of it is replaced
-none-replaced : (es : List Entry) → replacedIn (coded es) ≡ 0
+pub none-replaced : (es : List Entry) → replacedIn (coded es) ≡ 0
 unfolding replacedIn replacedAfter coded
 none-replaced [] = refl
 none-replaced (plain code h n ∷ es) = rw (ne-eqb code 0x1b n, none-replaced es)
@@ -192,7 +191,7 @@ digits-cons : (k : ℕ) (ss : List ℕ) → k < 128 → Digits 7 ss → Digits 7
 digits-cons k ss h d zero = h
 digits-cons k ss h d (suc i) = d i
 
-coded-septets : (es : List Entry) → Digits 7 (coded es)
+pub coded-septets : (es : List Entry) → Digits 7 (coded es)
 unfolding coded
 coded-septets [] = λ i. omega arith
 coded-septets (plain code h n ∷ es) = digits-cons code (coded es) h (coded-septets es)

@@ -6,7 +6,7 @@ use mathlib.Core.Bool.{true}
 use mathlib.Core.List.{List, [], _∷_, _++_}
 use native.Mathlib.Omega.{arith}
 use native.Mathlib.Nat.{sub-zero, add-zero, zero-add}
-use native.Mathlib.Numerals.{add-one, add-two}
+use native.Mathlib.Numerals.{add-one}
 use lib.ListN.{length, replicate}
 use borrow.Author.Tests.{lt-ltb, le-ltb, eq-eqb, ne-eqb}
 use Rattle.octets.specs.Lent.{Wrote}
@@ -36,7 +36,7 @@ unfolding septetsFrom lowestDigits
 septets-none os f k = refl
 
 -- septets i to n - 1; their text, and how many escapes are replaced in it
-left : List ℕ → ℕ → ℕ → ℕ → List ℕ
+pub left : List ℕ → ℕ → ℕ → ℕ → List ℕ
 left os f n i = septetsFrom os f i (n - i)
 
 pub rest : List ℕ → ℕ → ℕ → ℕ → List ℕ
@@ -46,11 +46,11 @@ pub restReplaced : List ℕ → ℕ → ℕ → ℕ → ℕ
 restReplaced os f n i = replacedIn (left os f n i)
 
 module _ (os : List ℕ) (f n i : ℕ) where
-  left-none : n ≤ i → left os f n i ≡ []
+  pub left-none : n ≤ i → left os f n i ≡ []
   unfolding left
   left-none h = let e : n - i ≡ 0 = omega arith in rw (e, septets-none)
 
-  left-step : i < n → left os f n i ≡ septetAt os f i ∷ left os f n (i + 1)
+  pub left-step : i < n → left os f n i ≡ septetAt os f i ∷ left os f n (i + 1)
   unfolding left
   left-step h = let e : n - i ≡ suc (n - suc i) = omega arith in rw (e, septets-step, add-one)
 
@@ -75,7 +75,7 @@ module _ (os : List ℕ) (f n i : ℕ) {k : ℕ} (is : k ≡ septetAt os f i) wh
 
   -- an escape, where m is the septet after it, c its character and r what it counts
   module _ (h : i + 1 < n) (p : k ≡ 0x1b) {m : ℕ} (q : m ≡ septetAt os f (i + 1)) where
-    left-two : left os f n i ≡ k ∷ m ∷ left os f n (i + 2)
+    pub left-two : left os f n i ≡ k ∷ m ∷ left os f n (i + 2)
     left-two =
         let e : i + 1 + 1 ≡ i + 2 = omega arith in
         left-step os f n i (omega arith) ∙ rw (← is, left-step os f n (i + 1) h, ← q, e)
@@ -89,7 +89,7 @@ module _ (os : List ℕ) (f n i : ℕ) {k : ℕ} (is : k ≡ septetAt os f i) wh
     replaced-escape e = rw (e, left-two, eq-eqb k 0x1b p)
 
   module _ (h : i + 1 ≡ n) (p : k ≡ 0x1b) where
-    left-last : left os f n i ≡ k ∷ []
+    pub left-last : left os f n i ≡ k ∷ []
     left-last = left-step os f n i (omega arith) ∙ rw (← is, left-none os f n (i + 1) (omega arith))
 
     pub rest-last : rest os f n i ≡ utf8 0x20
@@ -129,7 +129,7 @@ unfolding septetFrom
 septet-small os f k = omega arith
 
 -- the rest at the start is the whole
-left-start : (os : List ℕ) (f n : ℕ) → left os f n 0 ≡ septetsIn os f n
+pub left-start : (os : List ℕ) (f n : ℕ) → left os f n 0 ≡ septetsIn os f n
 unfolding left septetsFrom septetsIn
 left-start os f n = rw (sub-zero, add-zero)
 

@@ -73,7 +73,7 @@ entry-few (extended place h) = omega arith
 
 -- the septets of a character stored, the rest is stored after them
 module _ {codes after : List ℕ} {count next : ℕ} where
-  settled-before : (ks : List ℕ) → Wrote count ks codes next after → (o : Option (List ℕ)) → settled codes count (before (gives ks) o) ≡ settled after next o
+  pub settled-before : (ks : List ℕ) → Wrote count ks codes next after → (o : Option (List ℕ)) → settled codes count (before (gives ks) o) ≡ settled after next o
   unfolding settled before
   settled-before ks w none = refl
   settled-before ks w (some ss) =

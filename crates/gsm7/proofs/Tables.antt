@@ -16,21 +16,20 @@ use Rattle.octets.proofs.Choice.{and-true}
 use Rattle.octets.proofs.Table.{below}
 use Rattle.gsm7.specs.declared.decode.Extension.{Extension}
 use Rattle.gsm7.specs.Alphabet.{alphabet, extension, row, rowWith, indexOf, character, escaped, replaced}
-use Rattle.gsm7.specs.Characters.{Entry, plain, extended, octetsFor, septetsFor}
-use Rattle.gsm7.specs.Reading.{utf8}
+use Rattle.gsm7.specs.Characters.{Entry, plain, extended, characterOf, septetsFor}
 use Rattle.gsm7.specs.Writing.{same, codeOf, escapeAndCode, extendedCode}
 use Rattle.gsm7.proofs.Rows.{Stands, row-stands, index-found}
 
 -- ---- the septets of a character are those of an entry of the tables; where it has none, 10
 
 abbrev pub Says : ℕ → Said (List ℕ) → Type 0
-Says c (gives ks) = (e : Entry) × (octetsFor e ≡ utf8 c) × (septetsFor e ≡ ks)
+Says c (gives ks) = (e : Entry) × (characterOf e ≡ c) × (septetsFor e ≡ ks)
 Says c (refuses why) = why ≡ NotInAlphabet
 
 module _ (c : ℕ) where
   by-row : (o : Option Extension) → Stands (λ (e : Extension). e .character) c extension o → Says c (escapeAndCode o)
   by-row none s = refl
-  by-row (some e) s = (extended (s .0) (s .1), ap (λ (e : Extension). utf8 (e .character)) (s .2) ∙ ap utf8 (s .3), ap (λ (e : Extension). 0x1b ∷ e .code ∷ []) (s .2))
+  by-row (some e) s = (extended (s .0) (s .1), ap (λ (e : Extension). e .character) (s .2) ∙ s .3, ap (λ (e : Extension). 0x1b ∷ e .code ∷ []) (s .2))
 
   pub extended-says : Says c (extendedCode c)
   unfolding extendedCode
@@ -44,11 +43,11 @@ module _ (c : ℕ) where
       by-alphabet n true e =
           let h : indexOf alphabet c < 128 = ltb-true _ _ e in
           let found : getD alphabet (indexOf alphabet c) 0 ≡ c = index-found alphabet c h in
-          (plain (indexOf alphabet c) h (λ p. eqb-false c 0x20 n (sym found ∙ ap (λ (k : ℕ). getD alphabet k 0) p)), ap utf8 found, refl)
+          (plain (indexOf alphabet c) h (λ p. eqb-false c 0x20 n (sym found ∙ ap (λ (k : ℕ). getD alphabet k 0) p)), found, refl)
       by-alphabet n false e = extended-says
 
       by-space : (t : Bool) → eqb c 0x20 ≡ t → Says c (if t then gives (0x20 ∷ []) else if ltb (indexOf alphabet c) 128 then gives (indexOf alphabet c ∷ []) else extendedCode c)
-      by-space true e = (plain 0x20 (omega arith) (λ p. omega arith), ap utf8 (sym (eqb-true c 0x20 e)), refl)
+      by-space true e = (plain 0x20 (omega arith) (λ p. omega arith), sym (eqb-true c 0x20 e), refl)
       by-space false e = by-alphabet e (ltb (indexOf alphabet c) 128) refl
 
 -- ---- septets that are equal

@@ -11,10 +11,14 @@ pub data Entry : Type 0 where
   plain : (code : ℕ) → code < 128 → (code ≡ 0x1b → ⊥) → Entry
   extended : (place : ℕ) → place < 10 → Entry
 
+-- its character
+abbrev pub characterOf : Entry → ℕ
+characterOf (plain code h n) = character code
+characterOf (extended place h) = getD extension place (row 0 0) .character
+
 -- the UTF-8 of its character
 abbrev pub octetsFor : Entry → List ℕ
-octetsFor (plain code h n) = utf8 (character code)
-octetsFor (extended place h) = utf8 (getD extension place (row 0 0) .character)
+octetsFor e = utf8 (characterOf e)
 
 -- its septets
 abbrev pub septetsFor : Entry → List ℕ

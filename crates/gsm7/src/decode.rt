@@ -17,7 +17,7 @@ use septets::BitPlace;
 pub const GSM7_ESCAPE: u8 = 0x1B;
 
 // The default alphabet (TS 23.038 §6.2.1), as code points. The escape reads as a space (NOTE 1).
-const ALPHABET: [u16; 128] = [
+pub const ALPHABET: [u16; 128] = [
     0x40,
     0xA3,
     0x24,
@@ -213,9 +213,9 @@ pub struct TextPut {
 }
 
 // The character of a code that follows an escape; `replaced` is 1 where it is none of the extension table, else 0.
-struct AfterEscape {
-    character: u16,
-    replaced: usize,
+pub struct AfterEscape {
+    pub character: u16,
+    pub replaced: usize,
 }
 
 // The row at a place of the extension table.
@@ -227,7 +227,7 @@ pub fn extension_row(place: usize) -> Extension
 }
 
 // The character of a code of the default alphabet.
-fn default_character(alphabet: &[u16; 128], code: u8) -> u16
+pub fn default_character(alphabet: &[u16; 128], code: u8) -> u16
     requires { ⌜ (code < 128) × (now alphabet ≡ defaultAlphabet) ⌝ }
     ensures { λ r. ⌜ r ≡ character code ⌝ }
 {
@@ -235,7 +235,7 @@ fn default_character(alphabet: &[u16; 128], code: u8) -> u16
 }
 
 // The character of a code that follows an escape.
-fn escaped_character(alphabet: &[u16; 128], code: u8) -> AfterEscape
+pub fn escaped_character(alphabet: &[u16; 128], code: u8) -> AfterEscape
     requires { ⌜ (code < 128) × (now alphabet ≡ defaultAlphabet) ⌝ }
     ensures { λ r. ⌜ r ≡ record { character = escaped code; replaced = replaced code } ⌝ }
 {
@@ -257,7 +257,7 @@ fn escaped_character(alphabet: &[u16; 128], code: u8) -> AfterEscape
 }
 
 // The character of a septet of a window.
-fn character_in(alphabet: &[u16; 128], window: u64, index: usize) -> u16
+pub fn character_in(alphabet: &[u16; 128], window: u64, index: usize) -> u16
     requires { ⌜ (index < 8) × (now alphabet ≡ defaultAlphabet) ⌝ }
     ensures { λ r. ⌜ r ≡ character (inWindow window index) ⌝ }
 {
@@ -274,7 +274,7 @@ fn is_plain(alphabet: &[u16; 128], window: u64, index: usize) -> bool
 }
 
 // Whether the first four septets of a window are so.
-fn four_plain(alphabet: &[u16; 128], window: u64) -> bool
+pub fn four_plain(alphabet: &[u16; 128], window: u64) -> bool
     requires { ⌜ now alphabet ≡ defaultAlphabet ⌝ }
     ensures { λ r. ⌜ r ≡ fourPlain window ⌝ }
 {

@@ -415,7 +415,7 @@ pub fn character_at(text: &[u8], at: usize) -> Scalar
 }
 
 // Stores a septet after `count` others, as far as the array goes; their number with it.
-fn add(codes: &mut [u8; 255], count: usize, code: u8) -> usize
+pub fn add(codes: &mut [u8; 255], count: usize, code: u8) -> usize
     requires { ⌜ (count + 1 < 2 ^ 64) × (length (now codes) ≡ 255) ⌝ }
     ensures { λ r. ⌜ Wrote count (code ∷ []) (now (codes .entry)) r (now (codes .exit)) ⌝ }
 {

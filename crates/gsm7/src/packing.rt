@@ -58,7 +58,7 @@ fn put_packed(header: &[u8], codes: &[u8], out: &mut [u8]) -> usize
 }
 
 // The septets packed after a header's octets and its fill bits.
-fn pack_codes(header: &[u8], codes: &[u8], out: &mut [u8]) -> Packed
+pub fn pack_codes(header: &[u8], codes: &[u8], out: &mut [u8]) -> Packed
     requires { ⌜ (length (now header) ≤ 256) × (length (now codes) ≤ 255) × Digits 7 (now codes) ⌝ }
     ensures { λ r. ⌜ (packedSays r, now (out .exit)) ≡ lend notPacked (packedAfter (now (header .entry)) (some (now (codes .entry)))) (now (out .entry)) ⌝ }
 {

@@ -1,7 +1,7 @@
 -- The refusals, by the number that document 01 gives each ("Refused, by number"), and document 02 from 24 on.
 use Prim.Native.Nat.{ℕ}
 use Rattle.octets.specs.declared.Refusal.{Refusal}
-use Rattle.octets.specs.declared.Refusal.the-variants.{LengthTooLarge, OctetsEnd, WrongMessageType, UdhiTooLarge, ValidityFormatDisagrees, NoDestination, UserDataLengthDisagrees, UserDataTooLong, NumberTypeOrPlanTooLarge, NotInAlphabet, AddressTooLong, NotATime, IndicatorDisagrees, IndicatorExtended, UserDataWithoutLength, ParametersWithoutIndicator, HeaderNotWhole, HeaderPassesCount, TooFewOctets, CalendarOutOfRange, ZoneOutOfRange, TooManySeptets, OutputTooShort, ElementPassesHeader, ElementsTooLong, TooManyParts, StoreFull, NotAPart, OutcomeDisagrees, AlphanumericRelayAddress, TooManyRecords, RecipientNotPrintable, StringsTooLarge, BlockNotWhole}
+use Rattle.octets.specs.declared.Refusal.the-variants.{LengthTooLarge, OctetsEnd, WrongMessageType, UdhiTooLarge, ValidityFormatDisagrees, NoDestination, UserDataLengthDisagrees, UserDataTooLong, NumberTypeOrPlanTooLarge, NotInAlphabet, AddressTooLong, NotATime, IndicatorDisagrees, IndicatorExtended, UserDataWithoutLength, ParametersWithoutIndicator, HeaderNotWhole, HeaderPassesCount, TooFewOctets, CalendarOutOfRange, ZoneOutOfRange, TooManySeptets, OutputTooShort, ElementPassesHeader, ElementsTooLong, TooManyParts, StoreFull, NotAPart, OutcomeDisagrees, OddOctets, InNeitherTable, AlphanumericRelayAddress, TooManyRecords, RecipientNotPrintable, StringsTooLarge, BlockNotWhole}
 
 abbrev pub refusalNumber : Refusal → ℕ
 -- a record's length field passes its array, or a text reader's count passes 255
@@ -62,6 +62,10 @@ refusalNumber StoreFull = 27
 refusalNumber NotAPart = 28
 -- the outcome is RP-ERROR without a cause, or RP-ACK with one
 refusalNumber OutcomeDisagrees = 29
+-- the UCS2 has an odd number of octets
+refusalNumber OddOctets = 30
+-- a character is in neither table of the alphabet
+refusalNumber InNeitherTable = 31
 -- a relay address to be written has type of number 5
 refusalNumber AlphanumericRelayAddress = 32
 -- more than 99 records

@@ -413,7 +413,7 @@ fn find_by(store: &[u8], address: SMSAddress, reference: Reference, total: u8) -
 
 // Accepts the part that a DELIVER is, by its fields.
 fn accept_fields(store: &mut [u8], data: &[u8], f: DeliverFields) -> PartAccepted
-    requires { ⌜ (storeOctets ≤ length (now store)) × (fieldsSay (now «data») (DeliverFound.Whole f) ≡ readFrom fields (now «data») 0) × Inside (now «data») (DeliverFound.Whole f) ⌝ }
+    requires { ⌜ (storeOctets ≤ length (now store)) × (fieldsSay (now «data») (DeliverFound.Whole f) ≡ readFrom fields (now «data») 0) × Inside (now «data») 1 (DeliverFound.Whole f) ⌝ }
     ensures { λ r. ⌜ (acceptedSays r, now (store .exit)) ≡ arriving (arrivalOf (delivered (fieldsAt (now («data» .entry)) f))) (now (store .entry)) ⌝ }
 {
     let start = f.data;
@@ -423,13 +423,13 @@ fn accept_fields(store: &mut [u8], data: &[u8], f: DeliverFields) -> PartAccepte
         PartNumber::Unnumbered(r) => refused(r),
         PartNumber::Numbered(reference, total, number) => {
             let sender = address::address_at(data, f.address);
-            let n = sender.address_length;
-            let text = sender.address;
+            let n = sender.address.address_length;
+            let text = sender.address.address;
             let mut key = [0u8; 298];
             let length = put_key(
                 &mut key,
-                sender.ton,
-                sender.npi,
+                sender.address.ton,
+                sender.address.npi,
                 &text[..n],
                 reference,
                 total,
@@ -491,13 +491,14 @@ fn put_text(shown: &mut [u8], at: usize, udl: u8, data: &[u8]) -> usize
     if septets < in_header {
         return at;
     }
-    gsm7::decode::unpack_septets(
+    let put = gsm7::decode::unpack_septets(
         &data[h..],
         in_header * 7 - h * 8,
         septets - in_header,
         shown,
         at,
-    )
+    );
+    put.end
 }
 
 // Puts the octets after a header from `at` on; the place after them.

@@ -45,6 +45,8 @@ relay-write TON NPI HEX      the octets of an address of the relay layer; - - - 
 to-columns HEX HEX ..        the log block of octet strings, by column
 from-columns HEX             the octet strings of a log block
 page HEX ..                  the shift page of status reports
+ucs2-to-gsm7 HEX             the septets of a text, which is given as UCS2
+gsm7-to-ucs2 COUNT HEX       the UCS2 of so many septets
 
 docs/REQUESTS.md has the keys and the answers.
 ",

@@ -59,6 +59,8 @@ pub use submit_report::SubmitReportRead;
 pub use time::Time;
 pub use time::timestamp::TimestampDigits;
 pub use time::timestamp::timestamp_digits;
+pub use ucs2::gsm7_to_ucs2;
+pub use ucs2::ucs2_to_gsm7;
 pub use user_data_header::UnpackedWithHeader;
 pub use user_data_header::pack_gsm7_with_header;
 pub use user_data_header::unpack_gsm7_with_header;

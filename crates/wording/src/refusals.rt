@@ -1,5 +1,5 @@
 // The refusals in words: the name of each, and what it means. In the lists a refusal stands at its number:
-// place 0 is empty, since no refusal has that number, and so are 30 and 31, whose refusals are not here yet.
+// place 0 is empty, since no refusal has that number.
 use output::Output;
 use text_fields::lists::entry;
 use tpdu::Outcome;
@@ -44,8 +44,8 @@ fn put_name(out: &mut Output, at: usize, refusal: u8) -> usize {
         StoreFull\n\
         NotAPart\n\
         OutcomeDisagrees\n\
-        \n\
-        \n\
+        OddOctets\n\
+        InNeitherTable\n\
         AlphanumericRelayAddress\n\
         TooManyRecords\n\
         RecipientNotPrintable\n\
@@ -86,8 +86,8 @@ fn put_meaning(out: &mut Output, at: usize, refusal: u8) -> usize {
         A new message comes while 16 are open\n\
         The user data are no part of a message in parts, or disagree with what is held of it\n\
         The outcome is RP-ERROR without a cause, or RP-ACK with one\n\
-        \n\
-        \n\
+        The UCS2 has an odd number of octets\n\
+        A character is in neither table of the alphabet\n\
         A relay address to be written has type of number 5\n\
         More than 99 records\n\
         A recipient passes 20 octets or holds one outside 20 to 7E\n\

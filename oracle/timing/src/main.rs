@@ -71,6 +71,14 @@ extern "C" {
     ) -> usize;
     fn plain_to_columns(octets: *const u8, lengths: *const usize, count: usize, out: *mut u8) -> usize;
     fn plain_from_columns(block: *const u8, octets: *mut u8, lengths: *mut usize) -> usize;
+    fn tpdu_ucs2_to_gsm7(ucs2: *const u8, length: usize, out: *mut u8, room: usize) -> usize;
+    fn tpdu_gsm7_to_ucs2(
+        data: *const u8,
+        length: usize,
+        septets: usize,
+        out: *mut u8,
+        room: usize,
+    ) -> usize;
     fn tpdu_address(
         ton: u8,
         npi: u8,
@@ -477,6 +485,50 @@ fn time_accepting() {
     row("accept a copy of it; the Rust reads it", rust, copy);
 }
 
+/// UCS2 to septets and back, beside the same text packed and unpacked: by the Rust, and by the port.
+fn time_ucs2(name: &str, text: &str) {
+    let ucs2: Vec<u8> = text.encode_utf16().flat_map(u16::to_be_bytes).collect();
+    let (packed, septets) = pack_gsm7(text).unwrap();
+    let rust = || {
+        pack_gsm7(black_box(text)).unwrap().0.len()
+            + unpack_gsm7(black_box(&packed), septets).unwrap().len()
+    };
+    let mut out = [0u8; 255];
+    let mut as_text = || unsafe {
+        tpdu_pack(
+            black_box(text.as_ptr()),
+            text.len(),
+            black_box(out.as_mut_ptr()),
+            255,
+        ) + tpdu_unpack(black_box(packed.as_ptr()), packed.len(), septets)
+    };
+    agreed(name, rust, &mut as_text);
+    let mut septets_out = [0u8; 255];
+    let mut ucs2_out = [0u8; 510];
+    let mut port = || unsafe {
+        tpdu_ucs2_to_gsm7(
+            black_box(ucs2.as_ptr()),
+            ucs2.len(),
+            black_box(septets_out.as_mut_ptr()),
+            255,
+        ) + tpdu_gsm7_to_ucs2(
+            black_box(packed.as_ptr()),
+            packed.len(),
+            septets,
+            black_box(ucs2_out.as_mut_ptr()),
+            510,
+        )
+    };
+    assert_eq!(port(), packed.len() + ucs2.len(), "{name}: there and back");
+    let rust = timed(rust);
+    row(
+        &format!("UCS2 to {name} and back; the Rust packs and unpacks the text"),
+        rust,
+        timed(&mut port),
+    );
+    row("the same text packed and unpacked by the port", rust, timed(&mut as_text));
+}
+
 fn time_address(name: &str, ton: u8, npi: u8, text: &str) {
     let mut out = [0u8; 12];
     let mut array = [0u8; 290];
@@ -524,6 +576,10 @@ fn main() {
     time_text("mixed text", "Größe: 4 um, 80 € [Rolle 3]. Perché? Cosi è gia {~} detruit; ¿que? Ñandu Åse Øre Ærø. Zwölf Öfen. ");
     time_parts(&"Damp board at reel 3, call the second lead. ".repeat(11)[..459]);
     time_accepting();
+    time_ucs2(
+        "160 septets",
+        &"Damp board at reel 3, call the second lead. ".repeat(4)[..160],
+    );
     time_text("80 extension characters", &"^{}\\[~]|".repeat(10));
     time_address("address of 11 digits", 1, 1, "31624578901");
     time_address("address of type 5", 5, 0, "Wiglanth");

@@ -33,13 +33,13 @@ numbers c = let start = c .before .before .before .before .before .before .befor
 -- the sender
 module _ (c : tie.After-address-at) where
   abbrev sender : SMSAddress
-  sender = c .address-at .result
+  sender = c .address-at .result .address
 
   octets : Octets (now (c .before .before .before .before .before .before .before .before .before .before .args .«data»))
   octets i = c .before .before .before .before .before .before .before .before .shared-slice-known .given i .fits
 
   sender-read : sender ≡ read (c .before .before .before .before .before .before .before .before .before .before) .«tp_originating_address»
-  sender-read = let start = c .before .before .before .before .before .before .before .before .before .before in sender-is (now (start .args .«data»)) (start .args .f) (start .pre .1) octets (start .pre .2 .0) sender (c .address-at .ensures)
+  sender-read = let start = c .before .before .before .before .before .before .before .before .before .before in sender-is (now (start .args .«data»)) (start .args .f) (start .pre .1) octets (start .pre .2 .0) sender (c .address-at .ensures .0)
 
   text-few : sender .«address_length» ≤ 290
   text-few = let start = c .before .before .before .before .before .before .before .before .before .before in rw sender-read (message-fits (now (start .args .«data»)) (start .args .f) (start .pre .1) octets .address-fits)

@@ -14,7 +14,7 @@ use Rattle.reassembly.proofs.accept_part.Statement.{statement}
 use Rattle.reassembly.proofs.accept_part.Tie as tie
 
 -- the fields that were found
-found : (c : tie.After-f) → let s = now (c .before .before .before .before .before .args .«data») in (foundSays s (DeliverFound.Whole (c .f .given .0 .0)) ≡ readFrom fields s 0) × Inside s (DeliverFound.Whole (c .f .given .0 .0))
+found : (c : tie.After-f) → let s = now (c .before .before .before .before .before .args .«data») in (foundSays s (DeliverFound.Whole (c .f .given .0 .0)) ≡ readFrom fields s 0) × Inside s 1 (DeliverFound.Whole (c .f .given .0 .0))
 found c = rw (c .f .given .1) at (c .before .before .fields-of .ensures)
 
 returns : tie.Need-returns

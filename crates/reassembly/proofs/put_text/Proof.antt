@@ -18,7 +18,7 @@ within c = let start = c .before .before .before .before .before in header-withi
 returns-2 : tie.Need-returns-2
 returns-2 c =
     let start = c .before .before .before .before .before .before .before .before .before .before in
-    rw (text-cut (part start) (start .pre .1) (omega (arith, start .fits)) (c .before .before .before .before .before .before .before .header-octets .ensures .0) (c .before .before .before .before .before .before .header-septets .ensures) (c .before .before .before .before .before .if1 .left)) at (c .before .before .unpack-septets .ensures)
+    rw (text-cut (part start) (start .pre .1) (omega (arith, start .fits)) (c .before .before .before .before .before .before .before .header-octets .ensures .0) (c .before .before .before .before .before .before .header-septets .ensures) (c .before .before .before .before .before .if1 .left)) at (c .before .before .unpack-septets .ensures .0)
 
 pub put-text-spec : {M : Type 1} → statement M
 put-text-spec =

@@ -1,0 +1,4 @@
+pub mod Characters
+pub mod Shown
+pub mod Laws
+pub mod Stepwise

@@ -1,0 +1,2 @@
+pub mod Ucs2
+pub mod Shown
