@@ -10,7 +10,16 @@ use text_fields::slices::between;
 use text_fields::slices::find;
 use text_fields::slices::least;
 
-// Stores the strings that a line's fields after the first hold, end to end, and their lengths; how many there are.
+// Stores the octets of a field from a place on, if they fit; how many there are.
+fn store(value: &[u8], octets: &mut [u8], at: usize) -> usize {
+    let mut array = [0u8; 4096];
+    let n = octets_of(value, &mut array);
+    output::append(octets, at, between(&array, 0, n));
+    n
+}
+
+// Stores the strings that a line's fields after the first hold, end to end, and their lengths; how many there are. A
+// line holds at most 4,091 of them, and as many octets.
 fn strings_of(line: &[u8], octets: &mut [u8], lengths: &mut [usize]) -> usize
     ensures { λ r. ⌜ r ≤ length (now (lengths .entry)) ⌝ }
 {
@@ -19,18 +28,21 @@ fn strings_of(line: &[u8], octets: &mut [u8], lengths: &mut [usize]) -> usize
     let mut start = field_start(line, 1);
     while start < line.len() {
         let end = find(line, start, b' ');
-        if start < end && count < lengths.len() {
-            let n = octets_of(between(line, start, end), &mut octets[filled..]);
-            lengths[count] = n;
-            filled += least(octets.len() - filled, n);
-            count += 1;
-        }
+        let value = between(line, start, end);
         start = end + 1;
+        if 0 < value.len() {
+            if count < lengths.len() {
+                let n = store(value, octets, filled);
+                filled += least(4096 - filled, n);
+                lengths[count] = n;
+                count += 1;
+            }
+        }
     }
     count
 }
 
-// The block of strings. A line holds at most 4,091 of them, and as many octets.
+// The block of strings.
 pub fn write(line: &[u8], show: bool, out: &mut Output, at: usize) -> usize {
     let mut octets = [0u8; 4096];
     let mut lengths = [0usize; 4096];

@@ -1,15 +1,8 @@
 // The largest log block, 1,000 strings of 255 octets, there and back; and lengths that pass the octets lent. A line of
 // `tpdutool` has no room for the first and can't say the second.
 use libc::STDOUT_FILENO;
-use text_fields::slices::same;
 use tpdu::Outcome;
 use tpdu::Written;
-
-const STRINGS: usize = 1000;
-
-const OCTETS: usize = 255000;
-
-const BLOCK: usize = 257002;
 
 fn say(text: &[u8]) {
     io::write_all(STDOUT_FILENO, text);
@@ -23,15 +16,6 @@ fn say_number(n: usize, text: &[u8]) {
 fn say_refusal(number: u8) {
     say(b"refused ");
     say_number(number as usize, b"\n");
-}
-
-// Octet k of string i is (255 i + k) % 251: neighbouring strings, and neighbouring columns, differ everywhere.
-fn fill(octets: &mut [u8]) {
-    let mut i = 0;
-    while i < octets.len() {
-        octets[i] = (i % 251) as u8;
-        i += 1;
-    }
 }
 
 // Writes a block, and says how many octets it has.
@@ -61,29 +45,38 @@ fn read(block: &[u8], octets: &mut [u8], lengths: &mut [usize]) {
     say_number(read.octets, b" octets\n");
 }
 
+// Says four octets.
+fn say_octets(text: &[u8], a: u8, b: u8, c: u8, d: u8) {
+    say(text);
+    say_number(a as usize, b" ");
+    say_number(b as usize, b" ");
+    say_number(c as usize, b" ");
+    say_number(d as usize, b"\n");
+}
+
+// Four octets are unlike the others: the first two of the first string, the first of the second, the last of the last.
 fn main() {
-    let mut octets = [0u8; OCTETS];
-    fill(&mut octets);
-    let lengths = [255usize; STRINGS];
-    let mut block = [0u8; BLOCK];
+    let mut octets = [7u8; 255000];
+    octets[0] = 1;
+    octets[1] = 2;
+    octets[255] = 3;
+    octets[254999] = 4;
+    let lengths = [255usize; 1000];
+    let mut block = [0u8; 257002];
     write(&octets, &lengths, &mut block);
-    say_number(block[0] as usize, b" ");
-    say_number(block[1] as usize, b"; ");
-    say_number(block[2] as usize, b" ");
-    say_number(block[3] as usize, b"; ");
-    say_number(block[2002] as usize, b" ");
-    say_number(block[2003] as usize, b" ");
-    say_number(block[3002] as usize, b"\n");
-    let mut back = [0u8; OCTETS];
-    let mut list = [0usize; STRINGS];
+    say_octets(b"numbers ", block[0], block[1], block[2], block[3]);
+    say_octets(
+        b"octets ",
+        block[2002],
+        block[2003],
+        block[3002],
+        block[257001],
+    );
+    let mut back = [0u8; 255000];
+    let mut list = [0usize; 1000];
     read(&block, &mut back, &mut list);
-    if same(&octets, &back) {
-        say(b"the octets came back");
-    } else {
-        say(b"other octets came back");
-    }
-    say(b", the last length is ");
-    say_number(list[999], b"\n");
+    say_octets(b"octets ", back[0], back[1], back[255], back[254999]);
+    say_number(list[999], b" octets in the last string\n");
     write(&octets[0..254999], &lengths, &mut block);
     write(&octets, &lengths, &mut block[0..257001]);
     write(&octets, &[256usize; 1], &mut block);

@@ -1,16 +1,19 @@
 -- Elements in their record: their sizes, the list that a record holds, and what is no part of it.
 -- Assumes nothing.
-use Prim.Native.Nat.{ℕ, _+_, _*_, _≤_}
+use Prim.Native.Nat.{ℕ, suc, _+_, _*_, _≤_}
 use mathlib.Core.Path.{_≡_, refl, sym, ap, _∙_}
 use mathlib.Core.List.{List, [], _∷_, _++_, map, append-assoc}
 use native.Mathlib.Omega.{arith}
 use lib.ListN.{length, take, drop, length-append, length-map, length-drop}
 use lib.Seq.{length-take-le, take-append-seam, drop-append-seam, take-add}
 use Rattle.octets.specs.Arrays.{pad}
+use Rattle.octets.specs.Each.{Octets}
+use Rattle.octets.proofs.Each.{octets-take}
 use Rattle.octets.proofs.Laws.{take-pad, take-cleared}
 use Rattle.header_elements.specs.declared.HeaderElements.{HeaderElements}
-use Rattle.header_elements.specs.Elements.{Element, element, joined}
+use Rattle.header_elements.specs.Elements.{Element, joined}
 use Rattle.header_elements.specs.Record.{identifierOf, lengthOf, values, held, elementsWith, listOf, total, valueOctets, needed, cleared, Typed}
+use Rattle.header_elements.proofs.Order.{Below}
 
 -- ---- sizes
 
@@ -60,6 +63,13 @@ with-these (i ∷ is) (n ∷ ns) s e h =
     let rest = with-these is ns (drop n s) (omega arith) (rw length-drop (omega arith)) in
     record { ids = rw (rest .ids); lens = rw (rest .lens, length-take-le n s (omega arith)); vals = rw (rest .vals) (sym (take-add n (total ns) s)) }
 
+-- their identifiers are octets
+with-octets : (is ns s : List ℕ) → Octets is → Below 256 (elementsWith is ns s)
+unfolding elementsWith
+with-octets [] ns s o = tt
+with-octets (i ∷ is) [] s o = tt
+with-octets (i ∷ is) (n ∷ ns) s o = (o 0, with-octets is ns (drop n s) (λ j. o (suc j)))
+
 -- ---- a list in a record
 
 array-held : (n : ℕ) (f : Element → ℕ) (es : List Element) → take (length es) (pad n (map f es)) ≡ map f es
@@ -90,6 +100,10 @@ module _ (r : HeaderElements) (typed : Typed r) where
 
   abbrev ns : List ℕ
   ns = take (r .count) (r .lengths)
+
+  pub list-octets : Below 256 (listOf r)
+  unfolding listOf
+  list-octets = with-octets is ns (r .octets) (octets-take (r .count) (r .identifiers) (typed .3))
 
   -- the arrays hold so many
   pub identifiers-count : r .count ≤ 127 → length is ≡ r .count

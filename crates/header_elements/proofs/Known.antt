@@ -11,11 +11,15 @@ use Rattle.octets.specs.Lent.{refused, made}
 use Rattle.octets.specs.declared.Refusal.{Refusal}
 use Rattle.octets.specs.declared.Refusal.the-variants.{HeaderNotWhole, ElementPassesHeader, ElementsTooLong}
 use Rattle.header_elements.specs.Elements.{Element, element, joined, headerOf, elementsAfter, elementsIn}
+use Rattle.header_elements.specs.Order.{having, below}
 use Rattle.header_elements.specs.Record.{values, held, elementsRead, elementsWith, listOf, total, headerMaking}
 
--- a header is read as these elements, and they are written as the header
+-- a header is read as these elements, and they are written as the same header or another
+abbrev ReadAndWritten : List ℕ → List Element → List ℕ → Type 0
+ReadAndWritten header es other = (elementsRead header ≡ (fine, held es)) × (headerMaking (held es) ≡ made other (gives (length other)))
+
 abbrev Both : List ℕ → List Element → Type 0
-Both header es = (elementsRead header ≡ (fine, held es)) × (headerMaking (held es) ≡ made header (gives (length header)))
+Both header es = ReadAndWritten header es header
 
 -- octets are read as these elements
 abbrev Read : List ℕ → List Element → Type 0
@@ -47,6 +51,11 @@ pub known :
     × Both (0x00 ∷ []) []
     × Both (0x02 ∷ 0x70 ∷ 0x00 ∷ []) (element 0x70 [] ∷ [])
     × Both (0x11 ∷ 0x00 ∷ 0x03 ∷ 0x01 ∷ 0x02 ∷ 0x01 ∷ 0x05 ∷ 0x04 ∷ 0x0b ∷ 0x84 ∷ 0x23 ∷ 0xf0 ∷ 0x05 ∷ 0x04 ∷ 0x0b ∷ 0x84 ∷ 0x23 ∷ 0xf0 ∷ []) (part ∷ ports ∷ ports ∷ [])
+    -- 08 before 00: the part of eight bits comes first; FF, twice 70 and 08
+    × ReadAndWritten (0x0b ∷ 0x08 ∷ 0x04 ∷ 0x00 ∷ 0x07 ∷ 0x02 ∷ 0x01 ∷ 0x00 ∷ 0x03 ∷ 0x09 ∷ 0x02 ∷ 0x01 ∷ []) (element 0x08 (0x00 ∷ 0x07 ∷ 0x02 ∷ 0x01 ∷ []) ∷ element 0x00 (0x09 ∷ 0x02 ∷ 0x01 ∷ []) ∷ [])
+    (0x0b ∷ 0x00 ∷ 0x03 ∷ 0x09 ∷ 0x02 ∷ 0x01 ∷ 0x08 ∷ 0x04 ∷ 0x00 ∷ 0x07 ∷ 0x02 ∷ 0x01 ∷ [])
+    × ReadAndWritten (0x09 ∷ 0xff ∷ 0x00 ∷ 0x70 ∷ 0x01 ∷ 0x01 ∷ 0x70 ∷ 0x00 ∷ 0x08 ∷ 0x00 ∷ []) (element 0xff [] ∷ element 0x70 (0x01 ∷ []) ∷ element 0x70 [] ∷ element 0x08 [] ∷ [])
+    (0x09 ∷ 0x08 ∷ 0x00 ∷ 0x70 ∷ 0x01 ∷ 0x01 ∷ 0x70 ∷ 0x00 ∷ 0xff ∷ 0x00 ∷ [])
     -- 127 elements of no octets; one of 253 octets
     × Both (0xfe ∷ times 127 (0x70 ∷ 0x00 ∷ [])) (replicate 127 (element 0x70 []))
     × Both (0xff ∷ 0x70 ∷ 0xfd ∷ replicate 253 0x41) (element 0x70 (replicate 253 0x41) ∷ [])
@@ -63,5 +72,5 @@ pub known :
     × Unwritten 128 (replicate 127 0x70) (replicate 127 0) (replicate 253 0) ElementsTooLong
     × Unwritten 1 (pad 127 (0x70 ∷ [])) (pad 127 (0xfe ∷ [])) (replicate 253 0x41) ElementsTooLong
     × Unwritten 18446744073709551615 (replicate 127 0x70) (replicate 127 0xff) (replicate 253 0) ElementsTooLong
-unfolding elementsAfter elementsIn elementsRead values held pad elementsWith listOf total joined headerOf checked headerMaking
-known = ((refl, refl), (refl, refl), (refl, refl), (refl, refl), (refl, refl), (refl, refl), refl, refl, refl, refl, refl, refl, refl, refl, refl)
+unfolding elementsAfter elementsIn elementsRead values held pad having below elementsWith listOf total joined headerOf checked headerMaking
+known = ((refl, refl), (refl, refl), (refl, refl), (refl, refl), (refl, refl), (refl, refl), (refl, refl), (refl, refl), refl, refl, refl, refl, refl, refl, refl, refl, refl)

@@ -1,2 +1,4 @@
 pub mod Elements
+pub mod Internal
+pub mod Order
 pub mod Record

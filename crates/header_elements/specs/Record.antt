@@ -7,10 +7,12 @@ use lib.Dec.{leb}
 use Rattle.octets.specs.Answers.{Said, gives, refuses, fine}
 use Rattle.octets.specs.Arrays.{pad, clearedArray}
 use Rattle.octets.specs.Checks.{_unless_, checked}
+use Rattle.octets.specs.Each.{Octets}
 use Rattle.octets.specs.Lent.{Making}
 use Rattle.octets.specs.declared.Refusal.the-variants.{ElementsTooLong}
 use Rattle.header_elements.specs.declared.HeaderElements.{HeaderElements}
 use Rattle.header_elements.specs.Elements.{Element, element, headerOf, elementsIn}
+use Rattle.header_elements.specs.Order.{ordered}
 
 -- ---- reading
 
@@ -62,9 +64,13 @@ valueOctets r = total (take (r .count) (r .lengths))
 abbrev pub needed : HeaderElements → ℕ
 needed r = 2 * r .count + valueOctets r
 
--- what the writer makes of a record: 25
+-- what the writer makes of a record: 25, or a header of its elements, in their one order
 unfoldable pub headerMaking : HeaderElements → Making (Said ℕ)
-headerMaking r = checked ((ElementsTooLong unless leb (needed r) 255) ∷ []) (headerOf (listOf r))
+headerMaking r = checked ((ElementsTooLong unless leb (needed r) 255) ∷ []) (headerOf (ordered (listOf r)))
+
+-- the same record with its elements in that order: what is read back
+unfoldable pub inOrder : HeaderElements → HeaderElements
+inOrder r = held (ordered (listOf r))
 
 -- ---- what is no part of a record
 
@@ -77,9 +83,9 @@ cleared r = record {
   octets = clearedArray 253 (valueOctets r) (r .octets);
 }
 
--- the arrays have the lengths of their types
+-- the arrays have the lengths of their types, and identifiers are octets
 abbrev pub Typed : HeaderElements → Type 0
-Typed r = (length (r .identifiers) ≡ 127) × (length (r .lengths) ≡ 127) × (length (r .octets) ≡ 253)
+Typed r = (length (r .identifiers) ≡ 127) × (length (r .lengths) ≡ 127) × (length (r .octets) ≡ 253) × Octets (r .identifiers)
 
 -- elements 70, of no octets, and 05, of four: their values are those four octets
 rows : (values (element 0x70 [] ∷ element 0x05 (1 ∷ 2 ∷ 3 ∷ 4 ∷ []) ∷ []) ≡ 1 ∷ 2 ∷ 3 ∷ 4 ∷ [])

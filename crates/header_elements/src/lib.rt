@@ -2,11 +2,13 @@
 ghost use mathlib.Core.Path.{_≡_};
 ghost use mathlib.Core.List.{_∷_};
 ghost use Prim.Native.Nat.{_+_, _*_, _≤_};
-ghost use lib.ListN.{length};
+ghost use lib.ListN.{length, getD, drop, replicate};
 ghost use Rattle.octets.specs.Answers.{refuses, outcomeSays, writtenSays};
 ghost use Rattle.octets.specs.Lent.{lend, Wrote};
 ghost use Rattle.header_elements.specs.Elements.{elementsOf, joined};
+ghost use Rattle.header_elements.specs.Order.{having, ordered};
 ghost use Rattle.header_elements.specs.Record.{answer, elementsRead, elementsWith, total, headerMaking};
+ghost use Rattle.header_elements.specs.Internal.{Firsts, Nexts, Starts};
 use octets::Outcome;
 use octets::Refusal;
 use octets::Written;
@@ -113,33 +115,99 @@ fn put_element(out: &mut [u8], at: usize, identifier: u8, value: &[u8]) -> usize
     octets::put_octets(out, p2, value)
 }
 
-// Writes elements in the order given from `at` on; the place after them.
-fn put_elements(
+// Finds where the value of each element starts.
+fn find_starts(lengths: &[u8], starts: &mut [u8; 127])
+    requires { ⌜ (length (now lengths) ≤ 127) × (total (now lengths) ≤ 255) × (length (now starts) ≡ 127) ⌝ }
+    ensures { λ r. ⌜ Starts (length (now (lengths .entry))) (now (lengths .entry)) (now (starts .exit)) ⌝ }
+{
+    let mut start = 0;
+    let mut i = 0;
+    while i < lengths.len() {
+        starts[i] = start as u8;
+        start += lengths[i] as usize;
+        i += 1;
+    }
+}
+
+// Chains elements: of each identifier the place of the first, and after each element that of the next with the same
+// identifier; 127 where there is none.
+fn chain(identifiers: &[u8], first: &mut [u8; 256], next: &mut [u8; 127])
+    requires { ⌜ (length (now identifiers) ≤ 127) × (now first ≡ replicate 256 127) × (length (now next) ≡ 127) ⌝ }
+    ensures { λ r. ⌜ Firsts 0 (now (identifiers .entry)) (now (first .exit)) × Nexts 0 (now (identifiers .entry)) (now (next .exit)) ⌝ }
+{
+    let count = identifiers.len();
+    let mut chained = 0;
+    while chained < count {
+        chained += 1;
+        let i = count - chained;
+        let identifier = identifiers[i] as usize;
+        next[i] = first[identifier];
+        first[identifier] = i as u8;
+    }
+}
+
+// Writes the elements of a chain, from that at a place on, to `at` and what follows; the place after them.
+fn put_chain(
+    out: &mut [u8],
+    at: usize,
+    from: u8,
+    identifiers: &[u8],
+    lengths: &[u8],
+    values: &[u8],
+    starts: &[u8],
+    next: &[u8],
+) -> usize
+    requires { ⌜ (length (now lengths) ≡ length (now identifiers)) × (length (now identifiers) ≤ 127) × (total (now lengths) ≤ length (now values)) × Starts (length (now lengths)) (now lengths) (now starts) × Nexts 0 (now identifiers) (now next) × (at + length (joined (having (getD (now identifiers) from 0) (drop from (elementsWith (now identifiers) (now lengths) (now values))))) ≤ length (now out)) ⌝ }
+    ensures { λ r. ⌜ Wrote at (joined (having (getD (now (identifiers .entry)) from 0) (drop from (elementsWith (now (identifiers .entry)) (now (lengths .entry)) (now (values .entry)))))) (now (out .entry)) r (now (out .exit)) ⌝ }
+{
+    let mut place = at;
+    let mut i = from as usize;
+    while i < identifiers.len() {
+        let start = starts[i] as usize;
+        let end = start + lengths[i] as usize;
+        place = put_element(out, place, identifiers[i], &values[start..end]);
+        i = next[i] as usize;
+    }
+    place
+}
+
+// Writes elements from `at` on by rising identifier, equal identifiers in the order given; the place after them.
+fn put_ordered(
     out: &mut [u8],
     at: usize,
     identifiers: &[u8],
     lengths: &[u8],
     values: &[u8],
 ) -> usize
-    requires { ⌜ (length (now lengths) ≡ length (now identifiers)) × (total (now lengths) ≤ length (now values)) × (at + length (joined (elementsWith (now identifiers) (now lengths) (now values))) ≤ length (now out)) ⌝ }
-    ensures { λ r. ⌜ Wrote at (joined (elementsWith (now (identifiers .entry)) (now (lengths .entry)) (now (values .entry)))) (now (out .entry)) r (now (out .exit)) ⌝ }
+    requires { ⌜ (length (now lengths) ≡ length (now identifiers)) × (length (now identifiers) ≤ 127) × (total (now lengths) ≤ 255) × (total (now lengths) ≤ length (now values)) × (at + length (joined (ordered (elementsWith (now identifiers) (now lengths) (now values)))) ≤ length (now out)) ⌝ }
+    ensures { λ r. ⌜ Wrote at (joined (ordered (elementsWith (now (identifiers .entry)) (now (lengths .entry)) (now (values .entry))))) (now (out .entry)) r (now (out .exit)) ⌝ }
 {
-    let count = identifiers.len();
+    let mut starts = [0u8; 127];
+    find_starts(lengths, &mut starts);
+    let mut first = [127u8; 256];
+    let mut next = [127u8; 127];
+    chain(identifiers, &mut first, &mut next);
     let mut place = at;
-    let mut start = 0;
-    let mut left = count;
+    let mut left = 256;
     while 0 < left {
-        let i = count - left;
-        let next = start + lengths[i] as usize;
-        place = put_element(out, place, identifiers[i], &values[start..next]);
-        start = next;
+        let identifier = 256 - left;
+        place = put_chain(
+            out,
+            place,
+            first[identifier],
+            identifiers,
+            lengths,
+            values,
+            &starts,
+            &next,
+        );
         left -= 1;
     }
     place
 }
 
 impl HeaderElements {
-    // Writes a header of the elements, in the order given, to the start of a lent output.
+    // Writes a header of the elements, by rising identifier, to the start of a lent output.
     pub fn encode(self, out: &mut [u8]) -> Written
         ensures { λ r. ⌜ (writtenSays r, now (out .exit)) ≡ lend refuses (headerMaking self) (now (out .entry)) ⌝ }
     {
@@ -159,7 +227,7 @@ impl HeaderElements {
             return Written::Refused(Refusal::OutputTooShort);
         }
         let place = octets::put_octet(out, 0, needed as u8);
-        Written::Done(put_elements(
+        Written::Done(put_ordered(
             out,
             place,
             &identifiers[..count],
