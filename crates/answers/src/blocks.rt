@@ -1,6 +1,4 @@
 // The requests for log blocks by column: octet strings rearranged, and back.
-ghost use Prim.Native.Nat.{_≤_};
-ghost use lib.ListN.{length};
 use crate::fields;
 use crate::fields::unless_refused;
 use output::Output;
@@ -20,9 +18,7 @@ fn store(value: &[u8], octets: &mut [u8], at: usize) -> usize {
 
 // Stores the strings that a line's fields after the first hold, end to end, and their lengths; how many there are. A
 // line holds at most 4,091 of them, and as many octets.
-fn strings_of(line: &[u8], octets: &mut [u8], lengths: &mut [usize]) -> usize
-    ensures { λ r. ⌜ r ≤ length (now (lengths .entry)) ⌝ }
-{
+fn strings_of(line: &[u8], octets: &mut [u8], lengths: &mut [usize]) -> usize {
     let mut filled = 0;
     let mut count = 0;
     let mut start = field_start(line, 1);
@@ -42,13 +38,23 @@ fn strings_of(line: &[u8], octets: &mut [u8], lengths: &mut [usize]) -> usize
     count
 }
 
+// The lengths from `start` to `end`; none where there are no such lengths.
+fn lengths_between(lengths: &[usize], start: usize, end: usize) -> &[usize] {
+    if end <= lengths.len() {
+        if start <= end {
+            return &lengths[start..end];
+        }
+    }
+    &lengths[..0]
+}
+
 // The block of strings.
 pub fn write(line: &[u8], show: bool, out: &mut Output, at: usize) -> usize {
     let mut octets = [0u8; 4096];
     let mut lengths = [0usize; 4096];
     let count = strings_of(line, &mut octets, &mut lengths);
     let mut lent = [0u8; 8192];
-    let w = tpdu::to_columns(&octets, &lengths[..count], &mut lent);
+    let w = tpdu::to_columns(&octets, lengths_between(&lengths, 0, count), &mut lent);
     fields::written_to(out, at, w, &lent, show)
 }
 
@@ -81,7 +87,11 @@ pub fn read(block: &[u8], show: bool, out: &mut Output, at: usize) -> usize {
     let read = tpdu::from_columns(block, &mut octets, &mut lengths);
     let outcome = read.outcome;
     let start = output::put(out, at, b"ok");
-    let count = least(1000, read.strings);
-    let next = put_strings(out, start, &octets, &lengths[..count]);
+    let next = put_strings(
+        out,
+        start,
+        &octets,
+        lengths_between(&lengths, 0, read.strings),
+    );
     unless_refused(out, at, next, outcome, show)
 }

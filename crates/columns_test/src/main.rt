@@ -54,6 +54,32 @@ fn say_octets(text: &[u8], a: u8, b: u8, c: u8, d: u8) {
     say_number(d as usize, b"\n");
 }
 
+// The first n octets.
+fn first(octets: &[u8], n: usize) -> &[u8] {
+    if n <= octets.len() {
+        return &octets[0..n];
+    }
+    octets
+}
+
+// One octet too few is lent, then one too few for the block; then a string has 256 octets.
+fn not_written(octets: &[u8], lengths: &[usize], block: &mut [u8]) {
+    let mut less = [0u8; 257001];
+    let long = [256usize; 1];
+    write(first(octets, 254999), lengths, block);
+    write(octets, lengths, &mut less);
+    write(octets, &long, block);
+}
+
+// The block lacks its last octet; then room for an octet is missing, then room for a length.
+fn not_read(block: &[u8], octets: &mut [u8], lengths: &mut [usize]) {
+    let mut less = [0u8; 254999];
+    let mut fewer = [0usize; 999];
+    read(first(block, 257001), octets, lengths);
+    read(block, &mut less, lengths);
+    read(block, octets, &mut fewer);
+}
+
 // Four octets are unlike the others: the first two of the first string, the first of the second, the last of the last.
 fn main() {
     let mut octets = [7u8; 255000];
@@ -77,10 +103,6 @@ fn main() {
     read(&block, &mut back, &mut list);
     say_octets(b"octets ", back[0], back[1], back[255], back[254999]);
     say_number(list[999], b" octets in the last string\n");
-    write(&octets[0..254999], &lengths, &mut block);
-    write(&octets, &lengths, &mut block[0..257001]);
-    write(&octets, &[256usize; 1], &mut block);
-    read(&block[0..257001], &mut back, &mut list);
-    read(&block, &mut back[0..254999], &mut list);
-    read(&block, &mut back, &mut list[0..999]);
+    not_written(&octets, &lengths, &mut block);
+    not_read(&block, &mut back, &mut list);
 }

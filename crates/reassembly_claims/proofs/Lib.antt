@@ -8,3 +8,4 @@ pub mod Made
 pub mod Unchanged
 pub mod Sizes
 pub mod Claims
+pub mod Known

@@ -6,6 +6,7 @@ mod request;
 use libc::STDOUT_FILENO;
 use text_fields::slices::between;
 use text_fields::slices::same;
+use tpdu::ALPHABET_OCTETS;
 
 // How the program is used.
 fn say_usage() {
@@ -15,6 +16,8 @@ fn say_usage() {
 tpdutool         answers requests on standard input, a line each, with a line each
 tpdutool show    answers for people, several lines a message
 tpdutool page    prints the shift page of the status reports on standard input
+tpdutool alphabet
+                 prints the default alphabet and its extension table, a line for each code
 tpdutool help    says this
 
 deliver HEX, submit HEX, submit-report-ack HEX, submit-report-error HEX,
@@ -53,15 +56,22 @@ docs/REQUESTS.md has the keys and the answers.
     );
 }
 
-// Without an argument it answers requests, with `show` for people; with `page` it prints a page; else it says how it is
-// used.
+// The default alphabet and its extension table, a line for each code.
+fn print_alphabet() {
+    let mut lines = [0u8; ALPHABET_OCTETS];
+    tpdu::alphabet_lines(&mut lines);
+    io::write_all(STDOUT_FILENO, &lines);
+}
+
+// Without an argument it answers requests, with `show` for people; with `page` it prints a page, with `alphabet` the
+// alphabet; else it says how it is used.
 pub fn run() {
     let count = os::arg_count();
     if count <= 1 {
         lines::answer_requests(false);
         return;
     }
-    let mut argument = [0u8; 8];
+    let mut argument = [0u8; 16];
     let n = os::arg(1, &mut argument);
     if count == 2 && same(between(&argument, 0, n), b"show") {
         lines::answer_requests(true);
@@ -69,6 +79,10 @@ pub fn run() {
     }
     if count == 2 && same(between(&argument, 0, n), b"page") {
         page::print_page();
+        return;
+    }
+    if count == 2 && same(between(&argument, 0, n), b"alphabet") {
+        print_alphabet();
         return;
     }
     say_usage();

@@ -47,9 +47,10 @@ fn next_line(input: &mut Output, line: &mut Line, from: usize, end: usize) -> Cu
     let mut stop = end;
     let mut turns = u64::MAX;
     while turns > 0 {
-        let feed = find(between(input, 0, stop), start, b'\n');
-        length = add(line, length, between(input, start, feed));
-        if feed < stop {
+        let held = between(input, 0, stop);
+        let feed = find(held, start, b'\n');
+        length = add(line, length, between(held, start, feed));
+        if feed < held.len() {
             return Cut {
                 length: without_cr(line, length),
                 is_there: true,
@@ -92,7 +93,8 @@ fn against_line(line: &[u8], length: usize) -> usize {
     reasons::against_fields(b"wo", line)
 }
 
-fn report_of(line: &[u8], length: usize) -> Report {
+fn report_of(held: &Line, length: usize) -> Report {
+    let line = between(held, 0, length);
     let read = read_report(last_field(line));
     let outcome = read.outcome;
     let message = read.message;
@@ -173,7 +175,7 @@ fn read_shift(out: &mut Output) -> Shift {
         from = cut.from;
         end = cut.end;
         number += 1;
-        let report = report_of(between(&line, 0, cut.length), cut.length);
+        let report = report_of(&line, cut.length);
         let reason = report.reason;
         let refusal = report.refusal;
         let message = report.message;
@@ -198,7 +200,8 @@ fn read_shift(out: &mut Output) -> Shift {
 pub fn print_page() {
     let mut out = io::large_buffer();
     let shift = read_shift(&mut out);
+    let reports = shift.reports;
     let mut lent = [0u8; 3939];
-    let w = tpdu::shift_page(shift.reports, shift.count, &mut lent);
+    let w = tpdu::shift_page(reports, shift.count, &mut lent);
     print(w, &lent, shift.told, &mut out);
 }

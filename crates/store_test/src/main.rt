@@ -106,6 +106,22 @@ fn all_refused(store: &mut [u8]) {
     drop(store);
 }
 
+fn say_octets(a: u8, b: u8) {
+    say_number(a as usize, b" ");
+    say_number(b as usize, b"\n");
+}
+
+// The message of one part, accepted and taken: not into one octet, then into two, then no more.
+fn whole(store: &mut [u8]) {
+    let mut one = [0u8; 1];
+    let mut out = [0u8; 2];
+    accept(store);
+    take(store, &mut one);
+    take(store, &mut out);
+    say_octets(out[0], out[1]);
+    take(store, &mut out);
+}
+
 fn main() {
     let mut short = [0u8; 37695];
     say(b"a store of 37,695 octets\n");
@@ -128,11 +144,5 @@ fn main() {
     all_refused(&mut store);
     say(b"it is not open\n");
     store[35340] = 0;
-    accept(&mut store);
-    let mut out = [0u8; 2];
-    take(&mut store, &mut out[..1]);
-    take(&mut store, &mut out);
-    say_number(out[0] as usize, b" ");
-    say_number(out[1] as usize, b"\n");
-    take(&mut store, &mut out);
+    whole(&mut store);
 }

@@ -1,6 +1,8 @@
 // SMS transfer-layer codec (TS 23.040, TS 23.038), the face: every public function and type, nothing else. What the Rust
 // crate tpdu has too stands under its names.
 pub use address::SMSAddress;
+pub use alphabet_table::ALPHABET_OCTETS;
+pub use alphabet_table::alphabet_lines;
 pub use canonical::canonical_deliver;
 pub use canonical::canonical_deliver_report_ack;
 pub use canonical::canonical_deliver_report_error;
