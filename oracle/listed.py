@@ -4,9 +4,12 @@ Each rule says of a request, and of the Rust's answer to it, what the port has t
 port's arrays have fixed sizes and its counts stop at 255; the Rust's don't.
 """
 
+import outcome
+
 TOO_LARGE = b"refused 1 LengthTooLarge"
 TOO_MANY = b"refused 22 TooManySeptets"
 TOO_SHORT = b"refused 23 OutputTooShort"
+DISAGREES = b"refused 29 OutcomeDisagrees"
 ALPHANUMERIC = b"refused 32 AlphanumericRelayAddress"
 
 ADDRESS_ARRAY = 290
@@ -22,6 +25,7 @@ NAMES = {
     "c": "a value is longer than the port's array",
     "d": "the octets don't fit the lent output",
     "e": "type of number is 5 in a relay address, which the Rust refuses in words without a number",
+    "f": "a report's outcome isn't that of its cause, which the Rust's record doesn't hold",
 }
 
 
@@ -38,6 +42,8 @@ def expected(request, answer):
     if name in (b"address", b"relay-write") or name.startswith(b"enc-"):
         if answer.startswith(b"refused ") and past_array(name, fields):
             return "c", TOO_LARGE
+    if name.startswith(b"enc-") and outcome_disagrees(fields[1:]):
+        return "f", DISAGREES
     if name == b"relay-write" and answer == b"refused -":
         return "e", ALPHANUMERIC
     if answer.startswith(b"ok ") and b"=" not in answer and (len(answer) - 3) // 2 > LENT:
@@ -63,6 +69,11 @@ def past_array(name, fields):
     if name == b"relay-write":
         return octets(fields[3]) > RELAY_ARRAY
     return any(value_past_array(*field.split(b"=", 1)) for field in fields[1:])
+
+
+def outcome_disagrees(fields):
+    values = dict(field.split(b"=", 1) for field in fields)
+    return b"outcome" in values and values[b"outcome"].decode() != outcome.agreeing(values[b"fcs"].decode())
 
 
 def value_past_array(key, value):
