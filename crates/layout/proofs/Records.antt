@@ -3,10 +3,10 @@
 use Prim.Native.Nat.{ℕ}
 use mathlib.Core.Path.{_≡_, refl, _∙_}
 use mathlib.Core.Bool.{Bool, true, false}
-use mathlib.Core.List.{List}
-use Rattle.octets.specs.Answers.{Said}
+use mathlib.Core.List.{List, []}
 use Rattle.octets.specs.Choice.{if_then_else_}
-use Rattle.layout.specs.Layout.{Format, done, _then_, Reached, reached, halted, reading, readFrom, answer, Layout, plain, stopping, stops, read, records}
+use Rattle.gsm7.specs.Reading.{replacedInAll}
+use Rattle.layout.specs.Layout.{Format, done, _then_, Reached, reached, halted, reading, readFrom, answer, replacedOf, Layout, plain, stopping, stops, read, records}
 use Rattle.layout.proofs.Steps.{goOn, one-by-one}
 
 module _ {A R : Type 0} (make : A → R) where
@@ -36,3 +36,9 @@ module _ {A R : Type 0} (make : A → R) where
   pub answer-records : (blank : A) (r : Reached A) → answer (make blank) (onward r) ≡ (answer blank r .0, make (answer blank r .1))
   answer-records blank (reached x n) = refl
   answer-records blank (halted why) = refl
+
+-- where nothing is read as text no escape is replaced
+pub no-texts : {R : Type 0} (r : Reached R) → replacedOf (λ q. []) r ≡ 0
+unfolding replacedInAll
+no-texts (reached q n) = refl
+no-texts (halted why) = refl

@@ -54,6 +54,11 @@ pub check-holds : {holds : Bool} → holds ≡ true → (why : Refusal) (checks 
 unfolding checked
 check-holds e why checks xs = rw e
 
+-- one that fails refuses
+pub check-fails : {holds : Bool} → holds ≡ false → (why : Refusal) (checks : List Check) (xs : List ℕ) → checked ((why unless holds) ∷ checks) xs ≡ refused why
+unfolding checked
+check-fails e why checks xs = rw e
+
 pub no-checks : (xs : List ℕ) → checked [] xs ≡ made xs (gives (length xs))
 unfolding checked
 no-checks xs = refl
