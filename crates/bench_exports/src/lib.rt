@@ -56,9 +56,7 @@ pub extern "C" fn tpdu_read_deliver(data: &[u8]) -> usize
 {
     let read = SmsDeliver::decode(data);
     let outcome = read.outcome;
-    let message = read.message;
-    let ud = message.tp_user_data;
-    taken(outcome, ud.length)
+    taken(outcome, read.message.tp_user_data.length)
 }
 
 // The number of octets read.
@@ -78,9 +76,7 @@ pub extern "C" fn tpdu_read_status_report(data: &[u8]) -> usize
 {
     let read = SmsStatusReport::decode(data);
     let outcome = read.outcome;
-    let message = read.message;
-    let ud = message.tp_user_data;
-    taken(outcome, ud.length)
+    taken(outcome, read.message.tp_user_data.length)
 }
 
 #[no_mangle]
@@ -89,9 +85,7 @@ pub extern "C" fn tpdu_read_submit_report(data: &[u8]) -> usize
 {
     let read = SmsSubmitReport::decode_for_rp_ack(data);
     let outcome = read.outcome;
-    let message = read.message;
-    let ud = message.tp_user_data;
-    taken(outcome, ud.length)
+    taken(outcome, read.message.tp_user_data.length)
 }
 
 #[no_mangle]
@@ -100,9 +94,7 @@ pub extern "C" fn tpdu_read_deliver_report(data: &[u8]) -> usize
 {
     let read = SmsDeliverReport::decode_for_rp_error(data);
     let outcome = read.outcome;
-    let message = read.message;
-    let ud = message.tp_user_data;
-    taken(outcome, ud.length)
+    taken(outcome, read.message.tp_user_data.length)
 }
 
 // Read, and written back.
@@ -110,40 +102,35 @@ pub extern "C" fn tpdu_read_deliver_report(data: &[u8]) -> usize
 pub extern "C" fn tpdu_rewrite_deliver(data: &[u8], out: &mut [u8]) -> usize
     ensures { λ r. ⌜ (r, now (out .exit)) ≡ lentNumber (lend refuses (rewriting delivering (read deliver (now («data» .entry)))) (now (out .entry))) ⌝ }
 {
-    let w = tpdu::canonical_deliver(data, out);
-    written(w)
+    written(tpdu::canonical_deliver(data, out))
 }
 
 #[no_mangle]
 pub extern "C" fn tpdu_rewrite_submit(data: &[u8], out: &mut [u8]) -> usize
     ensures { λ r. ⌜ (r, now (out .exit)) ≡ lentNumber (lend refuses (rewriting submitting (read submit (now («data» .entry)))) (now (out .entry))) ⌝ }
 {
-    let w = tpdu::canonical_submit(data, out);
-    written(w)
+    written(tpdu::canonical_submit(data, out))
 }
 
 #[no_mangle]
 pub extern "C" fn tpdu_rewrite_status_report(data: &[u8], out: &mut [u8]) -> usize
     ensures { λ r. ⌜ (r, now (out .exit)) ≡ lentNumber (lend refuses (rewriting statusReporting (read statusReport (now («data» .entry)))) (now (out .entry))) ⌝ }
 {
-    let w = tpdu::canonical_status_report(data, out);
-    written(w)
+    written(tpdu::canonical_status_report(data, out))
 }
 
 #[no_mangle]
 pub extern "C" fn tpdu_rewrite_submit_report(data: &[u8], out: &mut [u8]) -> usize
     ensures { λ r. ⌜ (r, now (out .exit)) ≡ lentNumber (lend refuses (rewriting submitReporting (read submitReportAck (now («data» .entry)))) (now (out .entry))) ⌝ }
 {
-    let w = tpdu::canonical_submit_report_ack(data, out);
-    written(w)
+    written(tpdu::canonical_submit_report_ack(data, out))
 }
 
 #[no_mangle]
 pub extern "C" fn tpdu_rewrite_deliver_report(data: &[u8], out: &mut [u8]) -> usize
     ensures { λ r. ⌜ (r, now (out .exit)) ≡ lentNumber (lend refuses (rewriting deliverReporting (read deliverReportError (now («data» .entry)))) (now (out .entry))) ⌝ }
 {
-    let w = tpdu::canonical_deliver_report_error(data, out);
-    written(w)
+    written(tpdu::canonical_deliver_report_error(data, out))
 }
 
 // The number of octets packed.
@@ -171,8 +158,7 @@ pub extern "C" fn tpdu_concatenate(text: &[u8], reference: u8, out: &mut [u8]) -
 pub extern "C" fn tpdu_to_columns(octets: &[u8], lengths: &[usize], out: &mut [u8]) -> usize
     ensures { λ r. ⌜ (r, now (out .exit)) ≡ lentNumber (lend refuses (writing (now (octets .entry)) (now (lengths .entry))) (now (out .entry))) ⌝ }
 {
-    let w = tpdu::to_columns(octets, lengths, out);
-    written(w)
+    written(tpdu::to_columns(octets, lengths, out))
 }
 
 // The number of octets of the strings of a block.
@@ -229,8 +215,7 @@ pub extern "C" fn tpdu_ucs2_to_gsm7(ucs2: &[u8], out: &mut [u8]) -> usize
 pub extern "C" fn tpdu_gsm7_to_ucs2(data: &[u8], septets: usize, out: &mut [u8]) -> usize
     ensures { λ r. ⌜ (r, now (out .exit)) ≡ lentNumber (lend refuses (toUcs2 (now («data» .entry)) septets) (now (out .entry))) ⌝ }
 {
-    let w = tpdu::gsm7_to_ucs2(data, septets, out);
-    written(w)
+    written(tpdu::gsm7_to_ucs2(data, septets, out))
 }
 
 // An address whose text is the first octets of an array.
@@ -251,8 +236,7 @@ pub extern "C" fn tpdu_address(
         address,
         address_length: length,
     };
-    let w = a.encode(out);
-    written(w)
+    written(a.encode(out))
 }
 
 // The second digit of the second.
