@@ -190,32 +190,15 @@ returns-7 c =
 
 pub from-columns-spec : {M : Type 1} → statement M
 from-columns-spec =
-    tie.close
-    (tie.spec
-    (λ c κs. tt)
-    (λ c. omega arith)
-    (λ c. omega arith)
-    (λ c κs. tt)
-    returns
-    (λ c κs. tt)
-    returns-2
-    (λ c κs. (c .if1 .left, counted (c .before) .3))
-    (λ c. omega arith)
-    (λ c. omega arith)
-    (λ c κs. tt)
-    returns-3
-    (λ c. known c .inside)
-    (λ c κs. tt)
-    returns-4
-    (λ c κs. tt)
-    returns-5
-    (λ c κs. tt)
-    returns-6
+    tie.close (tie.spec (λ c κs. tt) (λ c. omega arith) (λ c. omega arith) (λ c κs. tt) returns
+    (λ c κs. tt) returns-2
+    (λ c κs. (c .if1 .left, counted (c .before) .3)) (λ c. omega arith) (λ c. omega arith) (λ c κs. tt) returns-3
+    (λ c. known c .inside) (λ c κs. tt) returns-4
+    (λ c κs. tt) returns-5
+    (λ c κs. tt) returns-6
     (λ c κs. omega arith)
     (λ c. omega (arith, kept (c .before .before), list-fits (c .before .before), known (measured-at (c .before .before)) .size))
     (λ c. sym (ap length (first (c .before .before .before)) ∙ known (measured-at (c .before .before .before)) .size))
-    take-strings-requires
-    (λ c κs. tt)
-    (λ c. kept-by (c .before .before .before .take-strings .ensures))
+    take-strings-requires (λ c κs. tt) (λ c. kept-by (c .before .before .before .take-strings .ensures))
     (λ c. kept (c .before .before .before .before .before .before .before .before))
     returns-7)

@@ -54,20 +54,7 @@ add-result c =
 
 pub put-strings-spec : {M : Type 1} → statement M
 put-strings-spec =
-    tie.close
-    (tie.spec
-    Inv-loop
-    μ-loop
+    tie.close (tie.spec Inv-loop μ-loop
     (λ c κs. (c .before .before .before .pre .0, omega (arith, c .before .before .before .pre .2)))
-    loop-holds
-    (λ c. omega arith)
-    (λ c. omega arith)
-    put-string-requires
-    raise-requires
-    add-at
-    (λ c. omega arith)
-    (λ c. omega arith)
-    loop-again
-    add-result
-    (λ c. putting-kept (c .before .loop .inv))
-    (λ c. putting-end (c .before .loop .inv) (c .loop-test .left)))
+    loop-holds (λ c. omega arith) (λ c. omega arith) put-string-requires raise-requires add-at (λ c. omega arith) (λ c. omega arith) loop-again
+    add-result (λ c. putting-kept (c .before .loop .inv)) (λ c. putting-end (c .before .loop .inv) (c .loop-test .left)))

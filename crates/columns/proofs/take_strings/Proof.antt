@@ -42,18 +42,7 @@ loop-again c =
 
 pub take-strings-spec : {M : Type 1} → statement M
 take-strings-spec =
-    tie.close
-    (tie.spec
-    Inv-loop
-    μ-loop
+    tie.close (tie.spec Inv-loop μ-loop
     (λ c κs. (c .before .before .before .pre .0, omega (arith, c .before .before .before .pre .1)))
-    loop-holds
-    (λ c. omega arith)
-    (λ c. omega arith)
-    take-string-requires
-    raise-requires
-    (λ c. omega arith)
-    (λ c. omega arith)
-    loop-again
-    (λ c. c .before .loop .inv .kept)
-    (λ c. taking-end (c .before .loop .inv) (c .loop-test .left)))
+    loop-holds (λ c. omega arith) (λ c. omega arith) take-string-requires raise-requires (λ c. omega arith) (λ c. omega arith) loop-again
+    (λ c. c .before .loop .inv .kept) (λ c. taking-end (c .before .loop .inv) (c .loop-test .left)))

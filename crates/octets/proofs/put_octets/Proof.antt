@@ -29,17 +29,6 @@ returns c = record { place = refl; list = left-end (c .before .loop .inv .2) (dr
 
 pub put-octets-spec : {M : Type 1} → statement M
 put-octets-spec =
-    tie.close
-    (tie.spec
-    Inv-loop
-    μ-loop
-    (λ c. (omega arith, refl, rw add-zero (left-start _ _ _)))
-    (λ c. omega arith)
-    (λ c. omega arith)
-    (λ c. omega arith)
-    (λ c. omega arith)
-    (λ c. omega arith)
-    loop-again
-    (λ c. omega arith)
-    (λ c. c .before .loop .inv .1)
-    returns)
+    tie.close (tie.spec Inv-loop μ-loop (λ c. (omega arith, refl, rw add-zero (left-start _ _ _))) (λ c. omega arith) (λ c. omega arith) (λ c. omega arith)
+    (λ c. omega arith) (λ c. omega arith) loop-again
+    (λ c. omega arith) (λ c. c .before .loop .inv .1) returns)

@@ -22,16 +22,7 @@ returns-4 c =
 
 pub number-part-spec : {M : Type 1} → statement M
 number-part-spec =
-    tie.close
-    (tie.spec
-    (λ c. numbers-none _ _ _ _ (not-true _ (c .if1 .taken)))
-    (λ c κs. search needs)
+    tie.close (tie.spec (λ c. numbers-none _ _ _ _ (not-true _ (c .if1 .taken))) (λ c κs. search needs)
     (λ c. numbers-short _ _ _ _ (not-false _ (c .before .before .if1 .left)) _ (c .before .header-octets .ensures .0) (c .if2 .taken))
-    (λ c κs. search needs)
-    (λ c κs. search needs)
-    returns-3
-    (λ c. search needs)
-    (λ c. search needs)
-    (λ c. search needs)
-    (λ c κs. search needs)
-    returns-4)
+    (λ c κs. search needs) (λ c κs. search needs) returns-3
+    (λ c. search needs) (λ c. search needs) (λ c. search needs) (λ c κs. search needs) returns-4)

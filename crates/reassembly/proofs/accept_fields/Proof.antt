@@ -72,27 +72,15 @@ returns-2 c =
 
 pub accept-fields-spec : {M : Type 1} → statement M
 accept-fields-spec =
-    tie.close
-    (tie.spec
-    (λ c. omega (arith, c .before .before .before .pre .2 .2))
-    (λ c. omega arith)
-    (λ c. omega (arith, c .before .before .before .before .pre .2 .2))
-    (λ c. omega (arith, c .before .before .before .before .pre .2 .2))
-    (λ c κs. tt)
-    (λ c. search needs)
-    (λ c κs. tt)
-    (λ c. search needs)
+    tie.close (tie.spec (λ c. omega (arith, c .before .before .before .pre .2 .2)) (λ c. omega arith) (λ c. omega (arith, c .before .before .before .before .pre .2 .2))
+    (λ c. omega (arith, c .before .before .before .before .pre .2 .2)) (λ c κs. tt) (λ c. search needs) (λ c κs. tt) (λ c. search needs)
     (λ c κs. c .before .before .before .before .before .before .before .before .before .pre .2 .0)
-    (λ c. search needs)
-    (λ c. text-fits (c .before .before))
+    (λ c. search needs) (λ c. text-fits (c .before .before))
     (λ c. sym (length-take-le _ _ (text-fits (c .before .before .before))))
-    (λ c κs. (omega arith, text-short (c .before .before .before)))
-    (λ c. cut (c .before .before) .0)
-    (λ c. sym (length-take-le _ _ (cut (c .before .before .before) .0)))
+    (λ c κs. (omega arith, text-short (c .before .before .before))) (λ c. cut (c .before .before) .0) (λ c. sym (length-take-le _ _ (cut (c .before .before .before) .0)))
     (λ c. omega arith)
     (λ c. omega (arith, c .before .before .before .before .before .before .before .before .before .before .before .before .before .before .before .before .before .pre .2 .2))
     (λ c. omega (arith, c .before .before .before .before .before .before .before .before .before .before .before .before .before .before .before .before .before .pre .2 .2))
     place-part-requires
     (λ c. let start = c .before .before .before .before .before .before .before .before .before .before in rw (c .refused .ensures) (arrives-not (read start) (now (start .args .store)) _ (sym (says-is (now (start .args .«data»)) (start .args .f) (start .pre .1)) ∙ sym (c .before .before .before .before .number-part .ensures) ∙ ap numberSays (c .before .before .r .given .1))))
-    (λ c. search needs)
-    returns-2)
+    (λ c. search needs) returns-2)

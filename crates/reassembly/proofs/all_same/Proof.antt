@@ -20,14 +20,6 @@ abbrev μ-loop : tie.MeasureT-loop
 pub all-same-spec : {M : Type 1} → statement M
 unfolding begins
 all-same-spec =
-    tie.close
-    (tie.spec
-    Inv-loop
-    μ-loop
-    (λ c. (c .pre, omega arith, refl))
-    (λ c. omega arith)
-    (λ c. omega arith)
-    (λ c. omega arith)
-    (λ c. omega arith)
+    tie.close (tie.spec Inv-loop μ-loop (λ c. (c .pre, omega arith, refl)) (λ c. omega arith) (λ c. omega arith) (λ c. omega arith) (λ c. omega arith)
     (λ c. let l = c .before .before .before .loop in (l .inv .0, omega arith, rw (l .inv .2) (begins-more _ _ (l .i) (c .before .before .loop-test .taken) (omega arith))))
     (λ c. let l = c .before .loop in l .inv .2 ∙ ap (λ x. begins x (now (c .before .before .args .s))) (take-all (l .i) _ (c .loop-test .left))))

@@ -28,16 +28,7 @@ loop-again c =
 
 pub begins-spec : {M : Type 1} → statement M
 begins-spec =
-    tie.close
-    (tie.spec
-    Inv-loop
-    μ-loop
-    (λ c. sym (begins-short _ _ (c .if1 .taken)))
-    (λ c. (c .if1 .left, omega arith, refl))
-    (λ c. omega arith)
-    (λ c. omega arith)
+    tie.close (tie.spec Inv-loop μ-loop (λ c. sym (begins-short _ _ (c .if1 .taken))) (λ c. (c .if1 .left, omega arith, refl)) (λ c. omega arith) (λ c. omega arith)
     returns-2
-    (λ c. omega arith)
-    (λ c. omega arith)
-    loop-again
+    (λ c. omega arith) (λ c. omega arith) loop-again
     (λ c. sym (c .before .loop .inv .2 ∙ begins-end _ _ (c .before .loop .i) (c .loop-test .left))))

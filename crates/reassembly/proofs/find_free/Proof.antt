@@ -34,19 +34,8 @@ loop-again c =
 pub find-free-spec : {M : Type 1} → statement M
 unfolding freeSlot
 find-free-spec =
-    tie.close
-    (tie.spec
-    Inv-loop
-    μ-loop
-    (λ c. (omega arith, refl))
-    (λ c. omega arith)
-    (λ c. omega arith)
-    (λ c. omega arith)
-    (λ c. omega arith)
-    (λ c. omega arith)
+    tie.close (tie.spec Inv-loop μ-loop (λ c. (omega arith, refl)) (λ c. omega arith) (λ c. omega arith) (λ c. omega arith) (λ c. omega arith) (λ c. omega arith)
     (λ c κs. cut-size _ (c .before .before .before .before .pre) _ (c .before .loop-test .taken))
     returns
-    (λ c. omega arith)
-    (λ c. omega arith)
-    loop-again
+    (λ c. omega arith) (λ c. omega arith) loop-again
     (λ c. sym (c .before .loop .inv .1 ∙ search-end _ (c .before .loop .k) (c .loop-test .left) (c .before .loop .inv .0))))

@@ -33,19 +33,8 @@ loop-again c =
 pub find-message-spec : {M : Type 1} → statement M
 unfolding slotWith
 find-message-spec =
-    tie.close
-    (tie.spec
-    Inv-loop
-    μ-loop
-    (λ c. (omega arith, refl))
-    (λ c. omega arith)
-    (λ c. omega arith)
-    (λ c. omega arith)
-    (λ c. omega arith)
-    (λ c. omega arith)
+    tie.close (tie.spec Inv-loop μ-loop (λ c. (omega arith, refl)) (λ c. omega arith) (λ c. omega arith) (λ c. omega arith) (λ c. omega arith) (λ c. omega arith)
     (λ c κs. cut-size _ (c .before .before .before .before .before .pre) _ (c .before .loop-test .taken))
     returns
-    (λ c. omega arith)
-    (λ c. omega arith)
-    loop-again
+    (λ c. omega arith) (λ c. omega arith) loop-again
     (λ c. sym (c .before .loop .inv .1 ∙ search-end _ (c .before .loop .k) (c .loop-test .left) (c .before .loop .inv .0))))

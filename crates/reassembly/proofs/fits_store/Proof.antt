@@ -45,20 +45,9 @@ returns-3 c =
 pub fits-store-spec : {M : Type 1} → statement M
 unfolding fits
 fits-store-spec =
-    tie.close
-    (tie.spec
-    Inv-loop
-    μ-loop
-    (λ c. rw (lt-leb storeOctets _ (c .if1 .taken)))
-    (λ c. (omega arith, c .if1 .left, refl))
-    (λ c. omega arith)
-    (λ c. omega arith)
-    (λ c. omega arith)
-    (λ c. omega arith)
-    (λ c. omega arith)
+    tie.close (tie.spec Inv-loop μ-loop (λ c. rw (lt-leb storeOctets _ (c .if1 .taken))) (λ c. (omega arith, c .if1 .left, refl)) (λ c. omega arith) (λ c. omega arith)
+    (λ c. omega arith) (λ c. omega arith) (λ c. omega arith)
     (λ c κs. cut-size _ (c .before .before .loop .inv .1) _ (c .before .loop-test .taken))
     returns-2
-    (λ c. omega arith)
-    (λ c. omega arith)
-    loop-again
+    (λ c. omega arith) (λ c. omega arith) loop-again
     returns-3)

@@ -19,31 +19,12 @@ returns-5 c =
 
 pub join-spec : {M : Type 1} → statement M
 join-spec =
-    tie.close
-    (tie.spec
-    (λ c. search needs)
-    (λ c κs. search needs)
+    tie.close (tie.spec (λ c. search needs) (λ c κs. search needs)
     (λ c. rw (c .refused .ensures) (joins-coding _ _ _ _ _ _ (c .before .if1 .taken)))
-    (λ c. search needs)
-    (λ c. search needs)
-    (λ c κs. search needs)
-    (λ c κs. search needs)
-    (λ c. search needs)
+    (λ c. search needs) (λ c. search needs) (λ c κs. search needs) (λ c κs. search needs) (λ c. search needs)
     (λ c. rw (c .accepted .ensures, c .before .before .before .before .put-part .ensures) (joins-new _ _ _ _ _ _ (c .before .before .before .before .before .before .before .before .if1 .left) (c .before .before .before .before .before .before .if2 .taken)))
-    (λ c. search needs)
-    (λ c. search needs)
-    (λ c. search needs)
-    (λ c κs. search needs)
+    (λ c. search needs) (λ c. search needs) (λ c. search needs) (λ c κs. search needs)
     (λ c. let p = c .before .before .before .before .before .before .before .before .before .pre in rw (c .refused2 .ensures) (joins-udl _ _ _ _ _ _ (c .before .before .before .before .before .if1 .left) (c .before .before .before .if2 .left) (p .0) (p .2) (c .before .if3 .taken)))
-    (λ c. search needs)
-    (λ c. search needs)
-    (λ c. search needs)
-    (λ c. search needs)
-    (λ c. search needs)
-    (λ c κs. search needs)
-    (λ c κs. search needs)
-    (λ c. search needs)
+    (λ c. search needs) (λ c. search needs) (λ c. search needs) (λ c. search needs) (λ c. search needs) (λ c κs. search needs) (λ c κs. search needs) (λ c. search needs)
     returns-4
-    (λ c κs. search needs)
-    (λ c. search needs)
-    returns-5)
+    (λ c κs. search needs) (λ c. search needs) returns-5)

@@ -71,17 +71,6 @@ returns c =
 
 pub missing-in-spec : {M : Type 1} → statement M
 missing-in-spec =
-    tie.close
-    (tie.spec
-    Inv-loop
-    μ-loop
-    loop-holds
-    (λ c. omega arith)
-    (λ c. omega arith)
-    (λ c. omega arith)
-    array-write-numbers
-    (λ c. omega (arith, array-write-numbers c))
-    (λ c. omega arith)
-    (λ c. omega arith)
-    loop-again
+    tie.close (tie.spec Inv-loop μ-loop loop-holds (λ c. omega arith) (λ c. omega arith) (λ c. omega arith) array-write-numbers
+    (λ c. omega (arith, array-write-numbers c)) (λ c. omega arith) (λ c. omega arith) loop-again
     returns)

@@ -31,11 +31,7 @@ returns c =
 
 pub put-key-spec : {M : Type 1} → statement M
 put-key-spec =
-    tie.close
-    (tie.spec
-    (λ c κs. search needs)
-    (λ c. search needs)
-    (λ c. search needs)
+    tie.close (tie.spec (λ c κs. search needs) (λ c. search needs) (λ c. search needs)
     (λ c. simp length-set (omega (arith, room (c .before .before .before))))
     (λ c. search needs)
     (λ c. simp length-set (omega (arith, room (c .before .before .before))))

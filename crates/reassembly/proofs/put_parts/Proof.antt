@@ -90,26 +90,8 @@ returns c =
 
 pub put-parts-spec : {M : Type 1} → statement M
 put-parts-spec =
-    tie.close
-    (tie.spec
-    Inv-loop
-    μ-loop
-    (λ c. omega (arith, c .before .before .before .pre))
-    (λ c κs. tt)
-    loop-holds
-    (λ c. omega arith)
-    (λ c. omega arith)
-    (λ c. omega arith)
-    (λ c. omega arith)
-    (λ c. omega arith)
-    (λ c κs. tt)
-    (λ c. omega (arith, at-most-255 c))
-    (λ c. omega arith)
-    (λ c. omega arith)
+    tie.close (tie.spec Inv-loop μ-loop (λ c. omega (arith, c .before .before .before .pre)) (λ c κs. tt) loop-holds (λ c. omega arith) (λ c. omega arith)
+    (λ c. omega arith) (λ c. omega arith) (λ c. omega arith) (λ c κs. tt) (λ c. omega (arith, at-most-255 c)) (λ c. omega arith) (λ c. omega arith)
     (λ c. omega (arith, at-most-255 (c .before), c .before .before .before .before .before .before .before .before .before .pre .0, c .before .before .before .before .before .before .before .before .before .pre .1, c .before .before .before .loop-test .taken))
-    put-shown-requires
-    (λ c. omega arith)
-    (λ c. omega arith)
-    loop-again
-    (λ c. c .before .loop .inv .2)
-    returns)
+    put-shown-requires (λ c. omega arith) (λ c. omega arith) loop-again
+    (λ c. c .before .loop .inv .2) returns)

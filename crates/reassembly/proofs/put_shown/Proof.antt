@@ -10,9 +10,7 @@ use Rattle.reassembly.proofs.put_shown.Tie as tie
 pub put-shown-spec : {M : Type 1} → statement M
 unfolding shownIn
 put-shown-spec =
-    tie.close
-    (tie.spec
-    (λ c. search needs)
+    tie.close (tie.spec (λ c. search needs)
     (λ c κs. let s = c .before .before .before .before .before in (s .pre .0, rw (c .before .enum-told .given .1) at (s .pre .1)))
     (λ c. search needs)
     (λ c κs. let s = c .before .before .before .before .before in (s .pre .0, omega (arith, s .pre .1, s .fits, data-at-most (s .args .coding) (s .args .udl))))

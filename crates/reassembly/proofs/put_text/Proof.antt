@@ -22,17 +22,11 @@ returns-2 c =
 
 pub put-text-spec : {M : Type 1} → statement M
 put-text-spec =
-    tie.close
-    (tie.spec
-    (λ c κs. search needs)
-    (λ c κs. c .header-octets .ensures .1)
+    tie.close (tie.spec (λ c κs. search needs) (λ c κs. c .header-octets .ensures .1)
     (λ c. let start = c .before .before .before .before .before in text-none (part start) (start .pre .1) (omega (arith, start .fits)) (c .before .before .header-octets .ensures .0) (c .before .header-septets .ensures) _ _ (c .if1 .taken))
-    (λ c. within c)
-    (λ c. within c)
-    (λ c. search needs)
+    (λ c. within c) (λ c. within c) (λ c. search needs)
     (λ c. omega (arith, c .before .before .header-septets .ensures, c .before .before .before .header-octets .ensures .1))
     (λ c. omega (arith, c .before .before .header-septets .ensures, c .before .before .before .header-octets .ensures .1))
     (λ c. omega (arith, c .before .before .header-septets .ensures, c .before .before .before .header-octets .ensures .1))
     (λ c κs. let start = c .before .before .before .before .before .before .before in text-room (part start) (start .pre .1) (omega (arith, start .fits)) (c .before .before .before .before .header-octets .ensures .0) (c .before .before .before .header-septets .ensures) (c .before .before .if1 .left) (start .args .at) (start .pre .0))
-    (λ c. search needs)
-    returns-2)
+    (λ c. search needs) returns-2)

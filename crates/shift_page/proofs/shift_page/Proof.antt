@@ -61,18 +61,6 @@ returns-4 c =
 
 pub shift-page-spec : {M : Type 1} → statement M
 shift-page-spec =
-    tie.close
-    (tie.spec
-    (λ c. lent-refused refuses _ _ (too-many _ _ (c .if1 .taken)))
-    (λ c κs. search needs)
-    (λ c. search needs)
-    returns-2
-    (λ c. search needs)
-    (λ c. search needs)
-    (λ c. search needs)
-    returns-3
-    (λ c κs. search needs)
-    put-reports-requires
-    put-total-requires
-    (λ c. search needs)
-    returns-4)
+    tie.close (tie.spec (λ c. lent-refused refuses _ _ (too-many _ _ (c .if1 .taken))) (λ c κs. search needs) (λ c. search needs) returns-2
+    (λ c. search needs) (λ c. search needs) (λ c. search needs) returns-3
+    (λ c κs. search needs) put-reports-requires put-total-requires (λ c. search needs) returns-4)

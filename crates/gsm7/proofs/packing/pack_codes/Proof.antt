@@ -34,16 +34,6 @@ returns-3 c =
 
 pub pack-codes-spec : {M : Type 1} → statement M
 pack-codes-spec =
-    tie.close
-    (tie.spec
-    (λ c κs. omega arith)
-    (λ c. omega (arith, c .header-septets .ensures))
-    (λ c κs. tt)
-    returns
-    (λ c. omega arith)
-    (λ c. omega arith)
-    (λ c κs. tt)
-    returns-2
-    put-packed-requires
-    (λ c. kept-by (c .before .before .put-packed .ensures))
-    returns-3)
+    tie.close (tie.spec (λ c κs. omega arith) (λ c. omega (arith, c .header-septets .ensures)) (λ c κs. tt) returns
+    (λ c. omega arith) (λ c. omega arith) (λ c κs. tt) returns-2
+    put-packed-requires (λ c. kept-by (c .before .before .put-packed .ensures)) returns-3)
