@@ -1,7 +1,7 @@
 -- `header_elements::read_elements` meets its contract: the elements that are left, stored after those that are read already, make the answer.
 -- Assumes nothing.
 use Prim.Native.Nat.{_+_, _-_}
-use mathlib.Core.Path.{_≡_, sym, _∙_}
+use mathlib.Core.Path.{sym, _∙_}
 use native.Mathlib.Omega.{arith}
 use denote.Ref.{now}
 use lib.ListN.{length, getD, drop, length-take}

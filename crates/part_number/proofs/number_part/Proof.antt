@@ -1,7 +1,6 @@
 -- `part_number::number_part` meets its contract, case by case.
 -- Assumes nothing.
-use mathlib.Core.Path.{_≡_, sym, _∙_}
-use native.Mathlib.Omega.{arith}
+use mathlib.Core.Path.{sym, _∙_}
 use borrow.Author.Needs.{needs}
 use borrow.Author.Tests.{not-true, not-false}
 use Rattle.part_number.proofs.Walk.{numbers-none, numbers-short, numbers-over, numbers-in}

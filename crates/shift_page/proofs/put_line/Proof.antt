@@ -3,7 +3,6 @@
 use native.Mathlib.Omega.{arith}
 use borrow.Author.Needs.{needs}
 use denote.Ref.{now}
-use lib.ListN.{length, length-append}
 use Rattle.octets.proofs.Laws.{wrote-then, kept-by}
 use Rattle.shift_page.proofs.Lines.{left-spaces, length-left, line-is}
 use Rattle.shift_page.proofs.put_line.Statement.{statement}

@@ -2,7 +2,7 @@
 -- Assumes nothing.
 use Prim.Native.Nat.{_+_, _*_, _≤_}
 use mathlib.Core.Path.{_≡_, sym, ap, _∙_}
-use mathlib.Core.List.{[], _∷_, map}
+use mathlib.Core.List.{map}
 use native.Mathlib.Omega.{arith}
 use borrow.Author.Needs.{needs}
 use lib.ListN.{length, take}
@@ -10,7 +10,7 @@ use lib.Seq.{length-take-le}
 use Rattle.octets.specs.Answers.{refuses, fine, checkedSays}
 use Rattle.octets.specs.Checks.{found}
 use Rattle.octets.proofs.Laws.{wrote-then, kept-by, lent-refused, lent-short, lent-written}
-use Rattle.shift_page.specs.ShiftPage.{heading, reportLine, ended, shiftPage, reportsChecks}
+use Rattle.shift_page.specs.ShiftPage.{reportLine, ended, shiftPage, reportsChecks}
 use Rattle.shift_page.proofs.Page.{too-many, one-refuses, page-made, page-is, page-size, reports-size, heading-size}
 use Rattle.shift_page.proofs.shift_page.Statement.{statement}
 use Rattle.shift_page.proofs.shift_page.Tie as tie

@@ -1,6 +1,6 @@
 -- `gsm7::encode::add_character` meets its contract, by the character's code.
 -- Assumes nothing.
-use mathlib.Core.Path.{_≡_, refl, sym, ap, _∙_}
+use mathlib.Core.Path.{refl, sym, ap, _∙_}
 use native.Mathlib.Omega.{arith}
 use native.Mathlib.Nat.{add-zero}
 use Rattle.octets.proofs.Laws.{wrote-then, kept-by}

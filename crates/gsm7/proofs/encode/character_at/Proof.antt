@@ -1,7 +1,7 @@
 -- `gsm7::encode::character_at` meets its contract, by the first octet.
 -- Assumes nothing.
 use native.Mathlib.Omega.{arith}
-use mathlib.Core.Path.{_≡_, sym}
+use mathlib.Core.Path.{sym}
 use denote.Ref.{now}
 use Rattle.gsm7.proofs.FirstCharacter.{first-one, first-two, first-three}
 use Rattle.gsm7.proofs.encode.character_at.Statement.{statement}

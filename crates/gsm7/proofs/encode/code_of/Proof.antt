@@ -1,7 +1,7 @@
 -- `gsm7::encode::code_of` meets its contract, by the table.
 -- Assumes nothing.
 use native.Mathlib.Omega.{arith}
-use mathlib.Core.Path.{_≡_, sym, _∙_}
+use mathlib.Core.Path.{sym, _∙_}
 use borrow.Author.Tests.{lt-ltb, le-ltb}
 use borrow.Author.Needs.{needs}
 use Rattle.gsm7.proofs.encode.code_of.Statement.{statement}

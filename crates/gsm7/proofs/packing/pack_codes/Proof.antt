@@ -1,6 +1,5 @@
 -- `gsm7::packing::pack_codes` meets its contract: too many septets, too little room, or written.
 -- Assumes nothing.
-use mathlib.Core.Path.{_≡_}
 use native.Mathlib.Omega.{arith}
 use native.Mathlib.Nat.{zero-add}
 use Rattle.octets.proofs.Laws.{lent-refused, lent-short, lent-done, kept-by}

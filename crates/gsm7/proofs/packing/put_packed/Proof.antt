@@ -1,6 +1,5 @@
 -- `gsm7::packing::put_packed` meets its contract: header and packed septets are written one after the other.
 -- Assumes nothing.
-use mathlib.Core.Path.{_≡_}
 use native.Mathlib.Omega.{arith}
 use native.Mathlib.Nat.{zero-add}
 use lib.ListN.{length-append}
