@@ -1,22 +1,22 @@
 -- `reassembly::accept_fields` meets its contract: what user data say, the key, and where the part goes.
 -- Assumes nothing.
-use Prim.Native.Nat.{_+_, _-_, _≤_}
+use Prim.Native.Nat.{_-_, _≤_}
 use mathlib.Core.Path.{_≡_, sym, ap, _∙_}
 use native.Mathlib.Omega.{arith}
 use borrow.Author.Needs.{needs}
 use denote.Ref.{now}
-use lib.ListN.{length, take, drop}
+use lib.ListN.{length, take}
 use lib.Seq.{length-take-le}
-use Rattle.octets.specs.Answers.{gives, refuses}
+use Rattle.octets.specs.Answers.{gives}
 use Rattle.octets.specs.Each.{Octets}
 use Rattle.octets.proofs.Laws.{part-is, part-size}
 use Rattle.address.specs.declared.SMSAddress.{SMSAddress}
 use Rattle.deliver.specs.declared.SmsDeliver.{SmsDeliver}
 use Rattle.part_number.specs.Numbering.{numbered, numberSays}
-use Rattle.reassembly.specs.Part.{Key, keyOf}
-use Rattle.reassembly.specs.Store.{keyOctets}
+use Rattle.message_store.specs.Part.{Key, keyOf}
+use Rattle.message_store.specs.Store.{keyOctets}
 use Rattle.reassembly.proofs.Accepting.{saysOf, message, message-fits, sender-is, data-cut, says-is, fields-arrive, arrives-not, numbers-few}
-use Rattle.reassembly.proofs.Keys.{key-cut}
+use Rattle.message_store.proofs.Keys.{key-cut}
 use Rattle.reassembly.proofs.accept_fields.Statement.{statement}
 use Rattle.reassembly.proofs.accept_fields.Tie as tie
 

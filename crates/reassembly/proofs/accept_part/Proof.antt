@@ -9,7 +9,7 @@ use Rattle.deliver.specs.Layout.{fields}
 use Rattle.deliver.specs.Internal.{foundSays, Inside}
 use Rattle.deliver.specs.declared.reading.DeliverFound.{DeliverFound}
 use Rattle.reassembly.proofs.Accepting.{fields-refused, accepts-unfit, accepts-on}
-use Rattle.reassembly.proofs.Slots.{fits-room}
+use Rattle.message_store.proofs.Slots.{fits-room}
 use Rattle.reassembly.proofs.accept_part.Statement.{statement}
 use Rattle.reassembly.proofs.accept_part.Tie as tie
 

@@ -1,6 +1,5 @@
 -- `reassembly::begin_message` meets its contract.
 -- Assumes nothing.
-use mathlib.Core.Path.{_≡_}
 use borrow.Author.Needs.{needs}
 use Rattle.reassembly.proofs.begin_message.Statement.{statement}
 use Rattle.reassembly.proofs.begin_message.Tie as tie

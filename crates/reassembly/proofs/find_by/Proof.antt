@@ -10,10 +10,10 @@ use lib.ListN.{length, take}
 use lib.Seq.{length-take-le}
 use Rattle.octets.specs.Answers.{gives}
 use Rattle.address.specs.declared.SMSAddress.{SMSAddress}
-use Rattle.reassembly.specs.Part.{Key, Named, keyOf}
-use Rattle.reassembly.specs.Store.{keyOctets}
-use Rattle.reassembly.proofs.Keys.{key-cut}
-use Rattle.reassembly.proofs.Slots.{fits-room}
+use Rattle.message_store.specs.Part.{Key, keyOf}
+use Rattle.message_store.specs.Store.{keyOctets}
+use Rattle.message_store.proofs.Keys.{key-cut}
+use Rattle.message_store.proofs.Slots.{fits-room}
 use Rattle.reassembly.proofs.Taking.{finds-long, finds-unfit, finds}
 use Rattle.reassembly.proofs.find_by.Statement.{statement}
 use Rattle.reassembly.proofs.find_by.Tie as tie

@@ -1,6 +1,5 @@
 -- `reassembly::place_part` meets its contract, case by case.
 -- Assumes nothing.
-use mathlib.Core.Path.{_≡_}
 use borrow.Author.Needs.{needs}
 use Rattle.reassembly.specs.Calls.{acceptedSays}
 use Rattle.reassembly.proofs.Joining.{places-open, places-new, places-full}

@@ -7,7 +7,7 @@ use denote.Ref.{now}
 use Rattle.octets.specs.Answers.{gives}
 use Rattle.reassembly.specs.Calls.{findingBy, takenSays}
 use Rattle.reassembly.specs.Internal.{foundSays}
-use Rattle.reassembly.proofs.Slots.{cut-size}
+use Rattle.message_store.proofs.Slots.{cut-size}
 use Rattle.reassembly.proofs.Taking.{room, total-few, takes-none, takes-open, takes-refused}
 use Rattle.reassembly.proofs.take_message.Statement.{statement}
 use Rattle.reassembly.proofs.take_message.Tie as tie
