@@ -23,17 +23,11 @@ fitting c =
 
 pub check-report-spec : {M : Type 1} → statement M
 check-report-spec =
-    tie.close
-    (tie.spec
-    (λ c. sym (lengths-against _ (c .if1 .taken)))
-    (λ c. fitting (c .before) .0)
-    (λ c. sym (length-take-le _ _ (fitting (c .before .before) .0)))
+    tie.close (tie.spec (λ c. sym (lengths-against _ (c .if1 .taken))) (λ c. fitting (c .before) .0) (λ c. sym (length-take-le _ _ (fitting (c .before .before) .0)))
     (λ c κs. tt)
     (λ c. sym (recipient-against _ (c .before .before .before .before .if1 .left) (sym (c .before .is-printable .ensures) ∙ not-true _ (c .if2 .taken))))
     (λ c. fitting (c .before .before .before .before .before) .1)
     (λ c. sym (length-take-le _ _ (fitting (c .before .before .before .before .before .before) .1)))
     (λ c κs. tt)
-    (λ c. let p = c .before .before .before .before in
-    sym (time-against _ (p .before .before .before .before .if1 .left) (sym (p .before .is-printable .ensures) ∙ not-false _ (p .if2 .left)) (sym (c .before .is-time .ensures) ∙ not-true _ (c .if3 .taken))))
-    (λ c. let p = c .before .before .before .before in
-    sym (report-fine _ (p .before .before .before .before .if1 .left) (sym (p .before .is-printable .ensures) ∙ not-false _ (p .if2 .left)) (sym (c .before .is-time .ensures) ∙ not-false _ (c .if3 .left)))))
+    (λ c. let p = c .before .before .before .before in sym (time-against _ (p .before .before .before .before .if1 .left) (sym (p .before .is-printable .ensures) ∙ not-false _ (p .if2 .left)) (sym (c .before .is-time .ensures) ∙ not-true _ (c .if3 .taken))))
+    (λ c. let p = c .before .before .before .before in sym (report-fine _ (p .before .before .before .before .if1 .left) (sym (p .before .is-printable .ensures) ∙ not-false _ (p .if2 .left)) (sym (c .before .is-time .ensures) ∙ not-false _ (c .if3 .left)))))

@@ -33,12 +33,8 @@ returns c = c .before .before .put-line .ensures
 
 pub put-report-spec : {M : Type 1} → statement M
 put-report-spec =
-    tie.close
-    (tie.spec
-    (λ c. fitting (c .before .before .before .before) .0)
+    tie.close (tie.spec (λ c. fitting (c .before .before .before .before) .0)
     (λ c. sym (length-take-le _ _ (fitting (c .before .before .before .before .before) .0)))
     (λ c. fitting (c .before .before .before .before .before) .1)
     (λ c. sym (length-take-le _ _ (fitting (c .before .before .before .before .before .before) .1)))
-    put-line-requires
-    (λ c. search needs)
-    returns)
+    put-line-requires (λ c. search needs) returns)
