@@ -67,8 +67,7 @@ returns-2 c =
 pub encode-spec : {M : Type 1} → statement M
 encode-spec =
     tie.close
-    (tie.spec
-    (λ c κs. tt) (λ c κs. tt) (λ c κs. tt) (λ c κs. tt)
+    (tie.spec (λ c κs. tt) (λ c κs. tt) (λ c κs. tt) (λ c κs. tt)
     (λ c. lent-refused refuses _ _ (too-long (measured (c .before)) (rw (← c .before .before .before .before .length-if .ensures, ← digits-length (c .before), ← c .before .length-if3 .ensures) (not-true _ (c .if1 .taken)))))
     (λ c κs. omega arith)
     (λ c. text-fits (c .before .before .before .before .before))
@@ -77,6 +76,5 @@ encode-spec =
     (λ c. sym (length-take-le _ _ (digits-fit (c .before .before .before .before .before .before .before))))
     (λ c. data-fits (c .before .before .before .before .before .before .before))
     (λ c. sym (length-take-le _ _ (data-fits (c .before .before .before .before .before .before .before .before))))
-    (λ c κs. tt)
-    (λ c. search needs)
+    (λ c κs. tt) (λ c. search needs)
     returns-2)
