@@ -29,8 +29,14 @@ module _ (c : tie.After-length-if3) where
   abbrev measured : SmsSubmit
   measured = c .before .before .before .before .before .args .self
 
+  address-length : c .before .before .before .length-if .result ≡ addressLength measured
+  address-length = c .before .before .before .length-if .ensures
+
   digits-length : c .before .length-if2 .result ≡ digitsLength measured
   digits-length = c .before .length-if2 .ensures ∙ ap (λ (f : ℕ). lengthIf (eqb f 3) (measured .«validity_period_digits» .length)) (c .before .before .format .ensures .0)
+
+  header-length : c .length-if3 .result ≡ headerLength measured
+  header-length = c .length-if3 .ensures
 
 -- ---- where they pass no array
 
@@ -39,7 +45,7 @@ module _ (c : tie.Else1) where
   message = measured (c .before)
 
   fit : lengthsFit message ≡ true
-  fit = rw (← c .before .before .before .before .length-if .ensures, ← digits-length (c .before), ← c .before .length-if3 .ensures) (not-false _ (c .if1 .left))
+  fit = rw (← address-length (c .before), ← digits-length (c .before), ← header-length (c .before)) (not-false _ (c .if1 .left))
 
   rooms : (length (message .«tp_destination_address» .address) ≡ 290) × (length (message .«validity_period_digits» .digits) ≡ 14) × (length (message .«tp_user_data_raw» .octets) ≡ 255)
   rooms = arrays (c .before .before .before .before .before .before)
@@ -48,7 +54,7 @@ module _ (c : tie.Else1) where
   few = all-fit (lengthsOf message) fit
 
   text-fits : c .before .before .before .before .length-if .result ≤ length (message .«tp_destination_address» .address)
-  text-fits = omega (arith, rooms .0, few .0, c .before .before .before .before .length-if .ensures)
+  text-fits = omega (arith, rooms .0, few .0, address-length (c .before))
 
   digits-fit : c .before .before .length-if2 .result ≤ length (message .«validity_period_digits» .digits)
   digits-fit = omega (arith, rooms .1, few .1 .0, digits-length (c .before))
@@ -62,13 +68,13 @@ returns-2 c =
     let o = c .before .before .before .before .before .before .before .before .before .before .before .first-octet in
     let low : message f .«tp_vpf» / 1 % 2 ≡ message f .«tp_vpf» % 2 = omega arith in
     let first : o .result ≡ firstOf (message f) = rw low (o .ensures) in
-    rw (by-values (message f) (fit f), ← first, ← f .before .before .before .before .length-if .ensures, ← digits-length (f .before)) (c .before .before .encode-fields .ensures)
+    rw (by-values (message f) (fit f), ← first, ← address-length (f .before), ← digits-length (f .before)) (c .before .before .encode-fields .ensures)
 
 pub encode-spec : {M : Type 1} → statement M
 encode-spec =
     tie.close
     (tie.spec (λ c κs. tt) (λ c κs. tt) (λ c κs. tt) (λ c κs. tt)
-    (λ c. lent-refused refuses _ _ (too-long (measured (c .before)) (rw (← c .before .before .before .before .length-if .ensures, ← digits-length (c .before), ← c .before .length-if3 .ensures) (not-true _ (c .if1 .taken)))))
+    (λ c. lent-refused refuses _ _ (too-long (measured (c .before)) (rw (← address-length (c .before), ← digits-length (c .before), ← header-length (c .before)) (not-true _ (c .if1 .taken)))))
     (λ c κs. omega arith)
     (λ c. text-fits (c .before .before .before .before .before))
     (λ c. sym (length-take-le _ _ (text-fits (c .before .before .before .before .before .before))))
