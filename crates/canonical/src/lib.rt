@@ -22,11 +22,10 @@ pub fn canonical_submit(data: &[u8], out: &mut [u8]) -> Written
 {
     let read = submit::decode_sms_submit_tpdu(data);
     let outcome = read.outcome;
-    let message = read.message;
-    if let Outcome::Refused(r) = outcome {
-        return Written::Refused(r); // 2, 3, 17 or 18
+    match outcome {
+        Outcome::Refused(r) => Written::Refused(r), // 2, 3, 17 or 18
+        Outcome::Done => read.message.encode(out),
     }
-    message.encode(out)
 }
 
 // Reads a message, and writes it back.
@@ -35,11 +34,10 @@ pub fn canonical_deliver(data: &[u8], out: &mut [u8]) -> Written
 {
     let read = SmsDeliver::decode(data);
     let outcome = read.outcome;
-    let message = read.message;
-    if let Outcome::Refused(r) = outcome {
-        return Written::Refused(r); // 2 or 3
+    match outcome {
+        Outcome::Refused(r) => Written::Refused(r), // 2 or 3
+        Outcome::Done => read.message.encode(out),
     }
-    message.encode(out)
 }
 
 // Reads a report carried in an RP-ACK, and writes it back.
@@ -48,11 +46,10 @@ pub fn canonical_submit_report_ack(data: &[u8], out: &mut [u8]) -> Written
 {
     let read = SmsSubmitReport::decode_for_rp_ack(data);
     let outcome = read.outcome;
-    let message = read.message;
-    if let Outcome::Refused(r) = outcome {
-        return Written::Refused(r);
+    match outcome {
+        Outcome::Refused(r) => Written::Refused(r),
+        Outcome::Done => read.message.encode(out),
     }
-    message.encode(out)
 }
 
 // Reads a report carried in an RP-ERROR, and writes it back.
@@ -61,11 +58,10 @@ pub fn canonical_submit_report_error(data: &[u8], out: &mut [u8]) -> Written
 {
     let read = SmsSubmitReport::decode_for_rp_error(data);
     let outcome = read.outcome;
-    let message = read.message;
-    if let Outcome::Refused(r) = outcome {
-        return Written::Refused(r);
+    match outcome {
+        Outcome::Refused(r) => Written::Refused(r),
+        Outcome::Done => read.message.encode(out),
     }
-    message.encode(out)
 }
 
 // Reads a report carried in an RP-ACK, and writes it back.
@@ -74,11 +70,10 @@ pub fn canonical_deliver_report_ack(data: &[u8], out: &mut [u8]) -> Written
 {
     let read = SmsDeliverReport::decode_for_rp_ack(data);
     let outcome = read.outcome;
-    let message = read.message;
-    if let Outcome::Refused(r) = outcome {
-        return Written::Refused(r);
+    match outcome {
+        Outcome::Refused(r) => Written::Refused(r),
+        Outcome::Done => read.message.encode(out),
     }
-    message.encode(out)
 }
 
 // Reads a report carried in an RP-ERROR, and writes it back.
@@ -87,11 +82,10 @@ pub fn canonical_deliver_report_error(data: &[u8], out: &mut [u8]) -> Written
 {
     let read = SmsDeliverReport::decode_for_rp_error(data);
     let outcome = read.outcome;
-    let message = read.message;
-    if let Outcome::Refused(r) = outcome {
-        return Written::Refused(r);
+    match outcome {
+        Outcome::Refused(r) => Written::Refused(r),
+        Outcome::Done => read.message.encode(out),
     }
-    message.encode(out)
 }
 
 // Reads a report, and writes it back.
@@ -100,9 +94,8 @@ pub fn canonical_status_report(data: &[u8], out: &mut [u8]) -> Written
 {
     let read = SmsStatusReport::decode(data);
     let outcome = read.outcome;
-    let message = read.message;
-    if let Outcome::Refused(r) = outcome {
-        return Written::Refused(r);
+    match outcome {
+        Outcome::Refused(r) => Written::Refused(r),
+        Outcome::Done => read.message.encode(out),
     }
-    message.encode(out)
 }

@@ -1,23 +1,19 @@
--- What only functions of this crate say to each other: the rest of the layout from a field on, fields by their places in a string, and the octets of values that were checked.
+-- What only functions of this crate say to each other: the rest of the layout from a field on, and fields by their places in a string.
 use Prim.Native.Nat.{ℕ, _+_, _≤_}
 use mathlib.Core.Path.{_≡_}
 use mathlib.Core.Bool.{true}
-use mathlib.Core.List.{List, [], _∷_, _++_}
+use mathlib.Core.List.{List}
 use lib.Dec.{leb}
 use lib.ListN.{length, take, drop}
 use Rattle.octets.specs.declared.Refusal.the-variants.{HeaderNotWhole, HeaderPassesCount}
 use Rattle.coding.specs.Coding.{codingOf, dataOctets}
 use Rattle.user_data_header.specs.Header.{inCount}
 use Rattle.address.specs.Address.{addressSize, canonicalAddress}
-use Rattle.address.specs.Writing.{addressOctets, octetsOr}
 use Rattle.layout.specs.Layout.{Format, Reached, reached, halted, field, one, require, done, address as addressKind, octets, any, userData, isSet, cut}
 use Rattle.validity_period.specs.Validity.{periodSize}
 use Rattle.submit.specs.Layout.{Fields, formatIn, headerSize}
 use Rattle.submit.specs.declared.reading.SubmitFields.{SubmitFields}
 use Rattle.submit.specs.declared.reading.SubmitFound.{SubmitFound}
-use Rattle.submit.specs.declared.writing.SubmitValues.{SubmitValues}
-
--- ---- reading
 
 -- after TP-DCS
 unfoldable pub afterCoding : ℕ → ℕ → List ℕ → ℕ → ℕ → Format Fields
@@ -55,9 +51,3 @@ Inside s at (SubmitFound.Whole p) =
     (p .address + addressSize (drop (p .address) s) ≤ length s) × (p .validity + p .«validity_octets» ≤ length s) × (p .«validity_octets» ≡ periodSize (formatIn (p .first))) × (p .«data» + p .octets ≤ length s) × (p .octets ≤ 255)
     × (p .octets ≡ dataOctets (codingOf (p .dcs)) (p .udl)) × (p .header ≡ headerSize (isSet 6 (p .first)) (take (p .octets) (drop (p .«data») s))) × (p .header ≤ p .octets) × (inCount (codingOf (p .dcs)) (p .udl) (p .header) ≡ true) × (p .address ≡ at)
 Inside s at (SubmitFound.Refused why) = Unit
-
--- ---- writing
-
--- the octets of values: the text is the address's, vp the octets of the validity period
-abbrev pub octetsIn : SubmitValues → List ℕ → List ℕ → List ℕ → List ℕ
-octetsIn v text vp ud = v .first ∷ v .mr ∷ octetsOr [] (addressOctets (v .ton) (v .npi) text) ++ v .pid ∷ v .dcs ∷ vp ++ v .udl ∷ ud

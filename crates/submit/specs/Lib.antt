@@ -1,3 +1,4 @@
 pub mod Layout
 pub mod Internal
+pub mod Writing
 pub mod Submit
