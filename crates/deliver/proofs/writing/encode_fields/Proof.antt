@@ -35,9 +35,9 @@ encode-fields-spec =
     tie.close
     (tie.spec
     (λ c. another-type _ _ _ _ _ _ _ _ _ _ _ (c .if1 .taken))
-    (λ c κs. tt) (λ c. search needs)
+    (λ c κs. tt) (λ c. c .match .keys1)
     (λ c. data-against _ _ _ _ _ _ _ _ _ _ _ (c .before .before .before .before .if1 .left) (sym (c .before .before .before .check-user-data .ensures) ∙ ap checkedSays (c .before .r .given .1)))
-    (λ c. search needs) (λ c κs. tt) (λ c. search needs) (λ c. search needs) (λ c κs. tt)
+    (λ c. c .match .keys2) (λ c κs. tt) (λ c. c .match2 .keys1) (λ c. c .match2 .keys2) (λ c κs. tt)
     (λ c. let p = c .before .before in no-time _ _ _ _ _ _ _ _ _ _ _ (mti-is p) (data-fine p) (counted p) (sym (c .before .is-time .ensures) ∙ not-true _ (c .if2 .taken)))
     (λ c. omega (arith, fine-small _ _ _ _ (counted (c .before .before))))
     (λ c. omega (arith, fine-small _ _ _ _ (counted (c .before .before))))

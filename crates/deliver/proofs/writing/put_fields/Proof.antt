@@ -53,5 +53,4 @@ put-fields-spec =
     (λ c κs. (c .before .before .before .before .before .before .before .before .before .before .before .before .before .before .before .before .before .before .before .before .before .pre .1, omega (arith, after-dcs (c .before .before .before))))
     (λ c κs. omega (arith, after-time (c .before .before .before)))
     (λ c κs. after-udl (c .before .before .before))
-    (λ c. search needs)
-    returns)
+    (λ c. search needs) returns)
