@@ -1,23 +1,19 @@
--- SMS-DELIVER (TS 23.040 §9.2.2.1), what its writer makes of its fields' values.
+-- SMS-DELIVER (TS 23.040 §9.2.2.1), its fields' values: how they are checked, and their octets.
 use Prim.Native.Nat.{ℕ}
 use mathlib.Core.List.{List, [], _∷_, _++_}
 use lib.Dec.{eqb}
 use lib.ListN.{length}
-use Rattle.octets.specs.Answers.{Said}
-use Rattle.octets.specs.Checks.{_unless_, checked}
-use Rattle.octets.specs.Lent.{Making}
+use Rattle.octets.specs.Checks.{Check, _unless_}
 use Rattle.octets.specs.declared.Refusal.the-variants.{WrongMessageType, NotATime}
 use Rattle.coding.specs.Coding.{dataChecks}
 use Rattle.time.specs.Time.{isTime, timeOctets}
 use Rattle.address.specs.Writing.{addressOctets, octetsOr, addressChecks}
 
--- their octets, in the layout's order
-abbrev pub octetsIn : ℕ → ℕ → ℕ → List ℕ → ℕ → ℕ → List ℕ → ℕ → List ℕ → List ℕ
-octetsIn flags ton npi text pid dcs digits udl ud = flags ∷ octetsOr [] (addressOctets ton npi text) ++ pid ∷ dcs ∷ timeOctets digits ++ udl ∷ ud
+-- the checks of MTI, user data, address and time, in document 01's order
+unfoldable pub checksIn : ℕ → ℕ → ℕ → List ℕ → ℕ → List ℕ → ℕ → List ℕ → List Check
+checksIn mti ton npi text dcs digits udl ud =
+    (WrongMessageType unless eqb mti 0) ∷ (dataChecks dcs udl (length ud) ++ (addressChecks ton npi text ++ ((NotATime unless isTime digits) ∷ [])))
 
--- what a writer makes of them: flags of the first octet, MTI, address, PID, DCS, time, UDL, data
-unfoldable pub making : ℕ → ℕ → ℕ → ℕ → List ℕ → ℕ → ℕ → List ℕ → ℕ → List ℕ → Making (Said ℕ)
-making flags mti ton npi text pid dcs digits udl ud =
-    checked
-    ((WrongMessageType unless eqb mti 0) ∷ dataChecks dcs udl (length ud) ++ addressChecks ton npi text ++ (NotATime unless isTime digits) ∷ [])
-    (octetsIn flags ton npi text pid dcs digits udl ud)
+-- the octets, in the layout's order
+unfoldable pub octetsIn : ℕ → ℕ → ℕ → List ℕ → ℕ → ℕ → List ℕ → ℕ → List ℕ → List ℕ
+octetsIn first ton npi text pid dcs digits udl ud = first ∷ (octetsOr [] (addressOctets ton npi text) ++ (pid ∷ dcs ∷ (timeOctets digits ++ (udl ∷ ud))))

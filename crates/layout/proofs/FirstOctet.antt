@@ -161,3 +161,13 @@ module _ (mti : ℕ) (low-mti : mti < 4) where
           let here : isSet b x ≡ on = (rw (eq-eqb b b refl) at (tells b)) refl in
           let rest : (c : ℕ) → names (bitsOf flags) c ≡ true → isSet c x ≡ flagAt flags c = λ c n. (rw (ne-eqb c b (λ e. omega (arith, lower c n))) at (tells c)) n in
           rw (here, again x flags ds rest)
+
+bits-in : (bits : List ℕ) (x : ℕ) → bitsOf (flagsIn bits x) ≡ bits
+bits-in [] x = refl
+bits-in (b ∷ bits) x = ap (λ (bs : List ℕ). b ∷ bs) (bits-in bits x)
+
+-- a canonical first octet is that of the TP-MTI and the flags that it tells
+pub told-first : (bits : List ℕ) → descends bits ≡ true → (x : ℕ) → firstOctet (messageType (kept bits x)) (flagsIn bits (kept bits x)) ≡ kept bits x
+told-first bits d x =
+    let again = first-kept (messageType x) (omega arith) (flagsIn bits x) (ap descends (bits-in bits x) ∙ d) in
+    sym (kept-first bits (kept bits x)) ∙ (rw (bits-in bits x, ← kept-first bits x) at again)

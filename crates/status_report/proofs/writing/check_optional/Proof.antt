@@ -23,14 +23,5 @@ pub check-optional-spec : {M : Type 1} → statement M
 check-optional-spec =
     tie.close
     (tie.spec
-    (λ c. search needs)
-    (λ c. search needs)
-    (λ c κs. search needs)
-    returns
-    returns-2
-    (λ c κs. search needs)
-    (λ c. search needs)
-    returns-3
-    (λ c. search needs)
-    (λ c κs. search needs)
-    returns-4)
+    (λ c. c .match .keys1) (λ c. c .match .keys2) (λ c κs. search needs) returns returns-2 (λ c κs. search needs) (λ c. c .match2 .keys1) returns-3 (λ c. c .match2 .keys2)
+    (λ c κs. search needs) returns-4)

@@ -41,5 +41,4 @@ put-after-address-spec =
     (λ c κs. omega (arith, after-discharge (c .before .before .before)))
     (λ c κs. omega (arith, after-status (c .before .before .before)))
     (λ c κs. omega (arith, after-indicator (c .before .before .before)))
-    (λ c. search needs)
-    returns)
+    (λ c. search needs) returns)
