@@ -26,12 +26,12 @@ use Rattle.submit_report.specs.SubmitReport as SubmitReport
 use Rattle.submit_report.specs.declared.SmsSubmitReport.{SmsSubmitReport}
 use Rattle.submit_report.proofs.Demand.{ack-demand3 as submit-ack, error-demand3 as submit-error}
 use Rattle.submit_report.proofs.Limits.{submit-report-limits}
-use Rattle.submit_report.proofs.EntryPoint.{ack-outcome as submit-ack-outcome, error-outcome as submit-error-outcome}
+use Rattle.submit_report.proofs.Demand.{outcome-read as submit-outcome}
 use Rattle.deliver_report.specs.DeliverReport as DeliverReport
 use Rattle.deliver_report.specs.declared.SmsDeliverReport.{SmsDeliverReport}
 use Rattle.deliver_report.proofs.Demand.{ack-demand3 as deliver-ack, error-demand3 as deliver-error}
 use Rattle.deliver_report.proofs.Limits.{deliver-report-limits}
-use Rattle.deliver_report.proofs.EntryPoint.{ack-outcome as deliver-ack-outcome, error-outcome as deliver-error-outcome}
+use Rattle.deliver_report.proofs.Demand.{outcome-read as deliver-outcome}
 use Rattle.status_report.specs.StatusReport as StatusReport
 use Rattle.status_report.proofs.Demand.{status-report-demand3}
 use Rattle.status_report.proofs.Limits.{status-report-limits}
@@ -160,16 +160,16 @@ status-report-alike = status-report-limits
 -- ---- the outcome in both reports' records: that of the entry point, so that records of one reader are as equal or different as without it
 
 pub submit-report-ack-outcome : OneOutcome SubmitReport.cleared (λ r. r .«rp_outcome») SubmitReport.withOutcome SubmitReport.ack RpAck
-submit-report-ack-outcome = submit-ack-outcome
+submit-report-ack-outcome = submit-outcome RpAck
 
 pub submit-report-error-outcome : OneOutcome SubmitReport.cleared (λ r. r .«rp_outcome») SubmitReport.withOutcome SubmitReport.error RpError
-submit-report-error-outcome = submit-error-outcome
+submit-report-error-outcome = submit-outcome RpError
 
 pub deliver-report-ack-outcome : OneOutcome DeliverReport.cleared (λ r. r .«rp_outcome») DeliverReport.withOutcome DeliverReport.ack RpAck
-deliver-report-ack-outcome = deliver-ack-outcome
+deliver-report-ack-outcome = deliver-outcome RpAck
 
 pub deliver-report-error-outcome : OneOutcome DeliverReport.cleared (λ r. r .«rp_outcome») DeliverReport.withOutcome DeliverReport.error RpError
-deliver-report-error-outcome = deliver-error-outcome
+deliver-report-error-outcome = deliver-outcome RpError
 
 -- ---- cut messages, of the eight writers: a report's line is that of both its writers, whatever the limit of user data (140, or `standardLimit`)
 

@@ -107,7 +107,7 @@ module _ (limit : ℕ) (make : OptionalOctet → Parameters → Fields) (p : Par
   optional-read (Present pi) h e =
       let (i, d) = both-hold (indicatorChecks pi (p .pid) (p .dcs) (p .udl)) (dataWithin limit (p .dcs) (p .udl) (length (p .ud))) h in
       let n : at + 1 + held (p .pid) + held (p .dcs) + held (p .udl) + length (p .ud) ≡ length s = omega (arith, length-drop at s, simp length-append at (ap length e)) in
-      end-not-reached s at _ _ (omega arith) ∙ indicator-here s at e _ (not-extended limit pi p [] 0 i d) ∙ parameters-here limit pi p i d s (at + 1) (sym (drop-drop 1 at s) ∙ ap (drop 1) e) _
+      end-not-reached s at _ _ (omega arith) ∙ indicator-here s at e _ (not-extended limit pi p i d) ∙ parameters-here limit pi p i d s (at + 1) (sym (drop-drop 1 at s) ∙ ap (drop 1) e) _
       ∙ done-reached s _ _ ∙ ap (reached (make (Present pi) p)) n
 
 -- octets follow status exactly where an indicator is held
