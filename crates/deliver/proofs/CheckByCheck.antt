@@ -9,7 +9,7 @@ use borrow.Author.Tests.{eq-eqb, ne-eqb}
 use lib.ListN.{length, length-append}
 use Rattle.octets.specs.Answers.{Said, gives, refuses, fine}
 use Rattle.octets.specs.Checks.{Check, _unless_, checked, afterChecked}
-use Rattle.octets.specs.Lent.{Making, refused, made, lend, Wrote}
+use Rattle.octets.specs.Lent.{Making, made, lend, Wrote}
 use Rattle.octets.specs.declared.Refusal.{Refusal}
 use Rattle.octets.specs.declared.Refusal.the-variants.{WrongMessageType, NotATime, OutputTooShort}
 use Rattle.octets.proofs.Laws.{lent-refused, lent-short, lent-written}

@@ -2,7 +2,7 @@
 -- And each proper beginning of it is refused with 2; cut just after status, where an indicator follows, it is read as the same record with no indicator, parameters or user data (document 02, Ask 9).
 -- Assumes nothing.
 use Prim.Native.Nat.{ℕ, _+_, _-_, _≤_, _<_}
-use mathlib.Core.Path.{_≡_, refl, sym, ap, ap₂, _∙_}
+use mathlib.Core.Path.{_≡_, refl, sym, ap, _∙_}
 use mathlib.Core.Bool.{Bool, true, false}
 use mathlib.Core.List.{List, [], _∷_, _++_, append-assoc, append-nil}
 use mathlib.Core.Logic.{⊎-elim}
@@ -25,7 +25,7 @@ use Rattle.time.proofs.Laws.{time-back, time-size}
 use Rattle.address.specs.Writing.{addressChecks}
 use Rattle.address.specs.Address.{addressIn, textHeld, clearedAddress}
 use Rattle.address.proofs.Laws.{Spelled, address-passed, address-held}
-use Rattle.layout.specs.Cut.{Cut, Endless}
+use Rattle.layout.specs.Cut.{Cut}
 use Rattle.layout.specs.Demand.{Demand2}
 use Rattle.layout.specs.Layout.{first, octet, octets, any, address, leading, firstOctet, Field, standsAs, joined, Format, field, message, one, time, done, _then_, reached, halted, reading, readFrom, plain, read}
 use Rattle.layout.proofs.Beginnings.{fronts, cut-read, cut-after-end}
@@ -39,7 +39,7 @@ use Rattle.parameters.specs.declared.OptionalOctet.{OptionalOctet}
 use Rattle.parameters.specs.declared.OptionalOctet.the-variants.{Absent, Present}
 use Rattle.status_report.specs.Layout.{Fields, bits, fields}
 use Rattle.status_report.specs.Internal.{fieldsWith, afterStatus}
-use Rattle.status_report.specs.StatusReport.{statusReported, format, statusReport, lengthsOf, flagsOf, parametersOf, octetsOf, optionalChecks, statusReportingWithin, statusReporting, statusReportingToStandard, cleared, capitalised, Typed}
+use Rattle.status_report.specs.StatusReport.{statusReported, format, statusReport, lengthsOf, flagsOf, parametersOf, optionalChecks, statusReportingWithin, statusReporting, statusReportingToStandard, cleared, capitalised, Typed}
 use Rattle.status_report.specs.declared.SmsStatusReport.{SmsStatusReport}
 use Rattle.status_report.proofs.Demand.{made-cleared}
 use Rattle.demands.specs.Cuts.{recipientOctets, upToStatus, ifHeld, cutAfterStatus, withoutIndicator}
