@@ -9,8 +9,8 @@ use borrow.Author.Needs.{needs}
 use borrow.Author.Tests.{not-true, not-false}
 use denote.Ref.{now}
 use lib.ListN.{length}
-use Rattle.octets.specs.Answers.{Said, gives, refuses, fine, checkedSays}
-use Rattle.octets.specs.Lent.{Making, made}
+use Rattle.octets.specs.Answers.{gives, refuses, fine, checkedSays}
+use Rattle.octets.specs.Lent.{made}
 use Rattle.octets.proofs.Laws.{kept-by, lent-refused, lent-short, lent-written}
 use Rattle.coding.specs.Coding.{checkedData}
 use Rattle.address.specs.Writing.{addressMaking, addressCheckSays}
