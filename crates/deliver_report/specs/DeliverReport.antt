@@ -8,6 +8,7 @@ use Rattle.octets.specs.Checks.{_unless_, found, checked, allFit}
 use Rattle.octets.specs.Lent.{Making}
 use Rattle.octets.specs.declared.Refusal.the-variants.{LengthTooLarge, OctetsEnd, WrongMessageType, UserDataTooLong, OutcomeDisagrees}
 use Rattle.coding.specs.Coding.{codingOf, characterSet, dataOctets, dataWith, dataOf, clearedData, TypedData}
+use Rattle.coding.specs.declared.UserData.{UserData}
 use Rattle.layout.specs.Layout.{indicatorSize, kept, Layout, records, stops, reached, halted, after, reading, readFrom, read, fieldsOf, canonicalOf}
 use Rattle.parameters.specs.Checking.{dataWithin}
 use Rattle.parameters.specs.Layout.{parameters}
@@ -114,31 +115,26 @@ known-limits = (refl, refl, refl, refl)
 
 -- ---- what is no part of a record
 
--- what lies after the user data's length set to zero: records are equal where these are
-abbrev pub cleared : SmsDeliverReport → SmsDeliverReport
-cleared r = record {
+-- the same record with user data changed, and with an outcome
+abbrev pub changed : (UserData → UserData) → RpOutcome → SmsDeliverReport → SmsDeliverReport
+changed userData outcome r = record {
   «tp_udhi» = r .«tp_udhi»;
   «tp_failure_cause» = r .«tp_failure_cause»;
   «tp_parameter_indicator» = r .«tp_parameter_indicator»;
   «tp_pid» = r .«tp_pid»;
   «tp_dcs» = r .«tp_dcs»;
   «tp_user_data_length» = r .«tp_user_data_length»;
-  «tp_user_data» = clearedData (r .«tp_user_data»);
-  «rp_outcome» = r .«rp_outcome»;
-}
-
--- the same record with an outcome: two records are equal without theirs where these are
-abbrev pub withOutcome : RpOutcome → SmsDeliverReport → SmsDeliverReport
-withOutcome outcome r = record {
-  «tp_udhi» = r .«tp_udhi»;
-  «tp_failure_cause» = r .«tp_failure_cause»;
-  «tp_parameter_indicator» = r .«tp_parameter_indicator»;
-  «tp_pid» = r .«tp_pid»;
-  «tp_dcs» = r .«tp_dcs»;
-  «tp_user_data_length» = r .«tp_user_data_length»;
-  «tp_user_data» = r .«tp_user_data»;
+  «tp_user_data» = userData (r .«tp_user_data»);
   «rp_outcome» = outcome;
 }
+
+-- what lies after the user data's length set to zero: records are equal where these are
+abbrev pub cleared : SmsDeliverReport → SmsDeliverReport
+cleared r = changed clearedData (r .«rp_outcome») r
+
+-- two records are equal without their outcomes where they are with another's
+abbrev pub withOutcome : RpOutcome → SmsDeliverReport → SmsDeliverReport
+withOutcome = changed (λ d. d)
 
 -- it has no time, and so no letters that reading makes capital
 abbrev pub capitalised : SmsDeliverReport → SmsDeliverReport

@@ -120,9 +120,9 @@ known-limits = (refl, refl, refl, refl)
 
 -- ---- what is no part of a record
 
--- the same record with time and user data changed
-abbrev pub changed : (Time → Time) → (UserData → UserData) → SmsSubmitReport → SmsSubmitReport
-changed time userData r = record {
+-- the same record with time and user data changed, and with an outcome
+abbrev pub changed : (Time → Time) → (UserData → UserData) → RpOutcome → SmsSubmitReport → SmsSubmitReport
+changed time userData outcome r = record {
   «tp_udhi» = r .«tp_udhi»;
   «tp_failure_cause» = r .«tp_failure_cause»;
   «tp_parameter_indicator» = r .«tp_parameter_indicator»;
@@ -131,30 +131,20 @@ changed time userData r = record {
   «tp_dcs» = r .«tp_dcs»;
   «tp_user_data_length» = r .«tp_user_data_length»;
   «tp_user_data» = userData (r .«tp_user_data»);
-  «rp_outcome» = r .«rp_outcome»;
-}
-
--- the same record with an outcome: two records are equal without theirs where these are
-abbrev pub withOutcome : RpOutcome → SmsSubmitReport → SmsSubmitReport
-withOutcome outcome r = record {
-  «tp_udhi» = r .«tp_udhi»;
-  «tp_failure_cause» = r .«tp_failure_cause»;
-  «tp_parameter_indicator» = r .«tp_parameter_indicator»;
-  «tp_service_centre_timestamp» = r .«tp_service_centre_timestamp»;
-  «tp_pid» = r .«tp_pid»;
-  «tp_dcs» = r .«tp_dcs»;
-  «tp_user_data_length» = r .«tp_user_data_length»;
-  «tp_user_data» = r .«tp_user_data»;
   «rp_outcome» = outcome;
 }
 
 -- what lies after a length set to zero: records are equal where these are
 abbrev pub cleared : SmsSubmitReport → SmsSubmitReport
-cleared = changed clearedTime clearedData
+cleared r = changed clearedTime clearedData (r .«rp_outcome») r
+
+-- two records are equal without their outcomes where they are with another's
+abbrev pub withOutcome : RpOutcome → SmsSubmitReport → SmsSubmitReport
+withOutcome = changed (λ t. t) (λ d. d)
 
 -- the time's letters capital
 abbrev pub capitalised : SmsSubmitReport → SmsSubmitReport
-capitalised = changed capitalTime (λ d. d)
+capitalised r = changed capitalTime (λ d. d) (r .«rp_outcome») r
 
 -- the arrays have the lengths of their types
 abbrev pub Typed : SmsSubmitReport → Type 0
