@@ -2,7 +2,7 @@
 -- Assumes nothing.
 use Prim.Native.Nat.{ℕ}
 use mathlib.Core.Path.{_≡_, sym, ap, _∙_}
-use mathlib.Core.Bool.{Bool, false}
+use mathlib.Core.Bool.{Bool}
 use mathlib.Core.List.{List, [], _∷_, _++_, append-assoc}
 use lib.ListN.{length}
 use Rattle.octets.specs.Answers.{Said}
@@ -26,7 +26,7 @@ module _ {R : Type 0} (before : R → List Check) (timeHolds : R → Bool) (mti 
   count r = length (fieldsIn r .parameters .ud)
 
   -- the checks of user data stand last
-  data-last : (limit : ℕ) (r : R) → within limit r ≡ writing false (front r) (fieldsIn r .parameters .dcs) (fieldsIn r .parameters .udl) (count r) (octetsOf mti (fieldsIn r)) limit
+  data-last : (limit : ℕ) (r : R) → within limit r ≡ writing (front r) (fieldsIn r .parameters .dcs) (fieldsIn r .parameters .udl) (count r) (octetsOf mti (fieldsIn r)) limit
   data-last limit r =
       let x = fieldsIn r in
       let first = indicatorChecks (x .indicator) (x .parameters .pid) (x .parameters .dcs) (x .parameters .udl) in
@@ -39,6 +39,6 @@ module _ {R : Type 0} (before : R → List Check) (timeHolds : R → Bool) (mti 
       limits within count λ r.
       let p = fieldsIn r .parameters in
       let xs = octetsOf mti (fieldsIn r) in (
-        λ limit octets answer e. keeps false (front r) (p .dcs) (p .udl) (count r) xs limit octets answer (sym (data-last limit r) ∙ e),
-        λ limit other octets answer e h. data-last other r ∙ moves false (front r) (p .dcs) (p .udl) (count r) xs limit octets answer (sym (data-last limit r) ∙ e) other h,
+        λ limit octets answer e. keeps (front r) (p .dcs) (p .udl) (count r) xs limit octets answer (sym (data-last limit r) ∙ e),
+        λ limit other octets answer e h. data-last other r ∙ moves (front r) (p .dcs) (p .udl) (count r) xs limit octets answer (sym (data-last limit r) ∙ e) other h,
       )

@@ -2,7 +2,6 @@
 -- Assumes nothing.
 use Prim.Native.Nat.{ℕ, _≤_}
 use mathlib.Core.Path.{_≡_, sym, _∙_}
-use mathlib.Core.Bool.{false}
 use mathlib.Core.List.{List, [], _∷_, _++_, append-assoc}
 use native.Mathlib.Omega.{arith}
 use borrow.Author.Tests.{eqb-true}
@@ -57,19 +56,19 @@ module _ (r : SmsStatusReport) (i : ℕ) where
   abbrev indicated : List Check
   indicated = indicatorChecks i (r .«tp_pid») (r .«tp_dcs») (r .«tp_user_data_length»)
 
-  data-last : (limit : ℕ) → with r (Present i) limit ≡ writing false (front r ++ indicated) (r .«tp_dcs») (r .«tp_user_data_length») (count r) (octetsOf r) limit
+  data-last : (limit : ℕ) → with r (Present i) limit ≡ writing (front r ++ indicated) (r .«tp_dcs») (r .«tp_user_data_length») (count r) (octetsOf r) limit
   unfolding optionalChecks
   data-last limit = rw (append-assoc (front r) indicated (dataWithin limit (r .«tp_dcs») (r .«tp_user_data_length») (count r)))
 
 module _ (r : SmsStatusReport) (limit : ℕ) (octets : List ℕ) (answer : Said ℕ) where
   keeps-with : (pi : OptionalOctet) → with r pi limit ≡ made octets answer → count r ≤ limit
   keeps-with Absent e = omega (arith, none-held limit (parametersOf r) (both-hold (front r) (optionalChecks limit Absent (parametersOf r)) (made-told _ _ e .0) .1))
-  keeps-with (Present i) e = keeps false (front r ++ indicated r i) _ _ (count r) (octetsOf r) limit octets answer (sym (data-last r i limit) ∙ e)
+  keeps-with (Present i) e = keeps (front r ++ indicated r i) _ _ (count r) (octetsOf r) limit octets answer (sym (data-last r i limit) ∙ e)
 
   moves-with : (other : ℕ) (pi : OptionalOctet) → with r pi limit ≡ made octets answer → count r ≤ other → with r pi other ≡ made octets answer
   unfolding optionalChecks
   moves-with other Absent e h = e
-  moves-with other (Present i) e h = data-last r i other ∙ moves false (front r ++ indicated r i) _ _ (count r) (octetsOf r) limit octets answer (sym (data-last r i limit) ∙ e) other h
+  moves-with other (Present i) e h = data-last r i other ∙ moves (front r ++ indicated r i) _ _ (count r) (octetsOf r) limit octets answer (sym (data-last r i limit) ∙ e) other h
 
 pub status-report-limits : Limits statusReportingWithin count
 status-report-limits =
