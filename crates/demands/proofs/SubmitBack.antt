@@ -40,9 +40,8 @@ use Rattle.validity_period.specs.declared.ValidityPeriod.{ValidityPeriod}
 use Rattle.validity_period.proofs.Period.{period-size}
 use Rattle.submit.specs.declared.SmsSubmit.{SmsSubmit}
 use Rattle.submit.specs.Layout.{Fields, formatIn, headerSize, bits}
-use Rattle.submit.specs.Submit.{submitted, submit, lengthsFit, firstOf, submitting, headerAnswer, underived, compared, capitalised, Typed}
+use Rattle.submit.specs.Submit.{submitted, submit, firstOf, submitting, headerAnswer, underived, compared, capitalised, Typed}
 use Rattle.submit.proofs.CheckByCheck.{Passed, all-passed}
-use Rattle.submit.specs.Writing.{making}
 use Rattle.submit.proofs.Demand.{made-cleared}
 use Rattle.demands.proofs.SubmitWritten.{ends, written-read, written-cut}
 
@@ -196,5 +195,5 @@ pub submit-ends : Cut Typed compared capitalised (λ r. submit) submitting (λ r
 submit-ends = cut-always _ _ _ _ _ λ r t octets n e. cut-back r t e
 
 pub submit-counts : (r : SmsSubmit) (xs : List ℕ) (a : Said ℕ) → submitting r ≡ made xs a → a ≡ gives (length xs)
-unfolding submitting making
-submit-counts r xs a e = made-counts _ _ (made-if LengthTooLarge (lengthsFit r) e .1)
+unfolding submitting
+submit-counts r xs a e = made-counts _ _ e

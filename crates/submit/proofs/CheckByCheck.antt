@@ -9,12 +9,12 @@ use borrow.Author.Tests.{eqb-true, eq-eqb, ne-eqb}
 use lib.Dec.{eqb}
 use lib.ListN.{length, take, length-append}
 use Rattle.octets.specs.Answers.{Said, gives, refuses, fine}
-use Rattle.octets.specs.Checks.{Check, _unless_, found, checked, afterChecked}
+use Rattle.octets.specs.Checks.{Check, _unless_, found, checked, afterChecked, allFit}
 use Rattle.octets.specs.Choice.{if_then_else_, lengthIf}
 use Rattle.octets.specs.Lent.{Making, refused, made}
 use Rattle.octets.specs.declared.Refusal.{Refusal}
 use Rattle.octets.specs.declared.Refusal.the-variants.{LengthTooLarge, WrongMessageType, ValidityFormatDisagrees, NoDestination, NotATime}
-use Rattle.octets.proofs.Checks.{holds, both-hold, made-if, made-told, Fit, all-fit}
+use Rattle.octets.proofs.Checks.{holds, both-hold, made-told, Fit, all-fit}
 use Rattle.coding.specs.Coding.{codingOf, dataOctets, checkedData, dataChecks, dataOf}
 use Rattle.coding.proofs.Laws.{data-checked, data-passed}
 use Rattle.time.specs.Time.{digitsOf}
@@ -29,8 +29,8 @@ use Rattle.validity_period.specs.declared.ValidityPeriod.{ValidityPeriod}
 use Rattle.validity_period.proofs.Period.{period-size}
 use Rattle.submit.specs.declared.SmsSubmit.{SmsSubmit}
 use Rattle.submit.specs.declared.writing.SubmitValues.{SubmitValues}
-use Rattle.submit.specs.Submit.{addressLength, digitsLength, lengthsOf, lengthsFit, valuesOf, submitting}
-use Rattle.submit.specs.Writing.{octetsIn, making}
+use Rattle.submit.specs.Submit.{addressLength, digitsLength, lengthsOf, firstOf, octetsOf, submitting}
+use Rattle.submit.specs.Internal.{octetsIn, making}
 
 -- ---- by the lengths that count
 
@@ -111,6 +111,21 @@ module _ (mti vpf : ℕ) (there : Bool) (v : SubmitValues) (text digits enhanced
 
 -- ---- a record: its lengths, then its values
 
+abbrev pub lengthsFit : SmsSubmit → Bool
+lengthsFit r = allFit (lengthsOf r)
+
+abbrev pub valuesOf : SmsSubmit → SubmitValues
+valuesOf r = record {
+  first = firstOf r;
+  mr = r .«tp_mr»;
+  ton = r .«tp_destination_address» .ton;
+  npi = r .«tp_destination_address» .npi;
+  pid = r .«tp_pid»;
+  dcs = r .«tp_dcs»;
+  period = r .«tp_validity_period»;
+  udl = r .«tp_user_data_length»;
+}
+
 module _ (r : SmsSubmit) where
   abbrev to : SMSAddress
   to = r .«tp_destination_address»
@@ -140,20 +155,16 @@ module _ (r : SmsSubmit) where
       by false e = unsent e _ _ ∙ sym (unsent e _ _)
 
   pub too-long : lengthsFit r ≡ false → submitting r ≡ refused LengthTooLarge
-  unfolding submitting
+  unfolding submitting checked
   too-long e = rw e
 
   module _ (e : lengthsFit r ≡ true) where
     pub by-fields : submitting r ≡ withParts (textHeld to) (digitsOf stamp)
-    unfolding submitting
+    unfolding submitting making checked
     by-fields = rw e
 
     pub by-values : submitting r ≡ withParts (take (addressLength r) (to .address)) (take (digitsLength r) (stamp .digits))
     by-values = by-fields ∙ sym parts-counted
-
--- the octets of a record
-abbrev pub octetsOf : SmsSubmit → List ℕ
-octetsOf r = octetsIn (valuesOf r) (textHeld (to r)) (periodOctets (r .«tp_validity_period») (digitsOf (stamp r)) (r .«validity_period_octets»)) (ud r)
 
 -- where octets are written, every check has held
 pub record Passed (r : SmsSubmit) (xs : List ℕ) : Type 0 where
@@ -168,15 +179,16 @@ pub record Passed (r : SmsSubmit) (xs : List ℕ) : Type 0 where
   pub octets-are : octetsOf r ≡ xs
 
 pub all-passed : (r : SmsSubmit) {xs : List ℕ} {w : Said ℕ} → submitting r ≡ made xs w → Passed r xs
-unfolding submitting making checkedData
+unfolding submitting checkedData
 all-passed r e =
     let v = valuesOf r in
     let text = textHeld (to r) in
     let digits = digitsOf (stamp r) in
     let from-destination = (NoDestination unless r .«has_destination_address») ∷ toData v text digits (ud r) in
-    let (l, m) = made-if LengthTooLarge (lengthsFit r) e in
-    let (f, x) = made-told _ _ m in
-    let (m, f1) = holds WrongMessageType (eqb (r .«tp_mti») 1) ((ValidityFormatDisagrees unless eqb (r .«tp_vpf») (formatOf (r .«tp_validity_period»))) ∷ from-destination) f in
+    let from-format = (ValidityFormatDisagrees unless eqb (r .«tp_vpf») (formatOf (r .«tp_validity_period»))) ∷ from-destination in
+    let (f0, x) = made-told _ _ e in
+    let (l, f) = holds LengthTooLarge (lengthsFit r) ((WrongMessageType unless eqb (r .«tp_mti») 1) ∷ from-format) f0 in
+    let (m, f1) = holds WrongMessageType (eqb (r .«tp_mti») 1) from-format f in
     let (p, f2) = holds ValidityFormatDisagrees (eqb (r .«tp_vpf») (formatOf (r .«tp_validity_period»))) from-destination f1 in
     let (t, f3) = holds NoDestination (r .«has_destination_address») (toData v text digits (ud r)) f2 in
     let (d, f4) = both-hold (dataChecks (v .dcs) (v .udl) (length (ud r))) (toAddress v text digits) f3 in

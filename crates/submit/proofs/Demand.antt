@@ -38,10 +38,10 @@ use Rattle.validity_period.proofs.Period.{digitsCount, Held, period-held}
 use Rattle.submit.specs.declared.SmsSubmit.{SmsSubmit}
 use Rattle.submit.specs.declared.writing.SubmitValues.{SubmitValues}
 use Rattle.submit.specs.Layout.{Fields, formatIn, headerSize, bits, fields}
-use Rattle.submit.specs.Submit.{readable, textWith, headerIn, submitted, format, submit, lengthsFit, firstOf, valuesOf, submitting, cleared, Typed}
-use Rattle.submit.specs.Writing.{making}
+use Rattle.submit.specs.Submit.{readable, textWith, headerIn, submitted, format, submit, firstOf, octetsOf, submitting, cleared, Typed}
+use Rattle.submit.specs.Internal.{making}
 use Rattle.submit.proofs.FieldByField.{kept-whole}
-use Rattle.submit.proofs.CheckByCheck.{digits-counted, last, toAddress, toData, to-data, unsent, by-fields, octetsOf}
+use Rattle.submit.proofs.CheckByCheck.{digits-counted, last, toAddress, toData, to-data, lengthsFit, valuesOf, unsent, by-fields}
 use Rattle.submit.proofs.Text.{readable-short}
 
 -- ---- what is no part of a record is not written
@@ -69,7 +69,7 @@ module _ (r : SmsSubmit) (typed : Typed r) where
       )
 
   of-cleared : submitting (cleared r) ≡ submitting r
-  unfolding submitting making
+  unfolding submitting making checked
   of-cleared = by (r .«has_destination_address») refl
     where
       by : (b : Bool) → r .«has_destination_address» ≡ b → submitting (cleared r) ≡ submitting r

@@ -23,7 +23,7 @@ use Rattle.layout.specs.Layout.{kept, firstOctet, reached, halted, after, readi
 use Rattle.validity_period.specs.Validity.{periodSize, periodIn}
 use Rattle.submit.specs.Layout.{Fields, headerSize, fields}
 use Rattle.submit.specs.Submit.{readable, textWith, submitted, format, submit, submitting, headerAnswer}
-use Rattle.submit.specs.Writing.{making}
+use Rattle.submit.specs.Internal.{making}
 
 -- MR 07, "12" in a field with an F, PID and DCS 0
 abbrev front : List ℕ

@@ -1,4 +1,3 @@
 pub mod Layout
 pub mod Internal
-pub mod Writing
 pub mod Submit

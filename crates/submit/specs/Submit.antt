@@ -7,11 +7,11 @@ use lib.Dec.{eqb, leb}
 use lib.ListN.{length, take, drop}
 use Rattle.octets.specs.Answers.{Said, outcomeSays}
 use Rattle.octets.specs.Arrays.{pad, clearedArray}
-use Rattle.octets.specs.Checks.{_unless_, found, allFit}
+use Rattle.octets.specs.Checks.{_unless_, found, checked, allFit}
 use Rattle.octets.specs.Choice.{if_then_else_, lengthIf}
-use Rattle.octets.specs.Lent.{Making, refused}
-use Rattle.octets.specs.declared.Refusal.the-variants.{LengthTooLarge, HeaderNotWhole, HeaderPassesCount}
-use Rattle.coding.specs.Coding.{codingOf, dataWith, dataOf, clearedData, TypedData}
+use Rattle.octets.specs.Lent.{Making}
+use Rattle.octets.specs.declared.Refusal.the-variants.{LengthTooLarge, WrongMessageType, ValidityFormatDisagrees, NoDestination, NotATime, HeaderNotWhole, HeaderPassesCount}
+use Rattle.coding.specs.Coding.{codingOf, dataChecks, dataWith, dataOf, clearedData, TypedData}
 use Rattle.coding.specs.declared.UserData.{UserData}
 use Rattle.coding.specs.declared.UserDataCoding.{UserDataCoding}
 use Rattle.coding.specs.declared.UserDataCoding.the-variants.{Gsm7Bit, EightBit, Ucs2, Compressed}
@@ -22,16 +22,15 @@ use Rattle.user_data_header.specs.Header.{inCount}
 use Rattle.time.specs.Time.{timeIn, digitsOf, clearedTime, capitalTime, TypedTime}
 use Rattle.time.specs.declared.Time.{Time}
 use Rattle.address.specs.Address.{addressIn, addressWith, septetsRead, textHeld, clearedAddress, TypedAddress}
+use Rattle.address.specs.Writing.{addressOctets, octetsOr, addressChecks}
 use Rattle.address.specs.declared.SMSAddress.{SMSAddress}
 use Rattle.layout.specs.Layout.{Format, Layout, plain, Reached, reached, halted, done, _then_, address as addressKind, isSet, messageType, firstOctet, cut}
-use Rattle.validity_period.specs.Validity.{periodIn, ofFormat, formatOf, isAbsolute}
+use Rattle.validity_period.specs.Validity.{periodIn, ofFormat, formatOf, isAbsolute, periodOctets, timeHolds}
 use Rattle.validity_period.specs.declared.ValidityPeriod.{ValidityPeriod}
 use Rattle.submit.specs.Layout.{Fields, formatIn, headerSize, fields}
-use Rattle.submit.specs.Writing.{making}
 use Rattle.submit.specs.declared.SmsSubmit.{SmsSubmit}
 use Rattle.submit.specs.declared.SubmitRead.{SubmitRead}
 use Rattle.submit.specs.declared.SubmitText.{SubmitText}
-use Rattle.submit.specs.declared.writing.SubmitValues.{SubmitValues}
 
 -- ---- reading
 
@@ -153,33 +152,26 @@ headerLength r = lengthIf (r .«has_user_data_header») (r .«tp_user_data_heade
 abbrev pub lengthsOf : SmsSubmit → List (ℕ × ℕ)
 lengthsOf r = (addressLength r, 290) ∷ (digitsLength r, 14) ∷ (r .«tp_user_data_raw» .length, 255) ∷ (headerLength r, 255) ∷ (r .«tp_user_data» .length, 510) ∷ []
 
-abbrev pub lengthsFit : SmsSubmit → Bool
-lengthsFit r = allFit (lengthsOf r)
-
 -- the first octet: MTI 1, RP bit 7, UDHI 6, SRR 5, VPF 4 and 3, RD 2
 abbrev pub firstOf : SmsSubmit → ℕ
 firstOf r = firstOctet 1 ((7, r .«tp_rp») ∷ (6, r .«tp_udhi») ∷ (5, r .«tp_srr») ∷ (4, isSet 1 (r .«tp_vpf»)) ∷ (3, isSet 0 (r .«tp_vpf»)) ∷ (2, r .«tp_rd») ∷ [])
 
--- the values that are written: header and text are not
-abbrev pub valuesOf : SmsSubmit → SubmitValues
-valuesOf r = record {
-  first = firstOf r;
-  mr = r .«tp_mr»;
-  ton = r .«tp_destination_address» .ton;
-  npi = r .«tp_destination_address» .npi;
-  pid = r .«tp_pid»;
-  dcs = r .«tp_dcs»;
-  period = r .«tp_validity_period»;
-  udl = r .«tp_user_data_length»;
-}
+-- the octets of a record, in the layout's order: header and text are not written
+abbrev pub octetsOf : SmsSubmit → List ℕ
+octetsOf r =
+    let to = r .«tp_destination_address» in
+    firstOf r ∷ r .«tp_mr» ∷ octetsOr [] (addressOctets (to .ton) (to .npi) (textHeld to)) ++ r .«tp_pid» ∷ r .«tp_dcs»
+    ∷ periodOctets (r .«tp_validity_period») (digitsOf (r .«validity_period_digits»)) (r .«validity_period_octets») ++ r .«tp_user_data_length» ∷ dataOf (r .«tp_user_data_raw»)
 
--- what the writer makes of a record: refusal 1, and those of its values
+-- what the writer makes of a record: refusals 1, 3, 5 and 6, 7 and 8 of the data, 9 to 11 of the address, and 12
 unfoldable pub submitting : SmsSubmit → Making (Said ℕ)
 submitting r =
-    if lengthsFit r
-    then
-    making (r .«tp_mti») (r .«tp_vpf») (r .«has_destination_address») (valuesOf r) (textHeld (r .«tp_destination_address»)) (digitsOf (r .«validity_period_digits»)) (r .«validity_period_octets») (dataOf (r .«tp_user_data_raw»))
-    else refused LengthTooLarge
+    let to = r .«tp_destination_address» in
+    checked
+    ((LengthTooLarge unless allFit (lengthsOf r)) ∷ (WrongMessageType unless eqb (r .«tp_mti») 1) ∷ (ValidityFormatDisagrees unless eqb (r .«tp_vpf») (formatOf (r .«tp_validity_period»)))
+    ∷ (NoDestination unless r .«has_destination_address») ∷ dataChecks (r .«tp_dcs») (r .«tp_user_data_length») (length (dataOf (r .«tp_user_data_raw»))) ++ addressChecks (to .ton) (to .npi) (textHeld to)
+    ++ (NotATime unless timeHolds (r .«tp_validity_period») (digitsOf (r .«validity_period_digits»))) ∷ [])
+    (octetsOf r)
 
 -- what the reader says of the header in the data that a record holds: 17 where it doesn't fit the data, 18 where it doesn't fit the count. The writer doesn't look at it (document 01, demand 2's exception)
 unfoldable pub headerAnswer : SmsSubmit → Said Unit

@@ -8,7 +8,7 @@ ghost use Rattle.octets.specs.Lent.{Wrote, lend};
 ghost use Rattle.address.specs.Writing.{addressMaking};
 ghost use Rattle.address.specs.Internal.{checkOf};
 ghost use Rattle.validity_period.specs.Validity.{formatOf, periodSize, periodOctets, timeHolds};
-ghost use Rattle.submit.specs.Writing.{octetsIn, making};
+ghost use Rattle.submit.specs.Internal.{octetsIn, making};
 use address::writing::AddressCheck;
 use layout::MTI_SUBMIT;
 use octets::Checked;

@@ -14,8 +14,8 @@ use Rattle.octets.specs.Choice.{lengthIf}
 use Rattle.octets.proofs.Checks.{Fit, all-fit}
 use Rattle.octets.proofs.Laws.{lent-refused}
 use Rattle.submit.specs.declared.SmsSubmit.{SmsSubmit}
-use Rattle.submit.specs.Submit.{addressLength, digitsLength, headerLength, lengthsOf, lengthsFit, firstOf}
-use Rattle.submit.proofs.CheckByCheck.{too-long, by-values}
+use Rattle.submit.specs.Submit.{addressLength, digitsLength, headerLength, lengthsOf, firstOf}
+use Rattle.submit.proofs.CheckByCheck.{too-long, by-values, lengthsFit}
 use Rattle.submit.proofs.SmsSubmit.encode.Statement.{statement}
 use Rattle.submit.proofs.SmsSubmit.encode.Tie as tie
 

@@ -17,7 +17,7 @@ use Rattle.address.specs.Writing.{addressMaking, addressCheckSays}
 use Rattle.address.specs.Internal.{checkOf}
 use Rattle.address.proofs.Checks.{fine-small}
 use Rattle.validity_period.specs.Validity.{formatOf, periodSize, periodOctets, timeHolds}
-use Rattle.submit.specs.Writing.{octetsIn, making}
+use Rattle.submit.specs.Internal.{octetsIn, making}
 use Rattle.submit.specs.declared.writing.SubmitValues.{SubmitValues}
 use Rattle.submit.proofs.CheckByCheck.{another-type, another-format, no-destination, data-against, address-against, no-time, all-made, all-size}
 use Rattle.submit.proofs.writing.encode_fields.Statement.{statement}

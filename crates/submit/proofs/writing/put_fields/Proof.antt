@@ -10,7 +10,7 @@ use Rattle.octets.proofs.Laws.{wrote-then, kept-by}
 use Rattle.address.proofs.Checks.{fine-size}
 use Rattle.validity_period.specs.Validity.{formatOf, periodSize, periodOctets}
 use Rattle.validity_period.proofs.Period.{period-size}
-use Rattle.submit.specs.Writing.{octetsIn}
+use Rattle.submit.specs.Internal.{octetsIn}
 use Rattle.submit.proofs.writing.put_fields.Statement.{statement}
 use Rattle.submit.proofs.writing.put_fields.Tie as tie
 
