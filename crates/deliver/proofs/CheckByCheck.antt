@@ -20,7 +20,7 @@ use Rattle.time.proofs.Laws.{time-size}
 use Rattle.address.specs.Writing.{addressChecks, addressMaking}
 use Rattle.address.specs.Internal.{checkOf}
 use Rattle.address.proofs.Checks.{afterCheck, address-checked, fine-size}
-use Rattle.deliver.specs.Writing.{checksIn, octetsIn}
+use Rattle.deliver.specs.Internal.{checksIn, octetsIn}
 
 module _ (first mti ton npi : ℕ) (text : List ℕ) (pid dcs : ℕ) (digits : List ℕ) (udl : ℕ) (ud l : List ℕ) where
   abbrev octets : List ℕ

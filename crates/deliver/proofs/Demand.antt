@@ -32,7 +32,6 @@ use Rattle.deliver.proofs.RecordWritten.{fits}
 use Rattle.deliver.specs.declared.SmsDeliver.{SmsDeliver}
 use Rattle.deliver.specs.Deliver.{delivered, format, deliver, octetsOf, delivering, cleared, Typed}
 use Rattle.deliver.specs.Layout.{Fields, bits, fields}
-use Rattle.deliver.specs.Writing.{checksIn, octetsIn}
 
 -- ---- what is no part of a record
 
@@ -66,7 +65,7 @@ module _ (x : ℕ) (mti : eqb (messageType (kept bits x)) 0 ≡ true) (f : List 
   octets = kept bits x ∷ (canonicalAddress f ++ (pid ∷ dcs ∷ (t ++ (udl ∷ d))))
 
   its-octets : octetsOf r ≡ octets
-  unfolding delivered octetsIn
+  unfolding delivered
   its-octets = rw (canonical-reads f wf, ap (λ n. firstOctet n (flagsIn bits (kept bits x))) (sym (eqb-true _ 0 mti)) ∙ told-first bits refl x, octets-again f wf, time-held t, octets-back t ot, data-held d)
 
   -- what its checks come to
@@ -84,7 +83,7 @@ module _ (x : ℕ) (mti : eqb (messageType (kept bits x)) 0 ≡ true) (f : List 
       ∙ rw (canonical-reads f wf, read-checked f wf ((NotATime unless isTime (digitsOf (timeIn t))) ∷ []) xs, time-held t, check-holds (digits-time t ot (sym wt)) NotATime [] xs, no-checks))
 
   its-making : delivering r ≡ answered octets
-  unfolding delivering checksIn delivered timeIn dataWith
+  unfolding delivering delivered timeIn dataWith
   its-making =
       let short : length (timeDigits t) ≤ 14 = omega (arith, length-digits t) in
       let few : length d ≤ 255 = omega (arith, data-at-most (codingOf dcs) udl) in

@@ -11,7 +11,7 @@ use Rattle.coding.specs.Coding.{dataOf}
 use Rattle.time.specs.Time.{digitsOf}
 use Rattle.address.specs.Address.{textHeld}
 use Rattle.deliver.specs.Deliver.{lengthsOf, octetsOf, delivering}
-use Rattle.deliver.specs.Writing.{checksIn}
+use Rattle.deliver.specs.Internal.{checksIn}
 use Rattle.deliver.specs.declared.SmsDeliver.{SmsDeliver}
 
 module _ (r : SmsDeliver) where
@@ -24,5 +24,5 @@ module _ (r : SmsDeliver) where
 
   pub by-fields : allFit (lengthsOf r) ≡ true → let a = r .«tp_originating_address» in
       delivering r ≡ checked (checksIn (r .«tp_mti») (a .ton) (a .npi) (textHeld a) (r .«tp_dcs») (digitsOf (r .«tp_service_centre_timestamp»)) (r .«tp_user_data_length») (dataOf (r .«tp_user_data»))) (octetsOf r)
-  unfolding delivering checked
+  unfolding delivering checksIn checked
   by-fields e = rw e

@@ -9,7 +9,7 @@ ghost use Rattle.octets.specs.Lent.{Wrote, lend};
 ghost use Rattle.time.specs.Time.{isTime};
 ghost use Rattle.address.specs.Writing.{addressMaking};
 ghost use Rattle.address.specs.Internal.{checkOf};
-ghost use Rattle.deliver.specs.Writing.{checksIn, octetsIn};
+ghost use Rattle.deliver.specs.Internal.{checksIn, octetsIn};
 use address::writing::AddressCheck;
 use layout::MTI_DELIVER;
 use octets::Checked;

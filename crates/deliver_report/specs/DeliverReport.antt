@@ -66,10 +66,6 @@ known-reports = (refl, refl, refl, refl, refl, refl)
 abbrev pub deliverReportReadSays : DeliverReportRead → (Said Unit × SmsDeliverReport) × ℕ
 deliverReportReadSays r = ((outcomeSays (r .outcome), r .message), r .«replaced_escapes»)
 
--- what is read as text in a string: nothing. User data stay octets
-abbrev pub textsRead : List ℕ → SmsDeliverReport → List (List ℕ)
-textsRead s r = []
-
 -- ---- writing
 
 -- the fields of a record
@@ -135,10 +131,6 @@ cleared r = changed clearedData (r .«rp_outcome») r
 -- two records are equal without their outcomes where they are with another's
 abbrev pub withOutcome : RpOutcome → SmsDeliverReport → SmsDeliverReport
 withOutcome = changed (λ d. d)
-
--- it has no time, and so no letters that reading makes capital
-abbrev pub capitalised : SmsDeliverReport → SmsDeliverReport
-capitalised r = r
 
 -- the array has the length of its type
 abbrev pub Typed : SmsDeliverReport → Type 0

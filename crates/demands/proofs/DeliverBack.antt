@@ -32,7 +32,6 @@ use Rattle.layout.proofs.LayoutBack.{Calls, joined-read}
 use Rattle.deliver.specs.declared.SmsDeliver.{SmsDeliver}
 use Rattle.deliver.specs.Deliver.{delivered, format, deliver, lengthsOf, flagsOf, octetsOf, delivering, cleared, capitalised, Typed}
 use Rattle.deliver.specs.Layout.{Fields, bits, fields}
-use Rattle.deliver.specs.Writing.{checksIn, octetsIn}
 use Rattle.deliver.proofs.Demand.{made-cleared}
 
 -- the layout never asks whether the string has ended
@@ -78,7 +77,7 @@ module _ (r : SmsDeliver) where
 
 module _ {os : List ℕ} {answer : Said ℕ} (r : SmsDeliver) (e : delivering r ≡ made os answer) where
   passed : Passed r os
-  unfolding delivering checksIn checkedData
+  unfolding delivering checkedData
   passed =
       let a = r .«tp_originating_address» in
       let of-data = dataChecks (r .«tp_dcs») (r .«tp_user_data_length») (length (ud r)) in
@@ -94,12 +93,11 @@ module _ {os : List ℕ} {answer : Said ℕ} (r : SmsDeliver) (e : delivering r 
 
   -- what was written has at most 163 octets
   pub at-most : length os ≤ 163
-  unfolding octetsIn
   at-most = rw (← passed .is) (simp length-append (omega (arith, time-size (digits r) (passed .time-is), passed .few, passed .address .short)))
 
   -- what was written is read back, to its end
   read-back : read deliver os ≡ reached (delivered (to-fields r)) (length os)
-  unfolding read readFrom octetsIn
+  unfolding read readFrom
   read-back =
       let same : joined (parts r) ≡ os = simp append-nil (passed .is) in
       ap (read deliver) (sym same) ∙ joined-read (delivered (to-fields r)) format (parts r) (called r passed) 0 ∙ ap (reached (delivered (to-fields r))) (zero-add _ ∙ ap length same)

@@ -25,7 +25,7 @@ use Rattle.parameters.specs.declared.OptionalOctet.{OptionalOctet}
 use Rattle.parameters.specs.declared.OptionalOctet.the-variants.{Absent, Present}
 use Rattle.parameters.proofs.Laws.{one-at-most}
 use Rattle.report.specs.Report.{checksWithin}
-use Rattle.deliver_report.specs.DeliverReport.{deliverReported, fieldsIn, lengthsOf, standardLimit, deliverReportingWithin, deliverReporting, deliverReportingToStandard, cleared, capitalised, Typed}
+use Rattle.deliver_report.specs.DeliverReport.{deliverReported, fieldsIn, lengthsOf, standardLimit, deliverReportingWithin, deliverReporting, deliverReportingToStandard, cleared, Typed}
 use Rattle.deliver_report.specs.declared.SmsDeliverReport.{SmsDeliverReport}
 use Rattle.deliver_report.proofs.Demand.{made-cleared}
 use Rattle.demands.specs.Cuts.{deliverReportOf}
@@ -37,7 +37,7 @@ unfolding firstOctet
 free true = refl
 free false = refl
 
-told : (limit : ℕ) (r : SmsDeliverReport) (os : List ℕ) (answer : Said ℕ) → deliverReportingWithin limit r ≡ made os answer → Told 0 (omega arith) free false deliverReported fieldsIn Typed cleared capitalised limit r os
+told : (limit : ℕ) (r : SmsDeliverReport) (os : List ℕ) (answer : Said ℕ) → deliverReportingWithin limit r ≡ made os answer → Told 0 (omega arith) free false deliverReported fieldsIn Typed cleared (λ r. r) limit r os
 unfolding deliverReportingWithin deliverReported
 told limit r os answer e =
     let (f, x) = made-told _ _ e in
@@ -53,11 +53,11 @@ told limit r os answer e =
 -- ---- the writer within the limit of each record
 
 module _ (limitOf : SmsDeliverReport → ℕ) where
-  pub deliver-report-demand2 : Demand2 Typed cleared capitalised deliverReportOf (λ r. deliverReportingWithin (limitOf r) r) (λ r. fine) (λ r. false)
-  deliver-report-demand2 = report-demand2 0 (omega arith) free false deliverReported fieldsIn Typed cleared capitalised deliverReportingWithin told limitOf
+  pub deliver-report-demand2 : Demand2 Typed cleared (λ r. r) deliverReportOf (λ r. deliverReportingWithin (limitOf r) r) (λ r. fine) (λ r. false)
+  deliver-report-demand2 = report-demand2 0 (omega arith) free false deliverReported fieldsIn Typed cleared (λ r. r) deliverReportingWithin told limitOf
 
-  pub deliver-report-ends : Cut Typed cleared capitalised deliverReportOf (λ r. deliverReportingWithin (limitOf r) r) (λ r. none) (λ r. r)
-  deliver-report-ends = report-ends 0 (omega arith) free false deliverReported fieldsIn Typed cleared capitalised deliverReportingWithin told limitOf
+  pub deliver-report-ends : Cut Typed cleared (λ r. r) deliverReportOf (λ r. deliverReportingWithin (limitOf r) r) (λ r. none) (λ r. r)
+  deliver-report-ends = report-ends 0 (omega arith) free false deliverReported fieldsIn Typed cleared (λ r. r) deliverReportingWithin told limitOf
 
   pub deliver-report-counts : (r : SmsDeliverReport) (xs : List ℕ) (a : Said ℕ) → deliverReportingWithin (limitOf r) r ≡ made xs a → a ≡ gives (length xs)
   unfolding deliverReportingWithin
@@ -67,7 +67,7 @@ module _ (limitOf : SmsDeliverReport → ℕ) where
 
 module _ (r : SmsDeliverReport) {os : List ℕ} {answer : Said ℕ} where
   within : (limit : ℕ) → deliverReportingWithin limit r ≡ made os answer → length os ≤ 5 + held (r .«tp_failure_cause») + limit
-  within limit e = omega (arith, at-most-within 0 (omega arith) free false deliverReported fieldsIn Typed cleared capitalised deliverReportingWithin told limit r os answer e)
+  within limit e = omega (arith, at-most-within 0 (omega arith) free false deliverReported fieldsIn Typed cleared (λ r. r) deliverReportingWithin told limit r os answer e)
 
   pub at-most : deliverReporting r ≡ made os answer → length os ≤ 146
   at-most e = omega (arith, within 140 e, one-at-most (r .«tp_failure_cause»))

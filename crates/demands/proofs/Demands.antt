@@ -83,7 +83,7 @@ deliver-back = deliver-demand2
 pub submit-report-back : Demand2 SubmitReport.Typed SubmitReport.cleared SubmitReport.capitalised (λ r. SubmitReport.layoutOf (r .«rp_outcome»)) SubmitReport.submitReporting (λ r. fine) (λ r. false)
 submit-report-back = submit-report-demand2 (λ r. 140)
 
-pub deliver-report-back : Demand2 DeliverReport.Typed DeliverReport.cleared DeliverReport.capitalised (λ r. DeliverReport.layoutOf (r .«rp_outcome»)) DeliverReport.deliverReporting (λ r. fine) (λ r. false)
+pub deliver-report-back : Demand2 DeliverReport.Typed DeliverReport.cleared (λ r. r) (λ r. DeliverReport.layoutOf (r .«rp_outcome»)) DeliverReport.deliverReporting (λ r. fine) (λ r. false)
 deliver-report-back = deliver-report-demand2 (λ r. 140)
 
 pub status-report-back : Demand2 StatusReport.Typed StatusReport.cleared StatusReport.capitalised (λ r. StatusReport.statusReport) StatusReport.statusReporting (λ r. fine) (λ r. false)
@@ -121,7 +121,7 @@ deliver-answers2 = answers2 _ _ _ _ _ _ _ _ deliver-back deliver-counts
 pub submit-report-answers2 : Answers2 SubmitReport.Typed SubmitReport.cleared SubmitReport.capitalised SubmitReport.blank (λ r. SubmitReport.layoutOf (r .«rp_outcome»)) SubmitReport.submitReporting (λ r. fine)
 submit-report-answers2 = answers2 _ _ _ _ _ _ _ _ submit-report-back (submit-report-counts (λ r. 140))
 
-pub deliver-report-answers2 : Answers2 DeliverReport.Typed DeliverReport.cleared DeliverReport.capitalised DeliverReport.blank (λ r. DeliverReport.layoutOf (r .«rp_outcome»)) DeliverReport.deliverReporting (λ r. fine)
+pub deliver-report-answers2 : Answers2 DeliverReport.Typed DeliverReport.cleared (λ r. r) DeliverReport.blank (λ r. DeliverReport.layoutOf (r .«rp_outcome»)) DeliverReport.deliverReporting (λ r. fine)
 deliver-report-answers2 = answers2 _ _ _ _ _ _ _ _ deliver-report-back (deliver-report-counts (λ r. 140))
 
 pub status-report-answers2 : Answers2 StatusReport.Typed StatusReport.cleared StatusReport.capitalised StatusReport.blank (λ r. StatusReport.statusReport) StatusReport.statusReporting (λ r. fine)
@@ -132,7 +132,7 @@ status-report-answers2 = answers2 _ _ _ _ _ _ _ _ status-report-back (status-rep
 pub submit-report-standard-back : Demand2 SubmitReport.Typed SubmitReport.cleared SubmitReport.capitalised (λ r. SubmitReport.layoutOf (r .«rp_outcome»)) SubmitReport.submitReportingToStandard (λ r. fine) (λ r. false)
 submit-report-standard-back = submit-report-demand2 (λ r. SubmitReport.standardLimit (r .«tp_failure_cause»))
 
-pub deliver-report-standard-back : Demand2 DeliverReport.Typed DeliverReport.cleared DeliverReport.capitalised (λ r. DeliverReport.layoutOf (r .«rp_outcome»)) DeliverReport.deliverReportingToStandard (λ r. fine) (λ r. false)
+pub deliver-report-standard-back : Demand2 DeliverReport.Typed DeliverReport.cleared (λ r. r) (λ r. DeliverReport.layoutOf (r .«rp_outcome»)) DeliverReport.deliverReportingToStandard (λ r. fine) (λ r. false)
 deliver-report-standard-back = deliver-report-demand2 (λ r. DeliverReport.standardLimit (r .«tp_failure_cause»))
 
 pub status-report-standard-back : Demand2 StatusReport.Typed StatusReport.cleared StatusReport.capitalised (λ r. StatusReport.statusReport) StatusReport.statusReportingToStandard (λ r. fine) (λ r. false)
@@ -141,7 +141,7 @@ status-report-standard-back = status-report-demand2 StatusReport.standardLimit
 pub submit-report-standard-answers2 : Answers2 SubmitReport.Typed SubmitReport.cleared SubmitReport.capitalised SubmitReport.blank (λ r. SubmitReport.layoutOf (r .«rp_outcome»)) SubmitReport.submitReportingToStandard (λ r. fine)
 submit-report-standard-answers2 = answers2 _ _ _ _ _ _ _ _ submit-report-standard-back (submit-report-counts (λ r. SubmitReport.standardLimit (r .«tp_failure_cause»)))
 
-pub deliver-report-standard-answers2 : Answers2 DeliverReport.Typed DeliverReport.cleared DeliverReport.capitalised DeliverReport.blank (λ r. DeliverReport.layoutOf (r .«rp_outcome»)) DeliverReport.deliverReportingToStandard (λ r. fine)
+pub deliver-report-standard-answers2 : Answers2 DeliverReport.Typed DeliverReport.cleared (λ r. r) DeliverReport.blank (λ r. DeliverReport.layoutOf (r .«rp_outcome»)) DeliverReport.deliverReportingToStandard (λ r. fine)
 deliver-report-standard-answers2 = answers2 _ _ _ _ _ _ _ _ deliver-report-standard-back (deliver-report-counts (λ r. DeliverReport.standardLimit (r .«tp_failure_cause»)))
 
 pub status-report-standard-answers2 : Answers2 StatusReport.Typed StatusReport.cleared StatusReport.capitalised StatusReport.blank (λ r. StatusReport.statusReport) StatusReport.statusReportingToStandard (λ r. fine)
@@ -182,7 +182,7 @@ deliver-cut = deliver-ends
 pub submit-report-cut : (limitOf : SmsSubmitReport → ℕ) → Cut SubmitReport.Typed SubmitReport.cleared SubmitReport.capitalised submitReportOf (λ r. SubmitReport.submitReportingWithin (limitOf r) r) (λ r. none) (λ r. r)
 submit-report-cut = submit-report-ends
 
-pub deliver-report-cut : (limitOf : SmsDeliverReport → ℕ) → Cut DeliverReport.Typed DeliverReport.cleared DeliverReport.capitalised deliverReportOf (λ r. DeliverReport.deliverReportingWithin (limitOf r) r) (λ r. none) (λ r. r)
+pub deliver-report-cut : (limitOf : SmsDeliverReport → ℕ) → Cut DeliverReport.Typed DeliverReport.cleared (λ r. r) deliverReportOf (λ r. DeliverReport.deliverReportingWithin (limitOf r) r) (λ r. none) (λ r. r)
 deliver-report-cut = deliver-report-ends
 
 pub status-report-cut : (limit : ℕ) → Cut StatusReport.Typed StatusReport.cleared StatusReport.capitalised (λ r. StatusReport.statusReport) (StatusReport.statusReportingWithin limit) cutAfterStatus withoutIndicator
@@ -201,7 +201,7 @@ pub submit-report-answers-cut : (limitOf : SmsSubmitReport → ℕ)
 submit-report-answers-cut limitOf = answers-cut _ _ _ _ _ _ _ _ (submit-report-cut limitOf) (submit-report-counts limitOf)
 
 pub deliver-report-answers-cut : (limitOf : SmsDeliverReport → ℕ)
-    → AnswersCut DeliverReport.Typed DeliverReport.cleared DeliverReport.capitalised DeliverReport.blank deliverReportOf (λ r. DeliverReport.deliverReportingWithin (limitOf r) r) (λ r. none) (λ r. r)
+    → AnswersCut DeliverReport.Typed DeliverReport.cleared (λ r. r) DeliverReport.blank deliverReportOf (λ r. DeliverReport.deliverReportingWithin (limitOf r) r) (λ r. none) (λ r. r)
 deliver-report-answers-cut limitOf = answers-cut _ _ _ _ _ _ _ _ (deliver-report-cut limitOf) (deliver-report-counts limitOf)
 
 pub status-report-answers-cut : (limit : ℕ)

@@ -57,6 +57,10 @@ abbrev pub layoutOf : ℕ → Bool → RpOutcome → Layout Fields
 layoutOf mti hasTime RpAck = plain (format mti hasTime RpAck)
 layoutOf mti hasTime RpError = stopping mti (mti ∷ 0xff ∷ 0x00 ∷ []) stopped (format mti hasTime RpError)
 
+-- what is read as text in a string: nothing. User data stay octets
+abbrev pub textsRead : {R : Type 0} → List ℕ → R → List (List ℕ)
+textsRead s r = []
+
 -- ---- writing
 
 -- the octets, in the layout's order

@@ -70,10 +70,6 @@ known-reports = (refl, refl, refl, refl, refl)
 abbrev pub submitReportReadSays : SubmitReportRead → (Said Unit × SmsSubmitReport) × ℕ
 submitReportReadSays r = ((outcomeSays (r .outcome), r .message), r .«replaced_escapes»)
 
--- what is read as text in a string: nothing. User data stay octets
-abbrev pub textsRead : List ℕ → SmsSubmitReport → List (List ℕ)
-textsRead s r = []
-
 -- ---- writing
 
 -- the fields of a record

@@ -11,6 +11,7 @@ use Rattle.octets.specs.Answers.{refuses}
 use Rattle.octets.proofs.Checks.{all-fit}
 use Rattle.octets.proofs.Laws.{lent-refused}
 use Rattle.layout.specs.Layout.{firstOctet}
+use Rattle.deliver.specs.Internal.{octetsIn}
 use Rattle.deliver.specs.Deliver.{lengthsOf, flagsOf, Typed}
 use Rattle.deliver.proofs.RecordWritten.{too-long, by-fields}
 use Rattle.deliver.proofs.SmsDeliver.encode.Statement.{statement}
@@ -31,6 +32,7 @@ unfolding firstOctet
 first-is c = omega (arith, c .first-octet .ensures)
 
 pub encode-spec : {M : Type 1} → statement M
+unfolding octetsIn
 encode-spec =
     tie.close
     (tie.spec

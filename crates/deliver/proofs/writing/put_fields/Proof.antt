@@ -8,7 +8,7 @@ use lib.ListN.{length}
 use Rattle.octets.proofs.Laws.{wrote-then, kept-by}
 use Rattle.time.proofs.Laws.{time-size}
 use Rattle.address.proofs.Checks.{fine-size}
-use Rattle.deliver.specs.Writing.{octetsIn}
+use Rattle.deliver.specs.Internal.{octetsIn}
 use Rattle.deliver.proofs.writing.put_fields.Statement.{statement}
 use Rattle.deliver.proofs.writing.put_fields.Tie as tie
 
