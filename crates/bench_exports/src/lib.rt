@@ -18,8 +18,9 @@ ghost use Rattle.layout.specs.Layout.{read, answer};
 ghost use Rattle.submit.specs.Submit.{submit, submitting, octetsTaken, blank as blankSubmit};
 ghost use Rattle.deliver.specs.Deliver.{deliver, delivering, blank as blankDeliver};
 ghost use Rattle.status_report.specs.StatusReport.{statusReport, statusReporting, blank as blankStatusReport};
-ghost use Rattle.submit_report.specs.SubmitReport.{ack as submitReportAck, submitReporting, blank as blankSubmitReport};
-ghost use Rattle.deliver_report.specs.DeliverReport.{error as deliverReportError, deliverReporting, blank as blankDeliverReport};
+ghost use Rattle.parameters.specs.declared.RpOutcome.the-variants.{RpAck, RpError};
+ghost use Rattle.submit_report.specs.SubmitReport.{layoutOf as submitReportLayout, submitReporting, blank as blankSubmitReport};
+ghost use Rattle.deliver_report.specs.DeliverReport.{layoutOf as deliverReportLayout, deliverReporting, blank as blankDeliverReport};
 ghost use Rattle.bench_exports.specs.Numbers.{numbered, countNumber, lentNumber, packedNumber, emptiedNumber, acceptedNumber, stringsNumber};
 use tpdu::Outcome;
 use tpdu::SMSAddress;
@@ -81,7 +82,7 @@ pub extern "C" fn tpdu_read_status_report(data: &[u8]) -> usize
 
 #[no_mangle]
 pub extern "C" fn tpdu_read_submit_report(data: &[u8]) -> usize
-    ensures { λ r. ⌜ (let a = answer blankSubmitReport (read submitReportAck (now («data» .entry))) in r ≡ numbered (a .0) (a .1 .«tp_user_data» .length)) ⌝ }
+    ensures { λ r. ⌜ (let a = answer blankSubmitReport (read (submitReportLayout RpAck) (now («data» .entry))) in r ≡ numbered (a .0) (a .1 .«tp_user_data» .length)) ⌝ }
 {
     let read = SmsSubmitReport::decode_for_rp_ack(data);
     let outcome = read.outcome;
@@ -90,7 +91,7 @@ pub extern "C" fn tpdu_read_submit_report(data: &[u8]) -> usize
 
 #[no_mangle]
 pub extern "C" fn tpdu_read_deliver_report(data: &[u8]) -> usize
-    ensures { λ r. ⌜ (let a = answer blankDeliverReport (read deliverReportError (now («data» .entry))) in r ≡ numbered (a .0) (a .1 .«tp_user_data» .length)) ⌝ }
+    ensures { λ r. ⌜ (let a = answer blankDeliverReport (read (deliverReportLayout RpError) (now («data» .entry))) in r ≡ numbered (a .0) (a .1 .«tp_user_data» .length)) ⌝ }
 {
     let read = SmsDeliverReport::decode_for_rp_error(data);
     let outcome = read.outcome;
@@ -121,14 +122,14 @@ pub extern "C" fn tpdu_rewrite_status_report(data: &[u8], out: &mut [u8]) -> usi
 
 #[no_mangle]
 pub extern "C" fn tpdu_rewrite_submit_report(data: &[u8], out: &mut [u8]) -> usize
-    ensures { λ r. ⌜ (r, now (out .exit)) ≡ lentNumber (lend refuses (rewriting submitReporting (read submitReportAck (now («data» .entry)))) (now (out .entry))) ⌝ }
+    ensures { λ r. ⌜ (r, now (out .exit)) ≡ lentNumber (lend refuses (rewriting submitReporting (read (submitReportLayout RpAck) (now («data» .entry)))) (now (out .entry))) ⌝ }
 {
     written(tpdu::canonical_submit_report_ack(data, out))
 }
 
 #[no_mangle]
 pub extern "C" fn tpdu_rewrite_deliver_report(data: &[u8], out: &mut [u8]) -> usize
-    ensures { λ r. ⌜ (r, now (out .exit)) ≡ lentNumber (lend refuses (rewriting deliverReporting (read deliverReportError (now («data» .entry)))) (now (out .entry))) ⌝ }
+    ensures { λ r. ⌜ (r, now (out .exit)) ≡ lentNumber (lend refuses (rewriting deliverReporting (read (deliverReportLayout RpError) (now («data» .entry)))) (now (out .entry))) ⌝ }
 {
     written(tpdu::canonical_deliver_report_error(data, out))
 }

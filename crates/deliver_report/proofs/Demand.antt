@@ -24,7 +24,7 @@ use Rattle.report.specs.Report.{Fields, format, octetsOf, checksWithin}
 use Rattle.report.specs.Internal.{making as reportMaking}
 use Rattle.report.proofs.Made as made
 use Rattle.report.proofs.OneOutcome.{one-outcome}
-use Rattle.deliver_report.specs.DeliverReport.{deliverReported, stopped, layoutOf, ack, error, fieldsIn, standardLimit, deliverReportingWithin, deliverReporting, deliverReportingToStandard, cleared, withOutcome, Typed}
+use Rattle.deliver_report.specs.DeliverReport.{deliverReported, stopped, layoutOf, fieldsIn, standardLimit, deliverReportingWithin, deliverReporting, deliverReportingToStandard, cleared, withOutcome, Typed}
 use Rattle.deliver_report.specs.declared.SmsDeliverReport.{SmsDeliverReport}
 use Rattle.deliver_report.proofs.RecordWritten.{by-fields}
 
@@ -68,10 +68,10 @@ module _ (outcome : RpOutcome) (x : Fields) (cs : List Field) (h : made.Stands 0
 
 -- ---- demand 3, and what the writer makes of a record that was read, whatever the buffer
 
-pub ack-demand3 : Demand3 cleared ack deliverReporting false
+pub ack-demand3 : Demand3 cleared (layoutOf RpAck) deliverReporting false
 ack-demand3 = made.ack-demand3 0 false deliverReported cleared deliverReporting written held making
 
-pub ack-answers : (s : List ℕ) → Octets s → (r : SmsDeliverReport) (n : ℕ) → read ack s ≡ reached r n → Answers (deliverReporting r) (canonicalOf ack s) (unwritable ack false s)
+pub ack-answers : (s : List ℕ) → Octets s → (r : SmsDeliverReport) (n : ℕ) → read (layoutOf RpAck) s ≡ reached r n → Answers (deliverReporting r) (canonicalOf (layoutOf RpAck) s) (unwritable (layoutOf RpAck) false s)
 ack-answers = made.ack-answers 0 false deliverReported cleared deliverReporting written held making
 
 -- the octets of the stopped RP-ERROR are a string of the layout, which gives its record
@@ -95,10 +95,10 @@ beside =
     let (e, j, n) = stands-in-format in
     rw n at (stopped-in-format cleared deliverReporting written formatOf (made.records-make 0 false deliverReported cleared deliverReporting written held making RpError) stands stopped are-octets e j)
 
-pub error-demand3 : Demand3 cleared error deliverReporting false
+pub error-demand3 : Demand3 cleared (layoutOf RpError) deliverReporting false
 error-demand3 = made.error-demand3 0 false deliverReported cleared deliverReporting written held making false beside
 
-pub error-answers : (s : List ℕ) → Octets s → (r : SmsDeliverReport) (n : ℕ) → read error s ≡ reached r n → Answers (deliverReporting r) (canonicalOf error s) (unwritable error false s)
+pub error-answers : (s : List ℕ) → Octets s → (r : SmsDeliverReport) (n : ℕ) → read (layoutOf RpError) s ≡ reached r n → Answers (deliverReporting r) (canonicalOf (layoutOf RpError) s) (unwritable (layoutOf RpError) false s)
 error-answers = made.error-answers 0 false deliverReported cleared deliverReporting written held making false beside
 
 -- ---- the outcome is that of the entry point

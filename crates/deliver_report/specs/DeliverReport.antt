@@ -48,17 +48,11 @@ stopped = deliverReported stoppedFields
 abbrev pub layoutOf : RpOutcome → Layout SmsDeliverReport
 layoutOf outcome = records deliverReported (reportLayout 0 false outcome)
 
-abbrev pub ack : Layout SmsDeliverReport
-ack = layoutOf RpAck
-
-abbrev pub error : Layout SmsDeliverReport
-error = layoutOf RpError
-
 -- the stopped RP-ERROR 04 gives the record of 00 FF 00; an RP-ACK with UDHI, an extended indicator 85, PID 11 and two septets
-known-reports : (read error (0x04 ∷ []) ≡ reached stopped 1) × (read error (0x00 ∷ 0xff ∷ 0x00 ∷ []) ≡ reached stopped 3) × (read ack (0x01 ∷ 0x00 ∷ []) ≡ halted WrongMessageType) × (read ack (0x00 ∷ []) ≡ halted OctetsEnd)
-    × (read ack (0x40 ∷ 0x85 ∷ 0x00 ∷ 0x11 ∷ 0x02 ∷ 0x41 ∷ 0x21 ∷ [])
+known-reports : (read (layoutOf RpError) (0x04 ∷ []) ≡ reached stopped 1) × (read (layoutOf RpError) (0x00 ∷ 0xff ∷ 0x00 ∷ []) ≡ reached stopped 3) × (read (layoutOf RpAck) (0x01 ∷ 0x00 ∷ []) ≡ halted WrongMessageType) × (read (layoutOf RpAck) (0x00 ∷ []) ≡ halted OctetsEnd)
+    × (read (layoutOf RpAck) (0x40 ∷ 0x85 ∷ 0x00 ∷ 0x11 ∷ 0x02 ∷ 0x41 ∷ 0x21 ∷ [])
     ≡ reached (deliverReported (record { outcome = RpAck; udhi = true; cause = Absent; indicator = 0x85; scts = []; parameters = record { pid = Present 0x11; dcs = Absent; udl = Present 2; ud = 0x41 ∷ 0x21 ∷ [] } })) 7)
-    × (canonicalOf ack (0x40 ∷ 0x85 ∷ 0x00 ∷ 0x11 ∷ 0x02 ∷ 0x41 ∷ 0x21 ∷ []) ≡ 0x40 ∷ 0x85 ∷ 0x11 ∷ 0x02 ∷ 0x41 ∷ 0x21 ∷ [])
+    × (canonicalOf (layoutOf RpAck) (0x40 ∷ 0x85 ∷ 0x00 ∷ 0x11 ∷ 0x02 ∷ 0x41 ∷ 0x21 ∷ []) ≡ 0x40 ∷ 0x85 ∷ 0x11 ∷ 0x02 ∷ 0x41 ∷ 0x21 ∷ [])
 unfolding format read readFrom reading after stops canonicalOf fieldsOf parameters kept indicatorSize codingOf characterSet dataOctets
 known-reports = (refl, refl, refl, refl, refl, refl)
 

@@ -3,8 +3,9 @@ ghost use mathlib.Core.Path.{_≡_};
 ghost use Rattle.octets.specs.Answers.{refuses, writtenSays};
 ghost use Rattle.octets.specs.Lent.{lend};
 ghost use Rattle.layout.specs.Layout.{read, answer, replacedOf};
+ghost use Rattle.parameters.specs.declared.RpOutcome.the-variants.{RpAck, RpError};
 ghost use Rattle.report.specs.Report.{textsRead};
-ghost use Rattle.deliver_report.specs.DeliverReport.{blank as blankReport, layoutOf, ack, error, deliverReportReadSays, standardLimit, deliverReportingWithin, deliverReporting, deliverReportingToStandard};
+ghost use Rattle.deliver_report.specs.DeliverReport.{blank as blankReport, layoutOf, deliverReportReadSays, standardLimit, deliverReportingWithin, deliverReporting, deliverReportingToStandard};
 use coding::UserData;
 use layout::MTI_DELIVER;
 use octets::Outcome;
@@ -77,7 +78,7 @@ fn standard_limit(cause: OptionalOctet) -> usize
 impl SmsDeliverReport {
     // The layout carried in an RP-ACK (no TP-Failure-Cause).
     pub fn decode_for_rp_ack(data: &[u8]) -> DeliverReportRead
-        ensures { λ r. ⌜ deliverReportReadSays r ≡ (answer blankReport (read ack (now («data» .entry))), replacedOf (textsRead (now («data» .entry))) (read ack (now («data» .entry)))) ⌝ }
+        ensures { λ r. ⌜ deliverReportReadSays r ≡ (answer blankReport (read (layoutOf RpAck) (now («data» .entry))), replacedOf (textsRead (now («data» .entry))) (read (layoutOf RpAck) (now («data» .entry)))) ⌝ }
     {
         decode(data, RpOutcome::RpAck)
     }
@@ -85,7 +86,7 @@ impl SmsDeliverReport {
     // The layout carried in an RP-ERROR (TP-Failure-Cause present). Where an unused bit of the first octet is set the
     // rest is not examined, and the cause reads as "Unspecified error cause".
     pub fn decode_for_rp_error(data: &[u8]) -> DeliverReportRead
-        ensures { λ r. ⌜ deliverReportReadSays r ≡ (answer blankReport (read error (now («data» .entry))), replacedOf (textsRead (now («data» .entry))) (read error (now («data» .entry)))) ⌝ }
+        ensures { λ r. ⌜ deliverReportReadSays r ≡ (answer blankReport (read (layoutOf RpError) (now («data» .entry))), replacedOf (textsRead (now («data» .entry))) (read (layoutOf RpError) (now («data» .entry)))) ⌝ }
     {
         decode(data, RpOutcome::RpError)
     }

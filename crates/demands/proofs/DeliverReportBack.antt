@@ -25,10 +25,9 @@ use Rattle.parameters.specs.declared.OptionalOctet.{OptionalOctet}
 use Rattle.parameters.specs.declared.OptionalOctet.the-variants.{Absent, Present}
 use Rattle.parameters.proofs.Laws.{one-at-most}
 use Rattle.report.specs.Report.{checksWithin}
-use Rattle.deliver_report.specs.DeliverReport.{deliverReported, fieldsIn, lengthsOf, standardLimit, deliverReportingWithin, deliverReporting, deliverReportingToStandard, cleared, Typed}
+use Rattle.deliver_report.specs.DeliverReport.{deliverReported, layoutOf, fieldsIn, lengthsOf, standardLimit, deliverReportingWithin, deliverReporting, deliverReportingToStandard, cleared, Typed}
 use Rattle.deliver_report.specs.declared.SmsDeliverReport.{SmsDeliverReport}
 use Rattle.deliver_report.proofs.Demand.{made-cleared}
-use Rattle.demands.specs.Cuts.{deliverReportOf}
 use Rattle.demands.proofs.ReportBack.{Told, at-most-within, report-demand2, report-ends}
 
 -- no unused bit of a written first octet is set
@@ -53,10 +52,10 @@ told limit r os answer e =
 -- ---- the writer within the limit of each record
 
 module _ (limitOf : SmsDeliverReport → ℕ) where
-  pub deliver-report-demand2 : Demand2 Typed cleared (λ r. r) deliverReportOf (λ r. deliverReportingWithin (limitOf r) r) (λ r. fine) (λ r. false)
+  pub deliver-report-demand2 : Demand2 Typed cleared (λ r. r) (λ r. layoutOf (r .«rp_outcome»)) (λ r. deliverReportingWithin (limitOf r) r) (λ r. fine) (λ r. false)
   deliver-report-demand2 = report-demand2 0 (omega arith) free false deliverReported fieldsIn Typed cleared (λ r. r) deliverReportingWithin told limitOf
 
-  pub deliver-report-ends : Cut Typed cleared (λ r. r) deliverReportOf (λ r. deliverReportingWithin (limitOf r) r) (λ r. none) (λ r. r)
+  pub deliver-report-ends : Cut Typed cleared (λ r. r) (λ r. layoutOf (r .«rp_outcome»)) (λ r. deliverReportingWithin (limitOf r) r) (λ r. none) (λ r. r)
   deliver-report-ends = report-ends 0 (omega arith) free false deliverReported fieldsIn Typed cleared (λ r. r) deliverReportingWithin told limitOf
 
   pub deliver-report-counts : (r : SmsDeliverReport) (xs : List ℕ) (a : Said ℕ) → deliverReportingWithin (limitOf r) r ≡ made xs a → a ≡ gives (length xs)

@@ -35,7 +35,7 @@ use Rattle.deliver_report.proofs.Demand.{outcome-read as deliver-outcome}
 use Rattle.status_report.specs.StatusReport as StatusReport
 use Rattle.status_report.proofs.Demand.{status-report-demand3}
 use Rattle.status_report.proofs.Limits.{status-report-limits}
-use Rattle.demands.specs.Cuts.{submitReportOf, deliverReportOf, cutAfterStatus, withoutIndicator}
+use Rattle.demands.specs.Cuts.{cutAfterStatus, withoutIndicator}
 use Rattle.demands.proofs.SubmitBack.{submit-demand2, submit-ends, submit-counts}
 use Rattle.demands.proofs.DeliverBack.{deliver-demand2, deliver-ends, deliver-counts}
 use Rattle.demands.proofs.SubmitReportBack.{submit-report-demand2, submit-report-ends, submit-report-counts}
@@ -53,19 +53,19 @@ pub of-deliver : Demand3 Deliver.cleared Deliver.deliver Deliver.delivering fals
 of-deliver = deliver-demand3
 
 -- `SmsSubmitReport::decode_for_rp_ack`
-pub of-submit-report-ack : Demand3 SubmitReport.cleared SubmitReport.ack SubmitReport.submitReporting false
+pub of-submit-report-ack : Demand3 SubmitReport.cleared (SubmitReport.layoutOf RpAck) SubmitReport.submitReporting false
 of-submit-report-ack = submit-ack
 
 -- `SmsSubmitReport::decode_for_rp_error`
-pub of-submit-report-error : Demand3 SubmitReport.cleared SubmitReport.error SubmitReport.submitReporting true
+pub of-submit-report-error : Demand3 SubmitReport.cleared (SubmitReport.layoutOf RpError) SubmitReport.submitReporting true
 of-submit-report-error = submit-error
 
 -- `SmsDeliverReport::decode_for_rp_ack`
-pub of-deliver-report-ack : Demand3 DeliverReport.cleared DeliverReport.ack DeliverReport.deliverReporting false
+pub of-deliver-report-ack : Demand3 DeliverReport.cleared (DeliverReport.layoutOf RpAck) DeliverReport.deliverReporting false
 of-deliver-report-ack = deliver-ack
 
 -- `SmsDeliverReport::decode_for_rp_error`
-pub of-deliver-report-error : Demand3 DeliverReport.cleared DeliverReport.error DeliverReport.deliverReporting false
+pub of-deliver-report-error : Demand3 DeliverReport.cleared (DeliverReport.layoutOf RpError) DeliverReport.deliverReporting false
 of-deliver-report-error = deliver-error
 
 -- `SmsStatusReport::decode`
@@ -97,16 +97,16 @@ submit-answers3 = answers3 _ _ _ _ _ of-submit
 pub deliver-answers3 : Answers3 Deliver.cleared Deliver.blank Deliver.deliver Deliver.delivering false
 deliver-answers3 = answers3 _ _ _ _ _ of-deliver
 
-pub submit-report-ack-answers3 : Answers3 SubmitReport.cleared SubmitReport.blank SubmitReport.ack SubmitReport.submitReporting false
+pub submit-report-ack-answers3 : Answers3 SubmitReport.cleared SubmitReport.blank (SubmitReport.layoutOf RpAck) SubmitReport.submitReporting false
 submit-report-ack-answers3 = answers3 _ _ _ _ _ of-submit-report-ack
 
-pub submit-report-error-answers3 : Answers3 SubmitReport.cleared SubmitReport.blank SubmitReport.error SubmitReport.submitReporting true
+pub submit-report-error-answers3 : Answers3 SubmitReport.cleared SubmitReport.blank (SubmitReport.layoutOf RpError) SubmitReport.submitReporting true
 submit-report-error-answers3 = answers3 _ _ _ _ _ of-submit-report-error
 
-pub deliver-report-ack-answers3 : Answers3 DeliverReport.cleared DeliverReport.blank DeliverReport.ack DeliverReport.deliverReporting false
+pub deliver-report-ack-answers3 : Answers3 DeliverReport.cleared DeliverReport.blank (DeliverReport.layoutOf RpAck) DeliverReport.deliverReporting false
 deliver-report-ack-answers3 = answers3 _ _ _ _ _ of-deliver-report-ack
 
-pub deliver-report-error-answers3 : Answers3 DeliverReport.cleared DeliverReport.blank DeliverReport.error DeliverReport.deliverReporting false
+pub deliver-report-error-answers3 : Answers3 DeliverReport.cleared DeliverReport.blank (DeliverReport.layoutOf RpError) DeliverReport.deliverReporting false
 deliver-report-error-answers3 = answers3 _ _ _ _ _ of-deliver-report-error
 
 pub status-report-answers3 : Answers3 StatusReport.cleared StatusReport.blank StatusReport.statusReport StatusReport.statusReporting false
@@ -159,16 +159,16 @@ status-report-alike = status-report-limits
 
 -- ---- the outcome in both reports' records: that of the entry point, so that records of one reader are as equal or different as without it
 
-pub submit-report-ack-outcome : OneOutcome SubmitReport.cleared (λ r. r .«rp_outcome») SubmitReport.withOutcome SubmitReport.ack RpAck
+pub submit-report-ack-outcome : OneOutcome SubmitReport.cleared (λ r. r .«rp_outcome») SubmitReport.withOutcome (SubmitReport.layoutOf RpAck) RpAck
 submit-report-ack-outcome = submit-outcome RpAck
 
-pub submit-report-error-outcome : OneOutcome SubmitReport.cleared (λ r. r .«rp_outcome») SubmitReport.withOutcome SubmitReport.error RpError
+pub submit-report-error-outcome : OneOutcome SubmitReport.cleared (λ r. r .«rp_outcome») SubmitReport.withOutcome (SubmitReport.layoutOf RpError) RpError
 submit-report-error-outcome = submit-outcome RpError
 
-pub deliver-report-ack-outcome : OneOutcome DeliverReport.cleared (λ r. r .«rp_outcome») DeliverReport.withOutcome DeliverReport.ack RpAck
+pub deliver-report-ack-outcome : OneOutcome DeliverReport.cleared (λ r. r .«rp_outcome») DeliverReport.withOutcome (DeliverReport.layoutOf RpAck) RpAck
 deliver-report-ack-outcome = deliver-outcome RpAck
 
-pub deliver-report-error-outcome : OneOutcome DeliverReport.cleared (λ r. r .«rp_outcome») DeliverReport.withOutcome DeliverReport.error RpError
+pub deliver-report-error-outcome : OneOutcome DeliverReport.cleared (λ r. r .«rp_outcome») DeliverReport.withOutcome (DeliverReport.layoutOf RpError) RpError
 deliver-report-error-outcome = deliver-outcome RpError
 
 -- ---- cut messages, of the eight writers: a report's line is that of both its writers, whatever the limit of user data (140, or `standardLimit`)
@@ -179,10 +179,10 @@ submit-cut = submit-ends
 pub deliver-cut : Cut Deliver.Typed Deliver.cleared Deliver.capitalised (λ r. Deliver.deliver) Deliver.delivering (λ r. none) (λ r. r)
 deliver-cut = deliver-ends
 
-pub submit-report-cut : (limitOf : SmsSubmitReport → ℕ) → Cut SubmitReport.Typed SubmitReport.cleared SubmitReport.capitalised submitReportOf (λ r. SubmitReport.submitReportingWithin (limitOf r) r) (λ r. none) (λ r. r)
+pub submit-report-cut : (limitOf : SmsSubmitReport → ℕ) → Cut SubmitReport.Typed SubmitReport.cleared SubmitReport.capitalised (λ r. SubmitReport.layoutOf (r .«rp_outcome»)) (λ r. SubmitReport.submitReportingWithin (limitOf r) r) (λ r. none) (λ r. r)
 submit-report-cut = submit-report-ends
 
-pub deliver-report-cut : (limitOf : SmsDeliverReport → ℕ) → Cut DeliverReport.Typed DeliverReport.cleared (λ r. r) deliverReportOf (λ r. DeliverReport.deliverReportingWithin (limitOf r) r) (λ r. none) (λ r. r)
+pub deliver-report-cut : (limitOf : SmsDeliverReport → ℕ) → Cut DeliverReport.Typed DeliverReport.cleared (λ r. r) (λ r. DeliverReport.layoutOf (r .«rp_outcome»)) (λ r. DeliverReport.deliverReportingWithin (limitOf r) r) (λ r. none) (λ r. r)
 deliver-report-cut = deliver-report-ends
 
 pub status-report-cut : (limit : ℕ) → Cut StatusReport.Typed StatusReport.cleared StatusReport.capitalised (λ r. StatusReport.statusReport) (StatusReport.statusReportingWithin limit) cutAfterStatus withoutIndicator
@@ -197,11 +197,11 @@ pub deliver-answers-cut : AnswersCut Deliver.Typed Deliver.cleared Deliver.capit
 deliver-answers-cut = answers-cut _ _ _ _ _ _ _ _ deliver-cut deliver-counts
 
 pub submit-report-answers-cut : (limitOf : SmsSubmitReport → ℕ)
-    → AnswersCut SubmitReport.Typed SubmitReport.cleared SubmitReport.capitalised SubmitReport.blank submitReportOf (λ r. SubmitReport.submitReportingWithin (limitOf r) r) (λ r. none) (λ r. r)
+    → AnswersCut SubmitReport.Typed SubmitReport.cleared SubmitReport.capitalised SubmitReport.blank (λ r. SubmitReport.layoutOf (r .«rp_outcome»)) (λ r. SubmitReport.submitReportingWithin (limitOf r) r) (λ r. none) (λ r. r)
 submit-report-answers-cut limitOf = answers-cut _ _ _ _ _ _ _ _ (submit-report-cut limitOf) (submit-report-counts limitOf)
 
 pub deliver-report-answers-cut : (limitOf : SmsDeliverReport → ℕ)
-    → AnswersCut DeliverReport.Typed DeliverReport.cleared (λ r. r) DeliverReport.blank deliverReportOf (λ r. DeliverReport.deliverReportingWithin (limitOf r) r) (λ r. none) (λ r. r)
+    → AnswersCut DeliverReport.Typed DeliverReport.cleared (λ r. r) DeliverReport.blank (λ r. DeliverReport.layoutOf (r .«rp_outcome»)) (λ r. DeliverReport.deliverReportingWithin (limitOf r) r) (λ r. none) (λ r. r)
 deliver-report-answers-cut limitOf = answers-cut _ _ _ _ _ _ _ _ (deliver-report-cut limitOf) (deliver-report-counts limitOf)
 
 pub status-report-answers-cut : (limit : ℕ)

@@ -31,10 +31,9 @@ use Rattle.parameters.specs.declared.OptionalOctet.{OptionalOctet}
 use Rattle.parameters.specs.declared.OptionalOctet.the-variants.{Absent, Present}
 use Rattle.parameters.proofs.Laws.{one-at-most}
 use Rattle.report.specs.Report.{checksWithin}
-use Rattle.submit_report.specs.SubmitReport.{submitReported, fieldsIn, lengthsOf, standardLimit, submitReportingWithin, submitReporting, submitReportingToStandard, cleared, capitalised, Typed}
+use Rattle.submit_report.specs.SubmitReport.{submitReported, layoutOf, fieldsIn, lengthsOf, standardLimit, submitReportingWithin, submitReporting, submitReportingToStandard, cleared, capitalised, Typed}
 use Rattle.submit_report.specs.declared.SmsSubmitReport.{SmsSubmitReport}
 use Rattle.submit_report.proofs.Demand.{made-cleared}
-use Rattle.demands.specs.Cuts.{submitReportOf}
 use Rattle.demands.proofs.ReportBack.{Told, at-most-within, report-demand2, report-ends}
 
 -- no unused bit of a written first octet is set
@@ -76,10 +75,10 @@ told limit r os answer e =
 -- ---- the writer within the limit of each record
 
 module _ (limitOf : SmsSubmitReport → ℕ) where
-  pub submit-report-demand2 : Demand2 Typed cleared capitalised submitReportOf (λ r. submitReportingWithin (limitOf r) r) (λ r. fine) (λ r. false)
+  pub submit-report-demand2 : Demand2 Typed cleared capitalised (λ r. layoutOf (r .«rp_outcome»)) (λ r. submitReportingWithin (limitOf r) r) (λ r. fine) (λ r. false)
   submit-report-demand2 = report-demand2 1 (omega arith) free true submitReported fieldsIn Typed cleared capitalised submitReportingWithin told limitOf
 
-  pub submit-report-ends : Cut Typed cleared capitalised submitReportOf (λ r. submitReportingWithin (limitOf r) r) (λ r. none) (λ r. r)
+  pub submit-report-ends : Cut Typed cleared capitalised (λ r. layoutOf (r .«rp_outcome»)) (λ r. submitReportingWithin (limitOf r) r) (λ r. none) (λ r. r)
   submit-report-ends = report-ends 1 (omega arith) free true submitReported fieldsIn Typed cleared capitalised submitReportingWithin told limitOf
 
   pub submit-report-counts : (r : SmsSubmitReport) (xs : List ℕ) (a : Said ℕ) → submitReportingWithin (limitOf r) r ≡ made xs a → a ≡ gives (length xs)

@@ -30,7 +30,7 @@ use Rattle.report.specs.Report.{Fields, format, octetsOf, checksWithin}
 use Rattle.report.specs.Internal.{making as reportMaking}
 use Rattle.report.proofs.Made as made
 use Rattle.report.proofs.OneOutcome.{one-outcome}
-use Rattle.submit_report.specs.SubmitReport.{submitReported, stopped, layoutOf, ack, error, fieldsIn, standardLimit, submitReportingWithin, submitReporting, submitReportingToStandard, cleared, withOutcome, Typed}
+use Rattle.submit_report.specs.SubmitReport.{submitReported, stopped, layoutOf, fieldsIn, standardLimit, submitReportingWithin, submitReporting, submitReportingToStandard, cleared, withOutcome, Typed}
 use Rattle.submit_report.specs.declared.SmsSubmitReport.{SmsSubmitReport}
 use Rattle.submit_report.proofs.RecordWritten.{by-fields}
 
@@ -81,10 +81,10 @@ module _ (outcome : RpOutcome) (x : Fields) (cs : List Field) (h : made.Stands 1
 
 -- ---- demand 3, and what the writer makes of a record that was read, whatever the buffer
 
-pub ack-demand3 : Demand3 cleared ack submitReporting false
+pub ack-demand3 : Demand3 cleared (layoutOf RpAck) submitReporting false
 ack-demand3 = made.ack-demand3 1 true submitReported cleared submitReporting written held making
 
-pub ack-answers : (s : List ℕ) → Octets s → (r : SmsSubmitReport) (n : ℕ) → read ack s ≡ reached r n → Answers (submitReporting r) (canonicalOf ack s) (unwritable ack false s)
+pub ack-answers : (s : List ℕ) → Octets s → (r : SmsSubmitReport) (n : ℕ) → read (layoutOf RpAck) s ≡ reached r n → Answers (submitReporting r) (canonicalOf (layoutOf RpAck) s) (unwritable (layoutOf RpAck) false s)
 ack-answers = made.ack-answers 1 true submitReported cleared submitReporting written held making
 
 -- the stopped RP-ERROR has no time: no string of the layout gives its record or stands as its octets, and it is refused
@@ -111,10 +111,10 @@ stopped-refused = refl
 beside : Stopped cleared submitReporting formatOf stands stopped true
 beside = stopped-apart cleared submitReporting formatOf stands stopped apart stopped-refused
 
-pub error-demand3 : Demand3 cleared error submitReporting true
+pub error-demand3 : Demand3 cleared (layoutOf RpError) submitReporting true
 error-demand3 = made.error-demand3 1 true submitReported cleared submitReporting written held making true beside
 
-pub error-answers : (s : List ℕ) → Octets s → (r : SmsSubmitReport) (n : ℕ) → read error s ≡ reached r n → Answers (submitReporting r) (canonicalOf error s) (unwritable error true s)
+pub error-answers : (s : List ℕ) → Octets s → (r : SmsSubmitReport) (n : ℕ) → read (layoutOf RpError) s ≡ reached r n → Answers (submitReporting r) (canonicalOf (layoutOf RpError) s) (unwritable (layoutOf RpError) true s)
 error-answers = made.error-answers 1 true submitReported cleared submitReporting written held making true beside
 
 -- ---- the outcome is that of the entry point

@@ -53,15 +53,9 @@ stopped = submitReported stoppedFields
 abbrev pub layoutOf : RpOutcome → Layout SmsSubmitReport
 layoutOf outcome = records submitReported (reportLayout 1 true outcome)
 
-abbrev pub ack : Layout SmsSubmitReport
-ack = layoutOf RpAck
-
-abbrev pub error : Layout SmsSubmitReport
-error = layoutOf RpError
-
 -- 05 is stopped, and stands as octets that are no report, since they have no time; an RP-ERROR with UDHI, cause 80, an extended indicator 81, a time and PID 11
-known-reports : (read error (0x05 ∷ []) ≡ reached stopped 1) × (canonicalOf error (0x05 ∷ []) ≡ 0x01 ∷ 0xff ∷ 0x00 ∷ []) × (read error (0x01 ∷ 0xff ∷ 0x00 ∷ []) ≡ halted OctetsEnd) × (read ack (0x00 ∷ []) ≡ halted WrongMessageType)
-    × (read error (0x41 ∷ 0x80 ∷ 0x81 ∷ 0x00 ∷ 0x42 ∷ 0x20 ∷ 0x51 ∷ 0x21 ∷ 0x03 ∷ 0x54 ∷ 0x00 ∷ 0x11 ∷ [])
+known-reports : (read (layoutOf RpError) (0x05 ∷ []) ≡ reached stopped 1) × (canonicalOf (layoutOf RpError) (0x05 ∷ []) ≡ 0x01 ∷ 0xff ∷ 0x00 ∷ []) × (read (layoutOf RpError) (0x01 ∷ 0xff ∷ 0x00 ∷ []) ≡ halted OctetsEnd) × (read (layoutOf RpAck) (0x00 ∷ []) ≡ halted WrongMessageType)
+    × (read (layoutOf RpError) (0x41 ∷ 0x80 ∷ 0x81 ∷ 0x00 ∷ 0x42 ∷ 0x20 ∷ 0x51 ∷ 0x21 ∷ 0x03 ∷ 0x54 ∷ 0x00 ∷ 0x11 ∷ [])
     ≡ reached (submitReported (record { outcome = RpError; udhi = true; cause = Present 0x80; indicator = 0x81; scts = 0x42 ∷ 0x20 ∷ 0x51 ∷ 0x21 ∷ 0x03 ∷ 0x54 ∷ 0x00 ∷ []; parameters = record { pid = Present 0x11; dcs = Absent; udl = Absent; ud = [] } })) 12)
 unfolding format read readFrom reading after stops canonicalOf fieldsOf parameters kept indicatorSize
 known-reports = (refl, refl, refl, refl, refl)

@@ -6,8 +6,9 @@ ghost use Rattle.octets.specs.Answers.{refuses, writtenSays};
 ghost use Rattle.octets.specs.Lent.{lend};
 ghost use Rattle.time.specs.Time.{timeIn};
 ghost use Rattle.layout.specs.Layout.{read, answer, replacedOf};
+ghost use Rattle.parameters.specs.declared.RpOutcome.the-variants.{RpAck, RpError};
 ghost use Rattle.report.specs.Report.{timeSize, textsRead};
-ghost use Rattle.submit_report.specs.SubmitReport.{blank as blankReport, layoutOf, ack, error, submitReportReadSays, standardLimit, submitReportingWithin, submitReporting, submitReportingToStandard};
+ghost use Rattle.submit_report.specs.SubmitReport.{blank as blankReport, layoutOf, submitReportReadSays, standardLimit, submitReportingWithin, submitReporting, submitReportingToStandard};
 use coding::UserData;
 use layout::MTI_SUBMIT;
 use octets::Outcome;
@@ -94,7 +95,7 @@ fn standard_limit(cause: OptionalOctet) -> usize
 impl SmsSubmitReport {
     // The layout carried in an RP-ACK (no TP-Failure-Cause).
     pub fn decode_for_rp_ack(data: &[u8]) -> SubmitReportRead
-        ensures { λ r. ⌜ submitReportReadSays r ≡ (answer blankReport (read ack (now («data» .entry))), replacedOf (textsRead (now («data» .entry))) (read ack (now («data» .entry)))) ⌝ }
+        ensures { λ r. ⌜ submitReportReadSays r ≡ (answer blankReport (read (layoutOf RpAck) (now («data» .entry))), replacedOf (textsRead (now («data» .entry))) (read (layoutOf RpAck) (now («data» .entry)))) ⌝ }
     {
         decode(data, RpOutcome::RpAck)
     }
@@ -102,7 +103,7 @@ impl SmsSubmitReport {
     // The layout carried in an RP-ERROR (TP-Failure-Cause present). Where an unused bit of the first octet is set the
     // rest is not examined, and the cause reads as "Unspecified error cause".
     pub fn decode_for_rp_error(data: &[u8]) -> SubmitReportRead
-        ensures { λ r. ⌜ submitReportReadSays r ≡ (answer blankReport (read error (now («data» .entry))), replacedOf (textsRead (now («data» .entry))) (read error (now («data» .entry)))) ⌝ }
+        ensures { λ r. ⌜ submitReportReadSays r ≡ (answer blankReport (read (layoutOf RpError) (now («data» .entry))), replacedOf (textsRead (now («data» .entry))) (read (layoutOf RpError) (now («data» .entry)))) ⌝ }
     {
         decode(data, RpOutcome::RpError)
     }
