@@ -29,11 +29,6 @@ pub fn numbers(out: &mut Output, at: usize, names: &[u8], values: &[u8]) -> usiz
     place
 }
 
-// A flag: 1 or 0.
-pub fn flag(out: &mut Output, at: usize, name: &[u8], is_on: bool) -> usize {
-    number(out, at, name, is_on as u8)
-}
-
 pub fn absent(out: &mut Output, at: usize, name: &[u8]) -> usize {
     let next = output::put(out, at, name);
     output::put(out, next, b"-")

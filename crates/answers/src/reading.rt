@@ -1,9 +1,13 @@
 // The requests that name a reader: the fields of the record that it gives. Functions are named for what they write.
 use crate::fields;
+use crate::fields::unless_refused;
 use output::Output;
 use text_fields::lists::entry_number;
 use text_fields::slices::between;
+use tpdu::DeliverRead;
+use tpdu::DeliverReportRead;
 use tpdu::OptionalOctet;
+use tpdu::Outcome;
 use tpdu::RpOutcome;
 use tpdu::SMSAddress;
 use tpdu::SmsDeliver;
@@ -11,11 +15,13 @@ use tpdu::SmsDeliverReport;
 use tpdu::SmsStatusReport;
 use tpdu::SmsSubmit;
 use tpdu::SmsSubmitReport;
+use tpdu::StatusReportRead;
+use tpdu::SubmitRead;
+use tpdu::SubmitReportRead;
 use tpdu::SubmitText;
 use tpdu::Time;
 use tpdu::UserData;
 use tpdu::ValidityPeriod;
-use wording::refusals::refusal_number;
 
 // The seven readers; `Unknown` for a name that is none of theirs.
 pub enum Reader {
@@ -82,21 +88,6 @@ fn optional_octet(out: &mut Output, at: usize, name: &[u8], x: OptionalOctet) ->
     }
 }
 
-fn optional_protocol_and_coding(
-    out: &mut Output,
-    at: usize,
-    pid: OptionalOctet,
-    dcs: OptionalOctet,
-) -> usize {
-    let next = optional_octet(out, at, b" pid=", pid);
-    optional_octet(out, next, b" dcs=", dcs)
-}
-
-fn optional_user_data(out: &mut Output, at: usize, udl: OptionalOctet, ud: UserData) -> usize {
-    let next = optional_number(out, at, b" udl=", udl);
-    fields::user_data(out, next, b" ud=", ud)
-}
-
 // The parameters of a report.
 fn parameters(
     out: &mut Output,
@@ -106,30 +97,24 @@ fn parameters(
     udl: OptionalOctet,
     ud: UserData,
 ) -> usize {
-    let next = optional_protocol_and_coding(out, at, pid, dcs);
-    optional_user_data(out, next, udl, ud)
+    let p1 = optional_octet(out, at, b" pid=", pid);
+    let p2 = optional_octet(out, p1, b" dcs=", dcs);
+    let p3 = optional_number(out, p2, b" udl=", udl);
+    fields::user_data(out, p3, b" ud=", ud)
 }
 
-// ---- records: each function takes the number of the reader's refusal too, which is 0 if there is none
+// ---- records: each function takes what a reader gives
 
-fn refused(out: &mut Output, at: usize, refusal: u8) -> usize {
-    fields::refused(out, at, refusal, false)
-}
-
-// What stands before the address in a DELIVER.
-fn deliver_numbers(
+// After the record, which was put from `at` to `next`, how many escapes were replaced; or the refusal, in its place.
+fn replaced_or_refused(
     out: &mut Output,
     at: usize,
-    rp: bool,
-    udhi: bool,
-    sri: bool,
-    lp: bool,
-    mms: bool,
-    mti: u8,
+    next: usize,
+    replaced: usize,
+    o: Outcome,
 ) -> usize {
-    let names = b"ok rp=\n udhi=\n sri=\n lp=\n mms=\n mti=\n";
-    let values = [rp as u8, udhi as u8, sri as u8, lp as u8, mms as u8, mti];
-    fields::numbers(out, at, names, &values)
+    let end = fields::replaced(out, next, replaced);
+    unless_refused(out, at, end, o, false)
 }
 
 fn time_and_data(out: &mut Output, at: usize, scts: Time, udl: u8, ud: UserData) -> usize {
@@ -137,45 +122,29 @@ fn time_and_data(out: &mut Output, at: usize, scts: Time, udl: u8, ud: UserData)
     user_data(out, next, udl, ud)
 }
 
-fn deliver(out: &mut Output, at: usize, refusal: u8, m: SmsDeliver) -> usize {
-    if refusal != 0 {
-        return refused(out, at, refusal);
-    }
-    let p1 = deliver_numbers(
-        out,
-        at,
-        m.tp_rp,
-        m.tp_udhi,
-        m.tp_sri,
-        m.tp_lp,
-        m.tp_mms,
+fn deliver(out: &mut Output, at: usize, read: DeliverRead) -> usize {
+    let outcome = read.outcome;
+    let m = read.message;
+    let names = b"ok rp=\n udhi=\n sri=\n lp=\n mms=\n mti=\n";
+    let values = [
+        m.tp_rp as u8,
+        m.tp_udhi as u8,
+        m.tp_sri as u8,
+        m.tp_lp as u8,
+        m.tp_mms as u8,
         m.tp_mti,
-    );
+    ];
+    let p1 = fields::numbers(out, at, names, &values);
     let p2 = address(out, p1, m.tp_originating_address);
     let p3 = protocol_and_coding(out, p2, m.tp_pid, m.tp_dcs);
-    time_and_data(
+    let p4 = time_and_data(
         out,
         p3,
         m.tp_service_centre_timestamp,
         m.tp_user_data_length,
         m.tp_user_data,
-    )
-}
-
-// What stands before the reference in a SUBMIT, but for the number of octets read.
-fn submit_numbers(
-    out: &mut Output,
-    at: usize,
-    rp: bool,
-    udhi: bool,
-    srr: bool,
-    vpf: u8,
-    rd: bool,
-    mti: u8,
-) -> usize {
-    let names = b" rp=\n udhi=\n srr=\n vpf=\n rd=\n mti=\n";
-    let values = [rp as u8, udhi as u8, srr as u8, vpf, rd as u8, mti];
-    fields::numbers(out, at, names, &values)
+    );
+    replaced_or_refused(out, at, p4, read.replaced_escapes, outcome)
 }
 
 fn period(out: &mut Output, at: usize, p: ValidityPeriod, time: Time, octets: [u8; 7]) -> usize {
@@ -211,16 +180,16 @@ fn after_coding(out: &mut Output, at: usize, m: SmsSubmit) -> usize {
 
 // What stands before TP-PID in a SUBMIT.
 fn before_protocol(out: &mut Output, at: usize, m: SmsSubmit) -> usize {
-    let p1 = submit_numbers(
-        out,
-        at,
-        m.tp_rp,
-        m.tp_udhi,
-        m.tp_srr,
+    let names = b" rp=\n udhi=\n srr=\n vpf=\n rd=\n mti=\n";
+    let values = [
+        m.tp_rp as u8,
+        m.tp_udhi as u8,
+        m.tp_srr as u8,
         m.tp_vpf,
-        m.tp_rd,
+        m.tp_rd as u8,
         m.tp_mti,
-    );
+    ];
+    let p1 = fields::numbers(out, at, names, &values);
     let p2 = fields::octet(out, p1, b" mr=", m.tp_mr);
     address(out, p2, m.tp_destination_address)
 }
@@ -230,74 +199,57 @@ fn octets_read(out: &mut Output, at: usize, count: usize) -> usize {
     output::put_decimal(out, next, count as u64)
 }
 
-fn submit(out: &mut Output, at: usize, refusal: u8, count: usize, m: SmsSubmit) -> usize {
-    if refusal != 0 {
-        return refused(out, at, refusal);
-    }
-    let p1 = octets_read(out, at, count);
+fn submit(out: &mut Output, at: usize, read: SubmitRead) -> usize {
+    let outcome = read.outcome;
+    let m = read.message;
+    let p1 = octets_read(out, at, read.octets_read);
     let p2 = before_protocol(out, p1, m);
     let p3 = protocol_and_coding(out, p2, m.tp_pid, m.tp_dcs);
-    after_coding(out, p3, m)
+    let p4 = after_coding(out, p3, m);
+    replaced_or_refused(out, at, p4, read.replaced_escapes, outcome)
 }
 
-// A failure cause and an indicator.
-fn cause_and_indicator(out: &mut Output, at: usize, fcs: OptionalOctet, pi: u8) -> usize {
-    let next = optional_octet(out, at, b" fcs=", fcs);
-    fields::octet(out, next, b" pi=", pi)
+// What stands before the parameters in a report with an outcome, but for a time.
+fn report_numbers(out: &mut Output, at: usize, udhi: u8, fcs: OptionalOctet, pi: u8) -> usize {
+    let p1 = fields::number(out, at, b"ok udhi=", udhi);
+    let p2 = optional_octet(out, p1, b" fcs=", fcs);
+    fields::octet(out, p2, b" pi=", pi)
 }
 
-fn outcome(out: &mut Output, at: usize, o: RpOutcome) -> usize {
+fn rp_outcome(out: &mut Output, at: usize, o: RpOutcome) -> usize {
     match o {
         RpOutcome::RpAck => output::put(out, at, b" outcome=ack"),
         RpOutcome::RpError => output::put(out, at, b" outcome=error"),
     }
 }
 
-fn submit_report(out: &mut Output, at: usize, refusal: u8, m: SmsSubmitReport) -> usize {
-    if refusal != 0 {
-        return refused(out, at, refusal);
-    }
-    let rp_outcome = m.rp_outcome;
+fn submit_report(out: &mut Output, at: usize, read: SubmitReportRead) -> usize {
+    let outcome = read.outcome;
+    let m = read.message;
     let cause = m.tp_failure_cause;
     let pid = m.tp_pid;
     let dcs = m.tp_dcs;
     let udl = m.tp_user_data_length;
-    let p1 = fields::number(out, at, b"ok udhi=", m.tp_udhi);
-    let p2 = cause_and_indicator(out, p1, cause, m.tp_parameter_indicator);
-    let p3 = fields::time(out, p2, b" scts=", m.tp_service_centre_timestamp);
-    let p4 = parameters(out, p3, pid, dcs, udl, m.tp_user_data);
-    outcome(out, p4, rp_outcome)
-}
-
-fn deliver_report(out: &mut Output, at: usize, refusal: u8, m: SmsDeliverReport) -> usize {
-    if refusal != 0 {
-        return refused(out, at, refusal);
-    }
-    let rp_outcome = m.rp_outcome;
-    let cause = m.tp_failure_cause;
-    let pid = m.tp_pid;
-    let dcs = m.tp_dcs;
-    let udl = m.tp_user_data_length;
-    let p1 = fields::flag(out, at, b"ok udhi=", m.tp_udhi);
-    let p2 = cause_and_indicator(out, p1, cause, m.tp_parameter_indicator);
+    let held = m.rp_outcome;
+    let p1 = report_numbers(out, at, m.tp_udhi, cause, m.tp_parameter_indicator);
+    let p2 = fields::time(out, p1, b" scts=", m.tp_service_centre_timestamp);
     let p3 = parameters(out, p2, pid, dcs, udl, m.tp_user_data);
-    outcome(out, p3, rp_outcome)
+    let p4 = rp_outcome(out, p3, held);
+    replaced_or_refused(out, at, p4, read.replaced_escapes, outcome)
 }
 
-// What stands before the address in a STATUS-REPORT.
-fn status_numbers(
-    out: &mut Output,
-    at: usize,
-    udhi: bool,
-    srq: bool,
-    lp: bool,
-    mms: bool,
-    mr: u8,
-) -> usize {
-    let names = b"ok udhi=\n srq=\n lp=\n mms=\n";
-    let values = [udhi as u8, srq as u8, lp as u8, mms as u8];
-    let next = fields::numbers(out, at, names, &values);
-    fields::octet(out, next, b" mr=", mr)
+fn deliver_report(out: &mut Output, at: usize, read: DeliverReportRead) -> usize {
+    let outcome = read.outcome;
+    let m = read.message;
+    let cause = m.tp_failure_cause;
+    let pid = m.tp_pid;
+    let dcs = m.tp_dcs;
+    let udl = m.tp_user_data_length;
+    let held = m.rp_outcome;
+    let p1 = report_numbers(out, at, m.tp_udhi as u8, cause, m.tp_parameter_indicator);
+    let p2 = parameters(out, p1, pid, dcs, udl, m.tp_user_data);
+    let p3 = rp_outcome(out, p2, held);
+    replaced_or_refused(out, at, p3, read.replaced_escapes, outcome)
 }
 
 fn times_and_status(out: &mut Output, at: usize, scts: Time, dt: Time, st: u8) -> usize {
@@ -308,106 +260,56 @@ fn times_and_status(out: &mut Output, at: usize, scts: Time, dt: Time, st: u8) -
 
 // What stands before the indicator in a STATUS-REPORT.
 fn before_indicator(out: &mut Output, at: usize, m: SmsStatusReport) -> usize {
-    let p1 = status_numbers(out, at, m.tp_udhi, m.tp_srq, m.tp_lp, m.tp_mms, m.tp_mr);
-    let p2 = address(out, p1, m.tp_recipient_address);
+    let names = b"ok udhi=\n srq=\n lp=\n mms=\n";
+    let values = [
+        m.tp_udhi as u8,
+        m.tp_srq as u8,
+        m.tp_lp as u8,
+        m.tp_mms as u8,
+    ];
+    let p1 = fields::numbers(out, at, names, &values);
+    let p2 = fields::octet(out, p1, b" mr=", m.tp_mr);
+    let p3 = address(out, p2, m.tp_recipient_address);
     times_and_status(
         out,
-        p2,
+        p3,
         m.tp_service_centre_timestamp,
         m.tp_discharge_time,
         m.tp_status,
     )
 }
 
-fn status_report(out: &mut Output, at: usize, refusal: u8, m: SmsStatusReport) -> usize {
-    if refusal != 0 {
-        return refused(out, at, refusal);
-    }
+fn status_report(out: &mut Output, at: usize, read: StatusReportRead) -> usize {
+    let outcome = read.outcome;
+    let m = read.message;
     let indicator = m.tp_parameter_indicator;
     let pid = m.tp_pid;
     let dcs = m.tp_dcs;
     let udl = m.tp_user_data_length;
     let p1 = before_indicator(out, at, m);
     let p2 = optional_octet(out, p1, b" pi=", indicator);
-    parameters(out, p2, pid, dcs, udl, m.tp_user_data)
+    let p3 = parameters(out, p2, pid, dcs, udl, m.tp_user_data);
+    replaced_or_refused(out, at, p3, read.replaced_escapes, outcome)
 }
 
-// ---- the readers
-
-// After the record how many escapes were replaced; nothing after a refusal.
-fn replaced(out: &mut Output, at: usize, refusal: u8, n: usize) -> usize {
-    if refusal != 0 {
-        return at;
-    }
-    fields::replaced(out, at, n)
-}
-
-fn answer_deliver(octets: &[u8], out: &mut Output, at: usize) -> usize {
-    let read = SmsDeliver::decode(octets);
-    let outcome = read.outcome;
-    let refusal = refusal_number(outcome);
-    let next = deliver(out, at, refusal, read.message);
-    replaced(out, next, refusal, read.replaced_escapes)
-}
-
-fn answer_submit(octets: &[u8], out: &mut Output, at: usize) -> usize {
-    let read = tpdu::decode_sms_submit_tpdu(octets);
-    let outcome = read.outcome;
-    let refusal = refusal_number(outcome);
-    let next = submit(out, at, refusal, read.octets_read, read.message);
-    replaced(out, next, refusal, read.replaced_escapes)
-}
-
-fn answer_submit_report_ack(octets: &[u8], out: &mut Output, at: usize) -> usize {
-    let read = SmsSubmitReport::decode_for_rp_ack(octets);
-    let outcome = read.outcome;
-    let refusal = refusal_number(outcome);
-    let next = submit_report(out, at, refusal, read.message);
-    replaced(out, next, refusal, read.replaced_escapes)
-}
-
-fn answer_submit_report_error(octets: &[u8], out: &mut Output, at: usize) -> usize {
-    let read = SmsSubmitReport::decode_for_rp_error(octets);
-    let outcome = read.outcome;
-    let refusal = refusal_number(outcome);
-    let next = submit_report(out, at, refusal, read.message);
-    replaced(out, next, refusal, read.replaced_escapes)
-}
-
-fn answer_deliver_report_ack(octets: &[u8], out: &mut Output, at: usize) -> usize {
-    let read = SmsDeliverReport::decode_for_rp_ack(octets);
-    let outcome = read.outcome;
-    let refusal = refusal_number(outcome);
-    let next = deliver_report(out, at, refusal, read.message);
-    replaced(out, next, refusal, read.replaced_escapes)
-}
-
-fn answer_deliver_report_error(octets: &[u8], out: &mut Output, at: usize) -> usize {
-    let read = SmsDeliverReport::decode_for_rp_error(octets);
-    let outcome = read.outcome;
-    let refusal = refusal_number(outcome);
-    let next = deliver_report(out, at, refusal, read.message);
-    replaced(out, next, refusal, read.replaced_escapes)
-}
-
-fn answer_status_report(octets: &[u8], out: &mut Output, at: usize) -> usize {
-    let read = SmsStatusReport::decode(octets);
-    let outcome = read.outcome;
-    let refusal = refusal_number(outcome);
-    let next = status_report(out, at, refusal, read.message);
-    replaced(out, next, refusal, read.replaced_escapes)
-}
-
-// The answer of a reader: the fields of its record, or its refusal.
+// The answer of a reader.
 pub fn answer(reader: Reader, octets: &[u8], out: &mut Output, at: usize) -> usize {
     match reader {
-        Reader::Deliver => answer_deliver(octets, out, at),
-        Reader::Submit => answer_submit(octets, out, at),
-        Reader::SubmitReportAck => answer_submit_report_ack(octets, out, at),
-        Reader::SubmitReportError => answer_submit_report_error(octets, out, at),
-        Reader::DeliverReportAck => answer_deliver_report_ack(octets, out, at),
-        Reader::DeliverReportError => answer_deliver_report_error(octets, out, at),
-        Reader::StatusReport => answer_status_report(octets, out, at),
+        Reader::Deliver => deliver(out, at, SmsDeliver::decode(octets)),
+        Reader::Submit => submit(out, at, tpdu::decode_sms_submit_tpdu(octets)),
+        Reader::SubmitReportAck => {
+            submit_report(out, at, SmsSubmitReport::decode_for_rp_ack(octets))
+        }
+        Reader::SubmitReportError => {
+            submit_report(out, at, SmsSubmitReport::decode_for_rp_error(octets))
+        }
+        Reader::DeliverReportAck => {
+            deliver_report(out, at, SmsDeliverReport::decode_for_rp_ack(octets))
+        }
+        Reader::DeliverReportError => {
+            deliver_report(out, at, SmsDeliverReport::decode_for_rp_error(octets))
+        }
+        Reader::StatusReport => status_report(out, at, SmsStatusReport::decode(octets)),
         Reader::Unknown => at,
     }
 }

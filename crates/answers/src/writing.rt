@@ -101,11 +101,11 @@ fn period_octets_of(value: &[u8]) -> [u8; 7] {
 
 // ---- records
 
-fn write_deliver(line: &[u8], lent: &mut Lent) -> Written {
+fn deliver(line: &[u8]) -> SmsDeliver {
     let originator = address_of(line);
     let scts = time(line, keys::SCTS);
     let ud = user_data(line);
-    let message = SmsDeliver {
+    SmsDeliver {
         tp_rp: flag(line, keys::RP),
         tp_udhi: flag(line, keys::UDHI),
         tp_sri: flag(line, keys::SRI),
@@ -118,11 +118,10 @@ fn write_deliver(line: &[u8], lent: &mut Lent) -> Written {
         tp_service_centre_timestamp: scts,
         tp_user_data_length: number(line, keys::UDL),
         tp_user_data: ud,
-    };
-    message.encode(lent)
+    }
 }
 
-fn write_submit(line: &[u8], lent: &mut Lent) -> Written {
+fn submit(line: &[u8]) -> SmsSubmit {
     let destination = address_of(line);
     let period = period_of(value(line, keys::VP));
     let digits = period_digits_of(value(line, keys::VP));
@@ -136,7 +135,7 @@ fn write_submit(line: &[u8], lent: &mut Lent) -> Written {
         octets: [0u8; 510],
         length: 0,
     };
-    let message = SmsSubmit {
+    SmsSubmit {
         tp_rp: flag(line, keys::RP),
         tp_udhi: flag(line, keys::UDHI),
         tp_srr: flag(line, keys::SRR),
@@ -156,14 +155,13 @@ fn write_submit(line: &[u8], lent: &mut Lent) -> Written {
         has_user_data_header: false,
         tp_user_data_header: header,
         tp_user_data: text,
-    };
-    message.encode(lent)
+    }
 }
 
-fn write_submit_report(line: &[u8], to_standard: bool, lent: &mut Lent) -> Written {
+fn submit_report(line: &[u8]) -> SmsSubmitReport {
     let scts = time(line, keys::SCTS);
     let ud = user_data(line);
-    let message = SmsSubmitReport {
+    SmsSubmitReport {
         tp_udhi: number(line, keys::UDHI),
         tp_failure_cause: optional_octet(line, keys::FCS),
         tp_parameter_indicator: octet(line, keys::PI),
@@ -173,16 +171,12 @@ fn write_submit_report(line: &[u8], to_standard: bool, lent: &mut Lent) -> Writt
         tp_user_data_length: optional_number(line, keys::UDL),
         tp_user_data: ud,
         rp_outcome: outcome(line),
-    };
-    if to_standard {
-        return message.encode_to_standard(lent);
     }
-    message.encode(lent)
 }
 
-fn write_deliver_report(line: &[u8], to_standard: bool, lent: &mut Lent) -> Written {
+fn deliver_report(line: &[u8]) -> SmsDeliverReport {
     let ud = user_data(line);
-    let message = SmsDeliverReport {
+    SmsDeliverReport {
         tp_udhi: flag(line, keys::UDHI),
         tp_failure_cause: optional_octet(line, keys::FCS),
         tp_parameter_indicator: octet(line, keys::PI),
@@ -191,19 +185,15 @@ fn write_deliver_report(line: &[u8], to_standard: bool, lent: &mut Lent) -> Writ
         tp_user_data_length: optional_number(line, keys::UDL),
         tp_user_data: ud,
         rp_outcome: outcome(line),
-    };
-    if to_standard {
-        return message.encode_to_standard(lent);
     }
-    message.encode(lent)
 }
 
-fn write_status_report(line: &[u8], to_standard: bool, lent: &mut Lent) -> Written {
+fn status_report(line: &[u8]) -> SmsStatusReport {
     let recipient = address_of(line);
     let scts = time(line, keys::SCTS);
     let dt = time(line, keys::DT);
     let ud = user_data(line);
-    let message = SmsStatusReport {
+    SmsStatusReport {
         tp_udhi: flag(line, keys::UDHI),
         tp_srq: flag(line, keys::SRQ),
         tp_lp: flag(line, keys::LP),
@@ -218,24 +208,38 @@ fn write_status_report(line: &[u8], to_standard: bool, lent: &mut Lent) -> Writt
         tp_dcs: optional_octet(line, keys::DCS),
         tp_user_data_length: optional_number(line, keys::UDL),
         tp_user_data: ud,
-    };
-    if to_standard {
-        return message.encode_to_standard(lent);
     }
-    message.encode(lent)
 }
 
 // ---- answers
 
-fn write(kind: usize, to_standard: bool, line: &[u8], lent: &mut Lent) -> Written {
+// Writes a record within the standard's limit of user data, if it is a report.
+fn write_to_standard(kind: usize, line: &[u8], lent: &mut Lent) -> Written {
     match kind {
-        keys::DELIVER => write_deliver(line, lent),
-        keys::SUBMIT => write_submit(line, lent),
-        keys::SUBMIT_REPORT => write_submit_report(line, to_standard, lent),
-        keys::DELIVER_REPORT => write_deliver_report(line, to_standard, lent),
-        keys::STATUS_REPORT => write_status_report(line, to_standard, lent),
+        keys::SUBMIT_REPORT => submit_report(line).encode_to_standard(lent),
+        keys::DELIVER_REPORT => deliver_report(line).encode_to_standard(lent),
+        keys::STATUS_REPORT => status_report(line).encode_to_standard(lent),
         _ => Written::Done(0),
     }
+}
+
+// Writes a record within the published crate's limit.
+fn write(kind: usize, line: &[u8], lent: &mut Lent) -> Written {
+    match kind {
+        keys::DELIVER => deliver(line).encode(lent),
+        keys::SUBMIT => submit(line).encode(lent),
+        keys::SUBMIT_REPORT => submit_report(line).encode(lent),
+        keys::DELIVER_REPORT => deliver_report(line).encode(lent),
+        keys::STATUS_REPORT => status_report(line).encode(lent),
+        _ => Written::Done(0),
+    }
+}
+
+fn write_within(to_standard: bool, kind: usize, line: &[u8], lent: &mut Lent) -> Written {
+    if to_standard {
+        return write_to_standard(kind, line, lent);
+    }
+    write(kind, line, lent)
 }
 
 // The answer to a line that gives a record of a kind, written within the published crate's limit of user data or, if it
@@ -249,6 +253,6 @@ pub fn answer(
     at: usize,
 ) -> usize {
     let mut lent = [0u8; 255];
-    let w = write(kind, to_standard, line, &mut lent);
+    let w = write_within(to_standard, kind, line, &mut lent);
     fields::written(out, at, w, &lent, show)
 }

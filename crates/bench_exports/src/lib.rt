@@ -18,8 +18,9 @@ ghost use Rattle.layout.specs.Layout.{read, answer};
 ghost use Rattle.submit.specs.Submit.{submit, submitting, octetsTaken, blank as blankSubmit};
 ghost use Rattle.deliver.specs.Deliver.{deliver, delivering, blank as blankDeliver};
 ghost use Rattle.status_report.specs.StatusReport.{statusReport, statusReporting, blank as blankStatusReport};
-ghost use Rattle.submit_report.specs.SubmitReport.{ack as submitReportAck, submitReporting, blank as blankSubmitReport};
-ghost use Rattle.deliver_report.specs.DeliverReport.{error as deliverReportError, deliverReporting, blank as blankDeliverReport};
+ghost use Rattle.parameters.specs.declared.RpOutcome.the-variants.{RpAck, RpError};
+ghost use Rattle.submit_report.specs.SubmitReport.{layoutOf as submitReportLayout, submitReporting, blank as blankSubmitReport};
+ghost use Rattle.deliver_report.specs.DeliverReport.{layoutOf as deliverReportLayout, deliverReporting, blank as blankDeliverReport};
 ghost use Rattle.bench_exports.specs.Numbers.{numbered, countNumber, lentNumber, packedNumber, emptiedNumber, acceptedNumber, stringsNumber};
 use tpdu::Outcome;
 use tpdu::SMSAddress;
@@ -56,9 +57,7 @@ pub extern "C" fn tpdu_read_deliver(data: &[u8]) -> usize
 {
     let read = SmsDeliver::decode(data);
     let outcome = read.outcome;
-    let message = read.message;
-    let ud = message.tp_user_data;
-    taken(outcome, ud.length)
+    taken(outcome, read.message.tp_user_data.length)
 }
 
 // The number of octets read.
@@ -78,31 +77,25 @@ pub extern "C" fn tpdu_read_status_report(data: &[u8]) -> usize
 {
     let read = SmsStatusReport::decode(data);
     let outcome = read.outcome;
-    let message = read.message;
-    let ud = message.tp_user_data;
-    taken(outcome, ud.length)
+    taken(outcome, read.message.tp_user_data.length)
 }
 
 #[no_mangle]
 pub extern "C" fn tpdu_read_submit_report(data: &[u8]) -> usize
-    ensures { λ r. ⌜ (let a = answer blankSubmitReport (read submitReportAck (now («data» .entry))) in r ≡ numbered (a .0) (a .1 .«tp_user_data» .length)) ⌝ }
+    ensures { λ r. ⌜ (let a = answer blankSubmitReport (read (submitReportLayout RpAck) (now («data» .entry))) in r ≡ numbered (a .0) (a .1 .«tp_user_data» .length)) ⌝ }
 {
     let read = SmsSubmitReport::decode_for_rp_ack(data);
     let outcome = read.outcome;
-    let message = read.message;
-    let ud = message.tp_user_data;
-    taken(outcome, ud.length)
+    taken(outcome, read.message.tp_user_data.length)
 }
 
 #[no_mangle]
 pub extern "C" fn tpdu_read_deliver_report(data: &[u8]) -> usize
-    ensures { λ r. ⌜ (let a = answer blankDeliverReport (read deliverReportError (now («data» .entry))) in r ≡ numbered (a .0) (a .1 .«tp_user_data» .length)) ⌝ }
+    ensures { λ r. ⌜ (let a = answer blankDeliverReport (read (deliverReportLayout RpError) (now («data» .entry))) in r ≡ numbered (a .0) (a .1 .«tp_user_data» .length)) ⌝ }
 {
     let read = SmsDeliverReport::decode_for_rp_error(data);
     let outcome = read.outcome;
-    let message = read.message;
-    let ud = message.tp_user_data;
-    taken(outcome, ud.length)
+    taken(outcome, read.message.tp_user_data.length)
 }
 
 // Read, and written back.
@@ -110,40 +103,35 @@ pub extern "C" fn tpdu_read_deliver_report(data: &[u8]) -> usize
 pub extern "C" fn tpdu_rewrite_deliver(data: &[u8], out: &mut [u8]) -> usize
     ensures { λ r. ⌜ (r, now (out .exit)) ≡ lentNumber (lend refuses (rewriting delivering (read deliver (now («data» .entry)))) (now (out .entry))) ⌝ }
 {
-    let w = tpdu::canonical_deliver(data, out);
-    written(w)
+    written(tpdu::canonical_deliver(data, out))
 }
 
 #[no_mangle]
 pub extern "C" fn tpdu_rewrite_submit(data: &[u8], out: &mut [u8]) -> usize
     ensures { λ r. ⌜ (r, now (out .exit)) ≡ lentNumber (lend refuses (rewriting submitting (read submit (now («data» .entry)))) (now (out .entry))) ⌝ }
 {
-    let w = tpdu::canonical_submit(data, out);
-    written(w)
+    written(tpdu::canonical_submit(data, out))
 }
 
 #[no_mangle]
 pub extern "C" fn tpdu_rewrite_status_report(data: &[u8], out: &mut [u8]) -> usize
     ensures { λ r. ⌜ (r, now (out .exit)) ≡ lentNumber (lend refuses (rewriting statusReporting (read statusReport (now («data» .entry)))) (now (out .entry))) ⌝ }
 {
-    let w = tpdu::canonical_status_report(data, out);
-    written(w)
+    written(tpdu::canonical_status_report(data, out))
 }
 
 #[no_mangle]
 pub extern "C" fn tpdu_rewrite_submit_report(data: &[u8], out: &mut [u8]) -> usize
-    ensures { λ r. ⌜ (r, now (out .exit)) ≡ lentNumber (lend refuses (rewriting submitReporting (read submitReportAck (now («data» .entry)))) (now (out .entry))) ⌝ }
+    ensures { λ r. ⌜ (r, now (out .exit)) ≡ lentNumber (lend refuses (rewriting submitReporting (read (submitReportLayout RpAck) (now («data» .entry)))) (now (out .entry))) ⌝ }
 {
-    let w = tpdu::canonical_submit_report_ack(data, out);
-    written(w)
+    written(tpdu::canonical_submit_report_ack(data, out))
 }
 
 #[no_mangle]
 pub extern "C" fn tpdu_rewrite_deliver_report(data: &[u8], out: &mut [u8]) -> usize
-    ensures { λ r. ⌜ (r, now (out .exit)) ≡ lentNumber (lend refuses (rewriting deliverReporting (read deliverReportError (now («data» .entry)))) (now (out .entry))) ⌝ }
+    ensures { λ r. ⌜ (r, now (out .exit)) ≡ lentNumber (lend refuses (rewriting deliverReporting (read (deliverReportLayout RpError) (now («data» .entry)))) (now (out .entry))) ⌝ }
 {
-    let w = tpdu::canonical_deliver_report_error(data, out);
-    written(w)
+    written(tpdu::canonical_deliver_report_error(data, out))
 }
 
 // The number of octets packed.
@@ -171,8 +159,7 @@ pub extern "C" fn tpdu_concatenate(text: &[u8], reference: u8, out: &mut [u8]) -
 pub extern "C" fn tpdu_to_columns(octets: &[u8], lengths: &[usize], out: &mut [u8]) -> usize
     ensures { λ r. ⌜ (r, now (out .exit)) ≡ lentNumber (lend refuses (writing (now (octets .entry)) (now (lengths .entry))) (now (out .entry))) ⌝ }
 {
-    let w = tpdu::to_columns(octets, lengths, out);
-    written(w)
+    written(tpdu::to_columns(octets, lengths, out))
 }
 
 // The number of octets of the strings of a block.
@@ -229,8 +216,7 @@ pub extern "C" fn tpdu_ucs2_to_gsm7(ucs2: &[u8], out: &mut [u8]) -> usize
 pub extern "C" fn tpdu_gsm7_to_ucs2(data: &[u8], septets: usize, out: &mut [u8]) -> usize
     ensures { λ r. ⌜ (r, now (out .exit)) ≡ lentNumber (lend refuses (toUcs2 (now («data» .entry)) septets) (now (out .entry))) ⌝ }
 {
-    let w = tpdu::gsm7_to_ucs2(data, septets, out);
-    written(w)
+    written(tpdu::gsm7_to_ucs2(data, septets, out))
 }
 
 // An address whose text is the first octets of an array.
@@ -251,8 +237,7 @@ pub extern "C" fn tpdu_address(
         address,
         address_length: length,
     };
-    let w = a.encode(out);
-    written(w)
+    written(a.encode(out))
 }
 
 // The second digit of the second.

@@ -1,6 +1,6 @@
 -- Strings taken from the columns one after the other, and put into them.
 -- Assumes nothing.
-use Prim.Native.Nat.{ℕ, zero, suc, _+_, _-_, _<_, _≤_}
+use Prim.Native.Nat.{ℕ, zero, suc, _+_, _-_, _^_, _<_, _≤_}
 use mathlib.Core.Path.{_≡_, refl, sym, _∙_, ap}
 use mathlib.Core.Bool.{Bool, true, false}
 use mathlib.Core.List.{List, [], _∷_, _++_, append-nil, append-assoc}
@@ -28,6 +28,10 @@ module _ (ns : List ℕ) (i : ℕ) where
 
   pub places-inside : {body : ℕ} {places : List ℕ} → Starts ns body i places → AtMost 255 ns → i < length ns → (k : ℕ) → k < getD ns i 0 → getD places k 0 < body + sum ns
   places-inside s h l k p = omega (arith, s .each k (omega (arith, at-most-at 255 ns h i)), place-inside ns i k l p)
+
+  -- so that the places can be raised
+  pub places-raised : {body : ℕ} {places : List ℕ} → Starts ns body i places → AtMost 255 ns → i < length ns → body + sum ns < 2 ^ 64 → (length places ≡ 255) × (getD ns i 0 ≤ 255) × ((k : ℕ) → k < getD ns i 0 → getD places k 0 + 1 < 2 ^ 64)
+  places-raised s h l room = (s .size, at-most-at 255 ns h i, λ k p. omega (arith, room, places-inside s h l k p))
 
 -- ---- taken from the columns
 

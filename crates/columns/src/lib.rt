@@ -6,7 +6,7 @@ ghost use mathlib.Core.Option.{some};
 ghost use Prim.Native.Nat.{ℕ, _+_, _^_, _<_, _≤_};
 ghost use lib.ListN.{length, getD, drop};
 ghost use lib.Seq.{sets};
-ghost use Rattle.octets.specs.Answers.{refuses, fine, writtenSays};
+ghost use Rattle.octets.specs.Answers.{refuses, writtenSays};
 ghost use Rattle.octets.specs.Lent.{lend, Wrote};
 ghost use Rattle.columns.specs.Numbers.{groups};
 ghost use Rattle.columns.specs.Blocks.{stringsIn, joined, sum, allowed, columns, numbers, dealt, lengthsAt};
@@ -48,16 +48,6 @@ fn refused(why: Refusal) -> Strings
         outcome: Outcome::Refused(why),
         strings: 0,
         octets: 0,
-    }
-}
-
-fn done(strings: usize, octets: usize) -> Strings
-    ensures { λ r. ⌜ stringsSays r ≡ (fine, strings, octets) ⌝ }
-{
-    Strings {
-        outcome: Outcome::Done,
-        strings,
-        octets,
     }
 }
 
@@ -339,5 +329,9 @@ pub fn from_columns(block: &[u8], octets: &mut [u8], lengths: &mut [usize]) -> S
     }
     put_lengths(block, at, count, lengths);
     take_strings(block, body, &lengths[..count], octets);
-    done(count, total)
+    Strings {
+        outcome: Outcome::Done,
+        strings: count,
+        octets: total,
+    }
 }

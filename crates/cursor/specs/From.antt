@@ -13,6 +13,8 @@ use Rattle.submit.specs.Submit as Submit
 use Rattle.submit.specs.declared.SmsSubmit.{SmsSubmit}
 use Rattle.deliver.specs.Deliver as Deliver
 use Rattle.deliver.specs.declared.SmsDeliver.{SmsDeliver}
+use Rattle.parameters.specs.declared.RpOutcome.the-variants.{RpAck, RpError}
+use Rattle.report.specs.Report.{textsRead}
 use Rattle.submit_report.specs.SubmitReport as SubmitReport
 use Rattle.submit_report.specs.declared.SmsSubmitReport.{SmsSubmitReport}
 use Rattle.deliver_report.specs.DeliverReport as DeliverReport
@@ -50,16 +52,16 @@ abbrev pub deliverFrom : List ℕ → ℕ → (Said Unit × SmsDeliver) × ℕ
 deliverFrom = answerFrom Deliver.blank Deliver.textsRead Deliver.deliver
 
 abbrev pub submitReportAckFrom : List ℕ → ℕ → (Said Unit × SmsSubmitReport) × ℕ
-submitReportAckFrom = answerFrom SubmitReport.blank SubmitReport.textsRead SubmitReport.ack
+submitReportAckFrom = answerFrom SubmitReport.blank textsRead (SubmitReport.layoutOf RpAck)
 
 abbrev pub submitReportErrorFrom : List ℕ → ℕ → (Said Unit × SmsSubmitReport) × ℕ
-submitReportErrorFrom = answerFrom SubmitReport.blank SubmitReport.textsRead SubmitReport.error
+submitReportErrorFrom = answerFrom SubmitReport.blank textsRead (SubmitReport.layoutOf RpError)
 
 abbrev pub deliverReportAckFrom : List ℕ → ℕ → (Said Unit × SmsDeliverReport) × ℕ
-deliverReportAckFrom = answerFrom DeliverReport.blank DeliverReport.textsRead DeliverReport.ack
+deliverReportAckFrom = answerFrom DeliverReport.blank textsRead (DeliverReport.layoutOf RpAck)
 
 abbrev pub deliverReportErrorFrom : List ℕ → ℕ → (Said Unit × SmsDeliverReport) × ℕ
-deliverReportErrorFrom = answerFrom DeliverReport.blank DeliverReport.textsRead DeliverReport.error
+deliverReportErrorFrom = answerFrom DeliverReport.blank textsRead (DeliverReport.layoutOf RpError)
 
 abbrev pub statusReportFrom : List ℕ → ℕ → (Said Unit × SmsStatusReport) × ℕ
 statusReportFrom = answerFrom StatusReport.blank StatusReport.textsRead StatusReport.statusReport

@@ -1,22 +1,22 @@
 -- SMS-DELIVER (TS 23.040 §9.2.2.1): the record that its fields make, what its writer makes of a record, and what is no part of one.
-use Prim.Native.Nat.{ℕ, _+_}
-use mathlib.Core.Bool.{Bool, false, _||_}
-use mathlib.Core.List.{List, [], _∷_}
-use lib.Dec.{ltb}
+use Prim.Native.Nat.{ℕ}
+use mathlib.Core.Bool.{Bool, false}
+use mathlib.Core.List.{List, [], _∷_, _++_}
+use lib.Dec.{eqb}
 use lib.ListN.{length, drop}
 use Rattle.octets.specs.Answers.{Said, outcomeSays}
-use Rattle.octets.specs.Choice.{if_then_else_, flag}
-use Rattle.octets.specs.Lent.{Making, refused}
-use Rattle.octets.specs.declared.Refusal.the-variants.{LengthTooLarge}
-use Rattle.coding.specs.Coding.{dataWith, dataOf, clearedData, TypedData}
+use Rattle.octets.specs.Checks.{_unless_, checked, allFit}
+use Rattle.octets.specs.Lent.{Making}
+use Rattle.octets.specs.declared.Refusal.the-variants.{LengthTooLarge, WrongMessageType, NotATime}
+use Rattle.coding.specs.Coding.{dataChecks, dataWith, dataOf, clearedData, TypedData}
 use Rattle.coding.specs.declared.UserData.{UserData}
-use Rattle.time.specs.Time.{timeIn, digitsOf, clearedTime, capitalTime, TypedTime}
+use Rattle.time.specs.Time.{isTime, timeIn, timeOctets, digitsOf, clearedTime, capitalTime, TypedTime}
 use Rattle.time.specs.declared.Time.{Time}
 use Rattle.address.specs.Address.{addressIn, addressWith, septetsRead, textHeld, clearedAddress, TypedAddress}
+use Rattle.address.specs.Writing.{addressOctets, octetsOr, addressChecks}
 use Rattle.address.specs.declared.SMSAddress.{SMSAddress}
-use Rattle.layout.specs.Layout.{Format, Layout, plain, done, _then_, address as addressKind, isSet, messageType, cut}
+use Rattle.layout.specs.Layout.{Format, Layout, plain, done, _then_, address as addressKind, isSet, messageType, firstOctet, cut}
 use Rattle.deliver.specs.Layout.{Fields, fields}
-use Rattle.deliver.specs.Writing.{making}
 use Rattle.deliver.specs.declared.DeliverRead.{DeliverRead}
 use Rattle.deliver.specs.declared.SmsDeliver.{SmsDeliver}
 
@@ -73,21 +73,28 @@ textsRead s r = septetsRead (cut addressKind (drop 1 s)) ∷ []
 
 -- ---- writing
 
--- RP bit 7, UDHI 6, SRI 5, LP 3, MMS 2
-abbrev pub flagsOf : SmsDeliver → ℕ
-flagsOf r = flag (r .«tp_rp») 128 + flag (r .«tp_udhi») 64 + flag (r .«tp_sri») 32 + flag (r .«tp_lp») 8 + flag (r .«tp_mms») 4
+-- the lengths of a record, each with the size of its array
+abbrev pub lengthsOf : SmsDeliver → List (ℕ × ℕ)
+lengthsOf r = (r .«tp_originating_address» .«address_length», 290) ∷ (r .«tp_service_centre_timestamp» .length, 14) ∷ (r .«tp_user_data» .length, 255) ∷ []
 
--- a length of the record passes its array
-abbrev pub tooLong : SmsDeliver → Bool
-tooLong r = ltb 290 (r .«tp_originating_address» .«address_length») || (ltb 14 (r .«tp_service_centre_timestamp» .length) || ltb 255 (r .«tp_user_data» .length))
+-- its flags, each with its bit
+abbrev pub flagsOf : SmsDeliver → List (ℕ × Bool)
+flagsOf r = (7, r .«tp_rp») ∷ (6, r .«tp_udhi») ∷ (5, r .«tp_sri») ∷ (3, r .«tp_lp») ∷ (2, r .«tp_mms») ∷ []
 
--- what the writer makes of a record
+-- its octets, in the layout's order
+abbrev pub octetsOf : SmsDeliver → List ℕ
+octetsOf r =
+    let a = r .«tp_originating_address» in
+    firstOctet 0 (flagsOf r) ∷ (octetsOr [] (addressOctets (a .ton) (a .npi) (textHeld a)) ++ (r .«tp_pid» ∷ r .«tp_dcs» ∷ (timeOctets (digitsOf (r .«tp_service_centre_timestamp»)) ++ (r .«tp_user_data_length» ∷ dataOf (r .«tp_user_data»)))))
+
+-- what the writer makes of it: refusals 1, 3, 7 and 8 of the data, 9 to 11 of the address, and 12
 unfoldable pub delivering : SmsDeliver → Making (Said ℕ)
 delivering r =
-    if tooLong r then refused LengthTooLarge
-    else
-    making (flagsOf r) (r .«tp_mti») (r .«tp_originating_address» .ton) (r .«tp_originating_address» .npi) (textHeld (r .«tp_originating_address»)) (r .«tp_pid») (r .«tp_dcs»)
-    (digitsOf (r .«tp_service_centre_timestamp»)) (r .«tp_user_data_length») (dataOf (r .«tp_user_data»))
+    let a = r .«tp_originating_address» in
+    checked
+    ((LengthTooLarge unless allFit (lengthsOf r)) ∷ (WrongMessageType unless eqb (r .«tp_mti») 0) ∷ (dataChecks (r .«tp_dcs») (r .«tp_user_data_length») (length (dataOf (r .«tp_user_data»)))
+    ++ (addressChecks (a .ton) (a .npi) (textHeld a) ++ ((NotATime unless isTime (digitsOf (r .«tp_service_centre_timestamp»))) ∷ []))))
+    (octetsOf r)
 
 -- ---- what is no part of a record
 

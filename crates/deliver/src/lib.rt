@@ -3,9 +3,7 @@ pub mod reading;
 pub mod writing;
 
 ghost use mathlib.Core.Path.{_≡_};
-ghost use Prim.Native.Nat.{_+_};
 ghost use Rattle.octets.specs.Answers.{refuses, writtenSays};
-ghost use Rattle.octets.specs.Choice.{flag};
 ghost use Rattle.octets.specs.Lent.{lend};
 ghost use Rattle.gsm7.specs.Reading.{replacedInAll};
 ghost use Rattle.layout.specs.Layout.{read, answer, replacedOf};
@@ -15,6 +13,7 @@ use crate::reading::DeliverFields;
 use crate::reading::DeliverFound;
 use address::SMSAddress;
 use coding::UserData;
+use layout::MTI_DELIVER;
 use octets::Outcome;
 use octets::Refusal;
 use octets::Written;
@@ -94,17 +93,6 @@ fn message(data: &[u8], f: DeliverFields) -> DeliverRead
     }
 }
 
-// The flags of the first octet.
-fn flags(rp: bool, udhi: bool, sri: bool, lp: bool, mms: bool) -> u8
-    ensures { λ r. ⌜ r ≡ flag rp 128 + flag udhi 64 + flag sri 32 + flag lp 8 + flag mms 4 ⌝ }
-{
-    octets::flag(rp, 128)
-        + octets::flag(udhi, 64)
-        + octets::flag(sri, 32)
-        + octets::flag(lp, 8)
-        + octets::flag(mms, 4)
-}
-
 impl SmsDeliver {
     // Writes the message to the start of a lent output.
     pub fn encode(self, out: &mut [u8]) -> Written
@@ -113,13 +101,15 @@ impl SmsDeliver {
         let n = self.tp_originating_address.address_length;
         let m = self.tp_service_centre_timestamp.length;
         let k = self.tp_user_data.length;
-        if (290 < n) | ((14 < m) | (255 < k)) {
+        if !((n <= 290) & ((m <= 14) & (k <= 255))) {
             return Written::Refused(Refusal::LengthTooLarge);
         }
-        let flags = flags(
+        let first = layout::first_octet(
+            MTI_DELIVER,
             self.tp_rp,
             self.tp_udhi,
             self.tp_sri,
+            false,
             self.tp_lp,
             self.tp_mms,
         );
@@ -127,7 +117,7 @@ impl SmsDeliver {
         let digits = self.tp_service_centre_timestamp.digits;
         let octets = self.tp_user_data.octets;
         writing::encode_fields(
-            flags,
+            first,
             self.tp_mti,
             self.tp_originating_address.ton,
             self.tp_originating_address.npi,

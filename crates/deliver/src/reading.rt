@@ -6,12 +6,11 @@ ghost use Rattle.layout.specs.Layout.{readFrom, kept, cut, address as addressKi
 ghost use Rattle.address.specs.Address.{addressSize, canonicalAddress};
 ghost use Rattle.deliver.specs.Layout.{bits, fields};
 ghost use Rattle.deliver.specs.Internal.{afterAddress, afterCoding, foundSays, Inside};
+use layout::MTI_DELIVER;
 use octets::Octet;
 use octets::Place;
 use octets::Refusal;
 use octets::Span;
-
-const MTI_DELIVER: u8 = 0;
 
 // The fields of one octet, and where the others start: the address, the time, and so many octets of user data.
 pub struct DeliverFields {

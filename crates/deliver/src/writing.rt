@@ -4,21 +4,21 @@ ghost use mathlib.Core.Bool.{true};
 ghost use Prim.Native.Nat.{_+_, _/_, _≤_, _<_};
 ghost use lib.ListN.{length};
 ghost use Rattle.octets.specs.Answers.{gives, refuses, writtenSays};
+ghost use Rattle.octets.specs.Checks.{checked};
 ghost use Rattle.octets.specs.Lent.{Wrote, lend};
 ghost use Rattle.time.specs.Time.{isTime};
 ghost use Rattle.address.specs.Writing.{addressMaking};
 ghost use Rattle.address.specs.Internal.{checkOf};
-ghost use Rattle.deliver.specs.Writing.{octetsIn, making};
+ghost use Rattle.deliver.specs.Internal.{checksIn, octetsIn};
 use address::writing::AddressCheck;
+use layout::MTI_DELIVER;
 use octets::Checked;
 use octets::Refusal;
 use octets::Written;
 
-const MTI_DELIVER: u8 = 0;
-
 // Writes values that were checked; how many octets they take.
 fn put_fields(
-    flags: u8,
+    first: u8,
     ton: u8,
     npi: u8,
     text: &[u8],
@@ -31,9 +31,9 @@ fn put_fields(
     out: &mut [u8],
 ) -> usize
     requires { ⌜ (checkOf (addressMaking ton npi (now text)) ≡ gives count) × (isTime (now digits) ≡ true) × (13 + (count + 1) / 2 + length (now «data») ≤ length (now out)) ⌝ }
-    ensures { λ r. ⌜ Wrote 0 (octetsIn flags ton npi (now (text .entry)) pid dcs (now (digits .entry)) udl (now («data» .entry))) (now (out .entry)) r (now (out .exit)) ⌝ }
+    ensures { λ r. ⌜ Wrote 0 (octetsIn first ton npi (now (text .entry)) pid dcs (now (digits .entry)) udl (now («data» .entry))) (now (out .entry)) r (now (out .exit)) ⌝ }
 {
-    let p1 = octets::put_octet(out, 0, flags);
+    let p1 = octets::put_octet(out, 0, first);
     let p2 = address::writing::put_address(ton, npi, text, count, out, p1);
     let p3 = octets::put_octet(out, p2, pid);
     let p4 = octets::put_octet(out, p3, dcs);
@@ -44,7 +44,7 @@ fn put_fields(
 
 // Writes the values to the start of a lent output: checks in order, then the size, then the octets.
 pub fn encode_fields(
-    flags: u8,
+    first: u8,
     mti: u8,
     ton: u8,
     npi: u8,
@@ -56,7 +56,7 @@ pub fn encode_fields(
     data: &[u8],
     out: &mut [u8],
 ) -> Written
-    ensures { λ r. ⌜ (writtenSays r, now (out .exit)) ≡ lend refuses (making flags mti ton npi (now (text .entry)) pid dcs (now (digits .entry)) udl (now («data» .entry))) (now (out .entry)) ⌝ }
+    ensures { λ r. ⌜ (writtenSays r, now (out .exit)) ≡ lend refuses (checked (checksIn mti ton npi (now (text .entry)) dcs (now (digits .entry)) udl (now («data» .entry))) (octetsIn first ton npi (now (text .entry)) pid dcs (now (digits .entry)) udl (now («data» .entry)))) (now (out .entry)) ⌝ }
 {
     if mti != MTI_DELIVER {
         return Written::Refused(Refusal::WrongMessageType);
@@ -74,7 +74,7 @@ pub fn encode_fields(
                 return Written::Refused(Refusal::OutputTooShort);
             }
             Written::Done(put_fields(
-                flags,
+                first,
                 ton,
                 npi,
                 text,

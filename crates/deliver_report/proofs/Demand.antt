@@ -1,44 +1,34 @@
--- Demand 3 of DELIVER-REPORT's two readers with its writer, and that this looks at nothing that is no part of a record.
+-- Demand 3 of DELIVER-REPORT's two readers with its writer, and that this looks at nothing that is no part of a record; the outcome of the records that are read.
 -- Assumes nothing.
-use Prim.Native.Nat.{ℕ, _≤_}
+use Prim.Native.Nat.{ℕ}
 use mathlib.Core.Path.{_≡_, refl, sym, ap, _∙_}
-use mathlib.Core.Bool.{Bool, true, false, _||_}
-use mathlib.Core.List.{List, [], _∷_, _++_, append-nil}
+use mathlib.Core.Bool.{true, false}
+use mathlib.Core.List.{List, [], _∷_}
 use native.Mathlib.Omega.{arith}
-use borrow.Author.Tests.{eqb-true, eqb-false}
+use borrow.Author.Tests.{le-leb}
 use lib.ListN.{length}
-use Rattle.octets.specs.Choice.{flag}
+use Rattle.octets.specs.Checks.{checked}
 use Rattle.octets.specs.Each.{Octets, each}
 use Rattle.octets.proofs.Each.{octets-tested}
 use Rattle.octets.proofs.Laws.{take-cleared}
 use Rattle.coding.specs.Coding.{dataWith}
 use Rattle.coding.proofs.Laws.{data-held, data-cleared}
 use Rattle.layout.specs.Demand.{Demand3}
-use Rattle.layout.specs.Layout.{octet, first, indicator, bit, isSet, messageType, kept, indicatorSize, Field, standsAs, joined, anyPastLimit, reached, after, reading, readFrom, fieldsOf, read, canonicalOf, unwritable}
-use Rattle.layout.proofs.Makes.{Makes, makes-then}
-use Rattle.layout.proofs.Demand.{Answers, Writes, Stopped, demand3, stopped-in-format, demand3-stopping, answers-plain, answers-stopping}
-use Rattle.layout.proofs.FirstOctet.{kept-type, kept-bit}
-use Rattle.parameters.specs.Optional.{octetsHeld}
-use Rattle.parameters.specs.Parameters.{Parameters}
-use Rattle.parameters.specs.declared.OptionalOctet.{OptionalOctet}
-use Rattle.parameters.specs.declared.OptionalOctet.the-variants.{Absent, Present}
+use Rattle.layout.specs.Layout.{Field, joined, anyPastLimit, Format, done, _then_, kept, indicatorSize, reached, after, reading, readFrom, fieldsOf, read, canonicalOf, unwritable}
+use Rattle.layout.proofs.Demand.{Answers, Stopped, stopped-in-format}
+use Rattle.parameters.specs.Layout.{parameters}
+use Rattle.parameters.specs.Outcome.{OneOutcome}
 use Rattle.parameters.specs.declared.RpOutcome.{RpOutcome}
 use Rattle.parameters.specs.declared.RpOutcome.the-variants.{RpAck, RpError}
-use Rattle.parameters.specs.Layout.{parameters}
-use Rattle.parameters.specs.Outcome.{outcomeAgrees}
-use Rattle.parameters.proofs.Checking.{answers}
-use Rattle.parameters.proofs.Made.{Held, parameters-make, joined-append, past-append}
-use Rattle.deliver_report.specs.Layout.{deliverReported, format}
-use Rattle.deliver_report.specs.Internal.{afterCause}
-use Rattle.deliver_report.specs.DeliverReport.{stopped, ack, error, parametersOf, standardLimit, deliverReportingWithin, deliverReporting, deliverReportingToStandard, cleared, Typed}
-use Rattle.deliver_report.specs.Writing.{octetsIn, making}
+use Rattle.report.specs.Report.{Fields, format, octetsOf, checksWithin}
+use Rattle.report.specs.Internal.{making as reportMaking}
+use Rattle.report.proofs.Made as made
+use Rattle.report.proofs.OneOutcome.{one-outcome}
+use Rattle.deliver_report.specs.DeliverReport.{deliverReported, stopped, layoutOf, fieldsIn, standardLimit, deliverReportingWithin, deliverReporting, deliverReportingToStandard, cleared, withOutcome, Typed}
 use Rattle.deliver_report.specs.declared.SmsDeliverReport.{SmsDeliverReport}
 use Rattle.deliver_report.proofs.RecordWritten.{by-fields}
 
--- ---- a record's octets
-
-abbrev octetsOf : SmsDeliverReport → List ℕ
-octetsOf r = octetsIn (r .«tp_udhi») (r .«tp_failure_cause») (r .«tp_parameter_indicator») (parametersOf r)
+-- ---- what is no part of a record
 
 -- what lies after the length is not written
 of-cleared : (limit : ℕ) (r : SmsDeliverReport) → Typed r → deliverReportingWithin limit (cleared r) ≡ deliverReportingWithin limit r
@@ -53,82 +43,45 @@ pub standard-written-alike : (r q : SmsDeliverReport) → Typed r → Typed q �
 standard-written-alike r q f g e = written-alike _ r q f g e ∙ ap (λ (o : SmsDeliverReport). deliverReportingWithin (standardLimit (o .«tp_failure_cause»)) q) e
 
 -- a record that was made of fields is cleared
-pub made-cleared : (outcome : RpOutcome) (udhi : Bool) (cause : OptionalOctet) (pi : ℕ) (p : Parameters) → cleared (deliverReported outcome udhi cause pi p) ≡ deliverReported outcome udhi cause pi p
+pub made-cleared : (x : Fields) → cleared (deliverReported x) ≡ deliverReported x
 unfolding deliverReported
-made-cleared outcome udhi cause pi p = rw (data-cleared (p .ud))
+made-cleared x = rw (data-cleared (x .parameters .ud))
 
--- ---- a record that was read: its octets, and how its checks fare
+-- ---- a record that was read
 
-abbrev Canonical : SmsDeliverReport → List Field → Type 0
-Canonical = Writes cleared deliverReporting octetsOf
+abbrev written : SmsDeliverReport → List ℕ
+written r = octetsOf 0 (fieldsIn r)
 
-abbrev bits : List ℕ
-bits = 6 ∷ []
+-- it has no time
+none : (t : List ℕ) → 0 ≡ length t → t ≡ []
+none [] e = refl
+none (y ∷ t) e = absurd (omega arith)
 
-first-is : (x : ℕ) → messageType (kept bits x) ≡ 0 → kept bits x ≡ flag (isSet 6 (kept bits x)) 64
-unfolding kept
-first-is x m = by (isSet 6 (kept bits x)) refl
-  where
-    by : (b : Bool) → isSet 6 (kept bits x) ≡ b → kept bits x ≡ flag b 64
-    by true e = omega (arith, eqb-true (bit 6 (kept bits x)) 1 e, kept-bit bits refl 6 refl x, kept-type bits refl x)
-    by false e = omega (arith, eqb-false (bit 6 (kept bits x)) 1 e, kept-bit bits refl 6 refl x, kept-type bits refl x)
-
-module _ (outcome : RpOutcome) (udhi : Bool) (cause : OptionalOctet) (agrees : outcomeAgrees outcome cause ≡ true) (pi : ℕ) (p : Parameters) where
-  abbrev r : SmsDeliverReport
-  r = deliverReported outcome udhi cause pi p
-
-  octets-held : octetsOf (cleared r) ≡ octetsIn udhi cause pi p
+module _ (outcome : RpOutcome) (x : Fields) (cs : List Field) (h : made.Stands 0 false outcome x cs) where
+  held : written (cleared (deliverReported x)) ≡ octetsOf 0 x
   unfolding deliverReported
-  octets-held = ap octetsOf (made-cleared outcome udhi cause pi p) ∙ rw (data-held (p .ud))
+  held = ap written (made-cleared x) ∙ rw (data-held (x .parameters .ud), none (x .scts) (h .time-size))
 
-  its-making : length (p .ud) ≤ 255 → deliverReporting r ≡ making 140 udhi cause pi p
-  unfolding deliverReported dataWith
-  its-making h = by-fields 140 r h agrees ∙ rw (data-held (p .ud))
+  making : deliverReporting (deliverReported x) ≡ checked (checksWithin 140 true x) (octetsOf 0 x)
+  unfolding deliverReported dataWith reportMaking
+  making = by-fields 140 (deliverReported x) (le-leb (length (x .parameters .ud)) 255 (h .few)) (h .agrees) ∙ rw (data-held (x .parameters .ud), none (x .scts) (h .time-size))
 
-  -- indicator and parameters stand after the fields of first octet and cause
-  module _ (front cs : List Field) (j : joined front ≡ flag udhi 64 ∷ octetsHeld cause) (n : anyPastLimit front ≡ false) (h : Held pi p cs) where
-    abbrev fields : List Field
-    fields = front ++ (standsAs indicator (pi ∷ []) ∷ cs)
+-- ---- demand 3, and what the writer makes of a record that was read, whatever the buffer
 
-    octets-are : octetsIn udhi cause pi p ≡ joined fields
-    octets-are = rw (joined-append, j, ← h .octets)
+pub ack-demand3 : Demand3 cleared (layoutOf RpAck) deliverReporting false
+ack-demand3 = made.ack-demand3 0 false deliverReported cleared deliverReporting written held making
 
-    limits-are : anyPastLimit fields ≡ (isSet 7 pi || anyPastLimit cs)
-    limits-are = rw (past-append, n)
+pub ack-answers : (s : List ℕ) → Octets s → (r : SmsDeliverReport) (n : ℕ) → read (layoutOf RpAck) s ≡ reached r n → Answers (deliverReporting r) (canonicalOf (layoutOf RpAck) s) (unwritable (layoutOf RpAck) false s)
+ack-answers = made.ack-answers 0 false deliverReported cleared deliverReporting written held making
 
-    written : Canonical r fields
-    unfolding making
-    written = record {
-      octets = octets-held ∙ octets-are;
-      answer = rw (its-making (h .few), limits-are, ← octets-are) (answers (h .agrees) (h .limit) (octetsIn udhi cause pi p));
-    }
-
--- ---- the two layouts
-
-after-cause-makes : (outcome : RpOutcome) (udhi : Bool) (cause : OptionalOctet) → outcomeAgrees outcome cause ≡ true → (front : List Field) → joined front ≡ flag udhi 64 ∷ octetsHeld cause → anyPastLimit front ≡ false → Makes (λ r cs. Canonical r (front ++ cs)) (afterCause outcome udhi cause)
-after-cause-makes outcome udhi cause agrees front j n pi low =
-    makes-then (Held pi) _ (parameters pi) _ (parameters-make pi) λ p cs h. rw append-nil (written outcome udhi cause agrees pi p front cs j n h)
-
-ack-makes : Makes Canonical (format RpAck)
-unfolding format
-ack-makes x low m = after-cause-makes RpAck _ Absent refl (standsAs (first bits) (kept bits x ∷ []) ∷ []) (ap (λ (n : ℕ). n ∷ []) (first-is x (eqb-true _ 0 m))) refl
-
-error-makes : Makes Canonical (format RpError)
-unfolding format
-error-makes x low m cause small =
-    after-cause-makes RpError _ (Present cause) refl (standsAs (first bits) (kept bits x ∷ []) ∷ standsAs octet (cause ∷ []) ∷ []) (ap (λ (n : ℕ). n ∷ cause ∷ []) (first-is x (eqb-true _ 0 m))) refl
-
--- ---- demand 3
-
-pub ack-demand3 : Demand3 cleared ack deliverReporting false
-ack-demand3 = demand3 cleared deliverReporting octetsOf (format RpAck) ack-makes
-
--- the octets of the stopped RP-ERROR
+-- the octets of the stopped RP-ERROR are a string of the layout, which gives its record
 abbrev stands : List ℕ
 stands = 0x00 ∷ 0xff ∷ 0x00 ∷ []
 
--- they are a string of the layout, which gives its record
-stands-in-format : (readFrom (format RpError) stands 0 ≡ reached stopped 3) × (joined (fieldsOf (format RpError) stands) ≡ stands) × (anyPastLimit (fieldsOf (format RpError) stands) ≡ false)
+abbrev formatOf : Format SmsDeliverReport
+formatOf = format 0 false RpError then λ x. done (deliverReported x)
+
+stands-in-format : (readFrom formatOf stands 0 ≡ reached stopped 3) × (joined (fieldsOf formatOf stands) ≡ stands) × (anyPastLimit (fieldsOf formatOf stands) ≡ false)
 unfolding format readFrom reading after fieldsOf parameters kept indicatorSize
 stands-in-format = (refl, refl, refl)
 
@@ -137,16 +90,19 @@ unfolding each
 are-octets = octets-tested stands refl
 
 -- so it is beside the layout's records, and is written
-stands-beside : Stopped cleared deliverReporting (format RpError) stands stopped false
-stands-beside = let (e, j, n) = stands-in-format in rw n at (stopped-in-format cleared deliverReporting octetsOf (format RpError) error-makes stands stopped are-octets e j)
+beside : Stopped cleared deliverReporting formatOf stands stopped false
+beside =
+    let (e, j, n) = stands-in-format in
+    rw n at (stopped-in-format cleared deliverReporting written formatOf (made.records-make 0 false deliverReported cleared deliverReporting written held making RpError) stands stopped are-octets e j)
 
-pub error-demand3 : Demand3 cleared error deliverReporting false
-error-demand3 = demand3-stopping cleared deliverReporting octetsOf (format RpError) error-makes 0 stands stopped false stands-beside
+pub error-demand3 : Demand3 cleared (layoutOf RpError) deliverReporting false
+error-demand3 = made.error-demand3 0 false deliverReported cleared deliverReporting written held making false beside
 
--- ---- what the writer makes of a record that was read, whatever the buffer
+pub error-answers : (s : List ℕ) → Octets s → (r : SmsDeliverReport) (n : ℕ) → read (layoutOf RpError) s ≡ reached r n → Answers (deliverReporting r) (canonicalOf (layoutOf RpError) s) (unwritable (layoutOf RpError) false s)
+error-answers = made.error-answers 0 false deliverReported cleared deliverReporting written held making false beside
 
-pub ack-answers : (s : List ℕ) → Octets s → (r : SmsDeliverReport) (n : ℕ) → read ack s ≡ reached r n → Answers (deliverReporting r) (canonicalOf ack s) (unwritable ack false s)
-ack-answers = answers-plain cleared deliverReporting octetsOf (format RpAck) ack-makes
+-- ---- the outcome is that of the entry point
 
-pub error-answers : (s : List ℕ) → Octets s → (r : SmsDeliverReport) (n : ℕ) → read error s ≡ reached r n → Answers (deliverReporting r) (canonicalOf error s) (unwritable error false s)
-error-answers = answers-stopping cleared deliverReporting octetsOf (format RpError) error-makes 0 stands stopped false stands-beside
+pub outcome-read : (outcome : RpOutcome) → OneOutcome cleared (λ r. r .«rp_outcome») withOutcome (layoutOf outcome) outcome
+unfolding deliverReported
+outcome-read outcome = one-outcome cleared (λ r. r .«rp_outcome») withOutcome (λ r. refl) (λ r. refl) (λ o p r. refl) deliverReported (λ x. refl) 0 false outcome

@@ -3,57 +3,56 @@ use Prim.Native.Nat.{ℕ}
 use mathlib.Core.Path.{_≡_, refl}
 use mathlib.Core.Bool.{Bool, true, false}
 use mathlib.Core.List.{List, [], _∷_}
-use lib.Dec.{ltb}
 use Rattle.octets.specs.Answers.{Said, outcomeSays, refuses, fine}
-use Rattle.octets.specs.Checks.{_unless_, found, checked}
-use Rattle.octets.specs.Choice.{if_then_else_}
-use Rattle.octets.specs.Lent.{Making, refused}
+use Rattle.octets.specs.Checks.{_unless_, found, checked, allFit}
+use Rattle.octets.specs.Lent.{Making}
 use Rattle.octets.specs.declared.Refusal.the-variants.{LengthTooLarge, OctetsEnd, WrongMessageType, UserDataTooLong, OutcomeDisagrees}
-use Rattle.coding.specs.Coding.{codingOf, characterSet, dataOctets, dataOf, clearedData, TypedData}
-use Rattle.layout.specs.Layout.{indicatorSize, kept, Layout, plain, stopping, stops, reached, halted, after, reading, readFrom, read, fieldsOf, canonicalOf}
+use Rattle.coding.specs.Coding.{codingOf, characterSet, dataOctets, dataWith, dataOf, clearedData, TypedData}
+use Rattle.coding.specs.declared.UserData.{UserData}
+use Rattle.layout.specs.Layout.{indicatorSize, kept, Layout, records, stops, reached, halted, after, reading, readFrom, read, fieldsOf, canonicalOf}
 use Rattle.parameters.specs.Checking.{dataWithin}
 use Rattle.parameters.specs.Layout.{parameters}
 use Rattle.parameters.specs.Outcome.{outcomeAgrees}
-use Rattle.parameters.specs.Parameters.{Parameters, noParameters}
+use Rattle.parameters.specs.Parameters.{noParameters}
 use Rattle.parameters.specs.declared.OptionalOctet.{OptionalOctet}
 use Rattle.parameters.specs.declared.OptionalOctet.the-variants.{Absent, Present}
 use Rattle.parameters.specs.declared.RpOutcome.{RpOutcome}
 use Rattle.parameters.specs.declared.RpOutcome.the-variants.{RpAck, RpError}
-use Rattle.deliver_report.specs.Layout.{deliverReported, format}
-use Rattle.deliver_report.specs.Writing.{octetsIn, checksWithin}
+use Rattle.report.specs.Report.{Fields, format, blank as blankFields, stopped as stoppedFields, layoutOf as reportLayout, octetsOf, checksWithin}
 use Rattle.deliver_report.specs.declared.SmsDeliverReport.{SmsDeliverReport}
 use Rattle.deliver_report.specs.declared.DeliverReportRead.{DeliverReportRead}
 
 -- ---- reading
 
--- an outcome, a cause or none, and nothing else: every number 0, UDHI off, no parameters
-abbrev pub causeAlone : RpOutcome → OptionalOctet → SmsDeliverReport
-causeAlone outcome cause = deliverReported outcome false cause 0 noParameters
+-- the record of a report's fields: it has no time
+unfoldable pub deliverReported : Fields → SmsDeliverReport
+deliverReported x = record {
+  «tp_udhi» = x .udhi;
+  «tp_failure_cause» = x .cause;
+  «tp_parameter_indicator» = x .indicator;
+  «tp_pid» = x .parameters .pid;
+  «tp_dcs» = x .parameters .dcs;
+  «tp_user_data_length» = x .parameters .udl;
+  «tp_user_data» = dataWith (x .parameters .ud);
+  «rp_outcome» = x .outcome;
+}
 
--- the blank record, whatever the entry point: RP-ACK, and no cause either
+-- the blank record, whatever the entry point; and the stopped RP-ERROR
 abbrev pub blank : SmsDeliverReport
-blank = causeAlone RpAck Absent
+blank = deliverReported blankFields
 
--- the stopped RP-ERROR: UDHI 0, cause FF, indicator 0, nothing else
 abbrev pub stopped : SmsDeliverReport
-stopped = causeAlone RpError (Present 0xff)
+stopped = deliverReported stoppedFields
 
--- the layouts in an RP-ACK and in an RP-ERROR
-abbrev pub ack : Layout SmsDeliverReport
-ack = plain (format RpAck)
-
-abbrev pub error : Layout SmsDeliverReport
-error = stopping 0 (0x00 ∷ 0xff ∷ 0x00 ∷ []) stopped (format RpError)
-
--- the layout of an outcome
+-- the layout of an outcome (TS 23.040 §9.2.2.1a): MTI 0, and no time
 abbrev pub layoutOf : RpOutcome → Layout SmsDeliverReport
-layoutOf RpAck = ack
-layoutOf RpError = error
+layoutOf outcome = records deliverReported (reportLayout 0 false outcome)
 
 -- the stopped RP-ERROR 04 gives the record of 00 FF 00; an RP-ACK with UDHI, an extended indicator 85, PID 11 and two septets
-known-reports : (read error (0x04 ∷ []) ≡ reached stopped 1) × (read error (0x00 ∷ 0xff ∷ 0x00 ∷ []) ≡ reached stopped 3) × (read ack (0x01 ∷ 0x00 ∷ []) ≡ halted WrongMessageType) × (read ack (0x00 ∷ []) ≡ halted OctetsEnd)
-    × (read ack (0x40 ∷ 0x85 ∷ 0x00 ∷ 0x11 ∷ 0x02 ∷ 0x41 ∷ 0x21 ∷ []) ≡ reached (deliverReported RpAck true Absent 0x85 (record { pid = Present 0x11; dcs = Absent; udl = Present 2; ud = 0x41 ∷ 0x21 ∷ [] })) 7)
-    × (canonicalOf ack (0x40 ∷ 0x85 ∷ 0x00 ∷ 0x11 ∷ 0x02 ∷ 0x41 ∷ 0x21 ∷ []) ≡ 0x40 ∷ 0x85 ∷ 0x11 ∷ 0x02 ∷ 0x41 ∷ 0x21 ∷ [])
+known-reports : (read (layoutOf RpError) (0x04 ∷ []) ≡ reached stopped 1) × (read (layoutOf RpError) (0x00 ∷ 0xff ∷ 0x00 ∷ []) ≡ reached stopped 3) × (read (layoutOf RpAck) (0x01 ∷ 0x00 ∷ []) ≡ halted WrongMessageType) × (read (layoutOf RpAck) (0x00 ∷ []) ≡ halted OctetsEnd)
+    × (read (layoutOf RpAck) (0x40 ∷ 0x85 ∷ 0x00 ∷ 0x11 ∷ 0x02 ∷ 0x41 ∷ 0x21 ∷ [])
+    ≡ reached (deliverReported (record { outcome = RpAck; udhi = true; cause = Absent; indicator = 0x85; scts = []; parameters = record { pid = Present 0x11; dcs = Absent; udl = Present 2; ud = 0x41 ∷ 0x21 ∷ [] } })) 7)
+    × (canonicalOf (layoutOf RpAck) (0x40 ∷ 0x85 ∷ 0x00 ∷ 0x11 ∷ 0x02 ∷ 0x41 ∷ 0x21 ∷ []) ≡ 0x40 ∷ 0x85 ∷ 0x11 ∷ 0x02 ∷ 0x41 ∷ 0x21 ∷ [])
 unfolding format read readFrom reading after stops canonicalOf fieldsOf parameters kept indicatorSize codingOf characterSet dataOctets
 known-reports = (refl, refl, refl, refl, refl, refl)
 
@@ -61,28 +60,29 @@ known-reports = (refl, refl, refl, refl, refl, refl)
 abbrev pub deliverReportReadSays : DeliverReportRead → (Said Unit × SmsDeliverReport) × ℕ
 deliverReportReadSays r = ((outcomeSays (r .outcome), r .message), r .«replaced_escapes»)
 
--- what is read as text in a string: nothing. User data stay octets
-abbrev pub textsRead : List ℕ → SmsDeliverReport → List (List ℕ)
-textsRead s r = []
-
 -- ---- writing
 
--- the parameters of a record
-abbrev pub parametersOf : SmsDeliverReport → Parameters
-parametersOf r = record { pid = r .«tp_pid»; dcs = r .«tp_dcs»; udl = r .«tp_user_data_length»; ud = dataOf (r .«tp_user_data») }
+-- the fields of a record
+abbrev pub fieldsIn : SmsDeliverReport → Fields
+fieldsIn r = record {
+  outcome = r .«rp_outcome»;
+  udhi = r .«tp_udhi»;
+  cause = r .«tp_failure_cause»;
+  indicator = r .«tp_parameter_indicator»;
+  scts = [];
+  parameters = record { pid = r .«tp_pid»; dcs = r .«tp_dcs»; udl = r .«tp_user_data_length»; ud = dataOf (r .«tp_user_data») };
+}
 
--- the length of the record's user data passes their array
-abbrev pub tooLong : SmsDeliverReport → Bool
-tooLong r = ltb 255 (r .«tp_user_data» .length)
+-- its lengths, each with the size of its array
+abbrev pub lengthsOf : SmsDeliverReport → List (ℕ × ℕ)
+lengthsOf r = (r .«tp_user_data» .length, 255) ∷ []
 
--- what a writer makes of a record within a limit of user data: 1; 29; then the checks of its fields
+-- what a writer makes of a record within a limit of user data: 1; 29; 13 and 14; 7, 8 and 15
 unfoldable pub deliverReportingWithin : ℕ → SmsDeliverReport → Making (Said ℕ)
 deliverReportingWithin limit r =
-    if tooLong r then refused LengthTooLarge
-    else
     checked
-    ((OutcomeDisagrees unless outcomeAgrees (r .«rp_outcome») (r .«tp_failure_cause»)) ∷ checksWithin limit (r .«tp_parameter_indicator») (parametersOf r))
-    (octetsIn (r .«tp_udhi») (r .«tp_failure_cause») (r .«tp_parameter_indicator») (parametersOf r))
+    ((LengthTooLarge unless allFit (lengthsOf r)) ∷ (OutcomeDisagrees unless outcomeAgrees (r .«rp_outcome») (r .«tp_failure_cause»)) ∷ checksWithin limit true (fieldsIn r))
+    (octetsOf 0 (fieldsIn r))
 
 -- the ported writer: within 140
 abbrev pub deliverReporting : SmsDeliverReport → Making (Said ℕ)
@@ -105,35 +105,26 @@ known-limits = (refl, refl, refl, refl)
 
 -- ---- what is no part of a record
 
--- what lies after the user data's length set to zero: records are equal where these are
-abbrev pub cleared : SmsDeliverReport → SmsDeliverReport
-cleared r = record {
+-- the same record with user data changed, and with an outcome
+abbrev pub changed : (UserData → UserData) → RpOutcome → SmsDeliverReport → SmsDeliverReport
+changed userData outcome r = record {
   «tp_udhi» = r .«tp_udhi»;
   «tp_failure_cause» = r .«tp_failure_cause»;
   «tp_parameter_indicator» = r .«tp_parameter_indicator»;
   «tp_pid» = r .«tp_pid»;
   «tp_dcs» = r .«tp_dcs»;
   «tp_user_data_length» = r .«tp_user_data_length»;
-  «tp_user_data» = clearedData (r .«tp_user_data»);
-  «rp_outcome» = r .«rp_outcome»;
-}
-
--- the same record with an outcome: two records are equal without theirs where these are
-abbrev pub withOutcome : RpOutcome → SmsDeliverReport → SmsDeliverReport
-withOutcome outcome r = record {
-  «tp_udhi» = r .«tp_udhi»;
-  «tp_failure_cause» = r .«tp_failure_cause»;
-  «tp_parameter_indicator» = r .«tp_parameter_indicator»;
-  «tp_pid» = r .«tp_pid»;
-  «tp_dcs» = r .«tp_dcs»;
-  «tp_user_data_length» = r .«tp_user_data_length»;
-  «tp_user_data» = r .«tp_user_data»;
+  «tp_user_data» = userData (r .«tp_user_data»);
   «rp_outcome» = outcome;
 }
 
--- it has no time, and so no letters that reading makes capital
-abbrev pub capitalised : SmsDeliverReport → SmsDeliverReport
-capitalised r = r
+-- what lies after the user data's length set to zero: records are equal where these are
+abbrev pub cleared : SmsDeliverReport → SmsDeliverReport
+cleared r = changed clearedData (r .«rp_outcome») r
+
+-- two records are equal without their outcomes where they are with another's
+abbrev pub withOutcome : RpOutcome → SmsDeliverReport → SmsDeliverReport
+withOutcome = changed (λ d. d)
 
 -- the array has the length of its type
 abbrev pub Typed : SmsDeliverReport → Type 0

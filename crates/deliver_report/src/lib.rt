@@ -1,30 +1,19 @@
 // SMS-DELIVER-REPORT (TS 23.040 §9.2.2.1a), the acknowledgement of an SMS-DELIVER or SMS-STATUS-REPORT.
-pub mod writing;
-
 ghost use mathlib.Core.Path.{_≡_};
-ghost use Prim.Native.Nat.{_-_, _≤_};
-ghost use lib.ListN.{length, take, drop};
 ghost use Rattle.octets.specs.Answers.{refuses, writtenSays};
 ghost use Rattle.octets.specs.Lent.{lend};
-ghost use Rattle.layout.specs.Layout.{read, readFrom, answer, replacedOf};
-ghost use Rattle.deliver_report.specs.Layout.{deliverReported};
-ghost use Rattle.deliver_report.specs.Internal.{afterCause};
-ghost use Rattle.deliver_report.specs.DeliverReport.{causeAlone, blank as blankReport, stopped as stoppedReport, ack, error, deliverReportReadSays, textsRead, standardLimit, deliverReportingWithin, deliverReporting, deliverReportingToStandard};
+ghost use Rattle.layout.specs.Layout.{read, answer, replacedOf};
+ghost use Rattle.parameters.specs.declared.RpOutcome.the-variants.{RpAck, RpError};
+ghost use Rattle.report.specs.Report.{textsRead};
+ghost use Rattle.deliver_report.specs.DeliverReport.{blank as blankReport, layoutOf, deliverReportReadSays, standardLimit, deliverReportingWithin, deliverReporting, deliverReportingToStandard};
 use coding::UserData;
-use octets::Octet;
+use layout::MTI_DELIVER;
 use octets::Outcome;
-use octets::Place;
 use octets::Refusal;
 use octets::Written;
 use parameters::OptionalOctet;
 use parameters::RpOutcome;
-use parameters::reading::ParametersRead;
 
-const MTI_DELIVER: u8 = 0;
-// Bits 7 and 5-2 of the first octet of a report, which are unused.
-const REPORT_UNUSED_BITS: u8 = 0xBC;
-// TP-FCS "Unspecified error cause" (TS 23.040 §9.2.3.22).
-const FAILURE_CAUSE_UNSPECIFIED: u8 = 0xFF;
 // The octets of user data in the standard's tables of a report in an RP-ACK and in an RP-ERROR (TS 23.040 §9.2.2.1a).
 const RP_ACK_USER_DATA_OCTETS: usize = 159;
 
@@ -48,114 +37,32 @@ pub struct DeliverReportRead {
     pub replaced_escapes: usize,
 }
 
-// A report with an outcome, a cause or none, and nothing else.
-fn cause_alone(outcome: Outcome, rp_outcome: RpOutcome, cause: OptionalOctet) -> DeliverReportRead
-    ensures { λ r. ⌜ r ≡ record { outcome = outcome; message = causeAlone «rp_outcome» cause; «replaced_escapes» = 0 } ⌝ }
+// The report that a string is, read as one of this outcome.
+fn decode(data: &[u8], rp_outcome: RpOutcome) -> DeliverReportRead
+    ensures { λ r. ⌜ deliverReportReadSays r ≡ (answer blankReport (read (layoutOf «rp_outcome») (now («data» .entry))), replacedOf (textsRead (now («data» .entry))) (read (layoutOf «rp_outcome») (now («data» .entry)))) ⌝ }
 {
+    let f = report::reading::fields_of(data, MTI_DELIVER, false, rp_outcome);
+    let outcome = f.outcome;
+    let cause = f.cause;
+    let pid = f.pid;
+    let dcs = f.dcs;
+    let udl = f.udl;
+    let carried_in = f.rp_outcome;
+    let start = f.data;
     DeliverReportRead {
         outcome,
         message: SmsDeliverReport {
-            tp_udhi: false,
+            tp_udhi: f.udhi,
             tp_failure_cause: cause,
-            tp_parameter_indicator: 0,
-            tp_pid: OptionalOctet::Absent,
-            tp_dcs: OptionalOctet::Absent,
-            tp_user_data_length: OptionalOctet::Absent,
-            tp_user_data: coding::no_data(),
-            rp_outcome,
-        },
-        replaced_escapes: 0,
-    }
-}
-
-// A refusal, with the blank report, which holds RP-ACK whatever the entry point.
-fn refused(why: Refusal) -> DeliverReportRead
-    ensures { λ r. ⌜ r ≡ record { outcome = Outcome.Refused why; message = blankReport; «replaced_escapes» = 0 } ⌝ }
-{
-    cause_alone(
-        Outcome::Refused(why),
-        RpOutcome::RpAck,
-        OptionalOctet::Absent,
-    )
-}
-
-// A report that is read no further: its cause is unspecified.
-fn stopped() -> DeliverReportRead
-    ensures { λ r. ⌜ r ≡ record { outcome = Outcome.Done; message = stoppedReport; «replaced_escapes» = 0 } ⌝ }
-{
-    cause_alone(
-        Outcome::Done,
-        RpOutcome::RpError,
-        OptionalOctet::Present(FAILURE_CAUSE_UNSPECIFIED),
-    )
-}
-
-// The report of fields that are there: UDHI, cause, indicator, PID, DCS, UDL, and the n octets of user data before `end`;
-// with the outcome of the entry point.
-fn report(
-    rp_outcome: RpOutcome,
-    udhi: bool,
-    cause: OptionalOctet,
-    indicator: u8,
-    data: &[u8],
-    pid: OptionalOctet,
-    dcs: OptionalOctet,
-    udl: OptionalOctet,
-    n: usize,
-    end: usize,
-) -> DeliverReportRead
-    requires { ⌜ (n ≤ end) × (end ≤ length (now «data»)) × (n ≤ 255) ⌝ }
-    ensures { λ r. ⌜ r ≡ record { outcome = Outcome.Done; message = deliverReported «rp_outcome» udhi cause indicator (record { pid = pid; dcs = dcs; udl = udl; ud = take n (drop (end - n) (now («data» .entry))) }); «replaced_escapes» = 0 } ⌝ }
-{
-    let start = end - n;
-    DeliverReportRead {
-        outcome: Outcome::Done,
-        message: SmsDeliverReport {
-            tp_udhi: udhi,
-            tp_failure_cause: cause,
-            tp_parameter_indicator: indicator,
+            tp_parameter_indicator: f.indicator,
             tp_pid: pid,
             tp_dcs: dcs,
             tp_user_data_length: udl,
-            tp_user_data: coding::data_with(&data[start..end]),
-            rp_outcome,
+            tp_user_data: coding::data_with(&data[start..start + f.octets]),
+            rp_outcome: carried_in,
         },
         replaced_escapes: 0,
     }
-}
-
-// What follows first octet and cause.
-fn after_cause(
-    data: &[u8],
-    place: Place,
-    rp_outcome: RpOutcome,
-    udhi: bool,
-    cause: OptionalOctet,
-) -> DeliverReportRead
-    ensures { λ r. ⌜ deliverReportReadSays r ≡ (answer blankReport (readFrom (afterCause «rp_outcome» udhi cause) (now («data» .entry)) (place .at)), replacedOf (textsRead (now («data» .entry))) (readFrom (afterCause «rp_outcome» udhi cause) (now («data» .entry)) (place .at))) ⌝ }
-{
-    let Octet::Read(indicator, place2) = parameters::reading::read_indicator(data, place) else {
-        return refused(Refusal::OctetsEnd);
-    };
-    let ParametersRead::Read(pid, dcs, udl, n, end) = parameters::reading::read_parameters(
-        data,
-        place2,
-        indicator,
-    ) else {
-        return refused(Refusal::OctetsEnd);
-    };
-    report(
-        rp_outcome,
-        udhi,
-        cause,
-        indicator,
-        data,
-        pid,
-        dcs,
-        udl,
-        n,
-        end.at,
-    )
 }
 
 // The standard's limit of user data: a cause held means RP-ERROR.
@@ -171,49 +78,17 @@ fn standard_limit(cause: OptionalOctet) -> usize
 impl SmsDeliverReport {
     // The layout carried in an RP-ACK (no TP-Failure-Cause).
     pub fn decode_for_rp_ack(data: &[u8]) -> DeliverReportRead
-        ensures { λ r. ⌜ deliverReportReadSays r ≡ (answer blankReport (read ack (now («data» .entry))), replacedOf (textsRead (now («data» .entry))) (read ack (now («data» .entry)))) ⌝ }
+        ensures { λ r. ⌜ deliverReportReadSays r ≡ (answer blankReport (read (layoutOf RpAck) (now («data» .entry))), replacedOf (textsRead (now («data» .entry))) (read (layoutOf RpAck) (now («data» .entry)))) ⌝ }
     {
-        let start = Place { at: 0 };
-        let Octet::Read(first, place) = start.octet(data) else {
-            return refused(Refusal::OctetsEnd);
-        };
-        if first % 4 != MTI_DELIVER {
-            return refused(Refusal::WrongMessageType);
-        }
-        after_cause(
-            data,
-            place,
-            RpOutcome::RpAck,
-            first / 64 % 2 == 1,
-            OptionalOctet::Absent,
-        )
+        decode(data, RpOutcome::RpAck)
     }
 
     // The layout carried in an RP-ERROR (TP-Failure-Cause present). Where an unused bit of the first octet is set the
     // rest is not examined, and the cause reads as "Unspecified error cause".
     pub fn decode_for_rp_error(data: &[u8]) -> DeliverReportRead
-        ensures { λ r. ⌜ deliverReportReadSays r ≡ (answer blankReport (read error (now («data» .entry))), replacedOf (textsRead (now («data» .entry))) (read error (now («data» .entry)))) ⌝ }
+        ensures { λ r. ⌜ deliverReportReadSays r ≡ (answer blankReport (read (layoutOf RpError) (now («data» .entry))), replacedOf (textsRead (now («data» .entry))) (read (layoutOf RpError) (now («data» .entry)))) ⌝ }
     {
-        let start = Place { at: 0 };
-        let Octet::Read(first, place) = start.octet(data) else {
-            return refused(Refusal::OctetsEnd);
-        };
-        if first % 4 != MTI_DELIVER {
-            return refused(Refusal::WrongMessageType);
-        }
-        if first & REPORT_UNUSED_BITS != 0 {
-            return stopped();
-        }
-        let Octet::Read(cause, next) = place.octet(data) else {
-            return refused(Refusal::OctetsEnd);
-        };
-        after_cause(
-            data,
-            next,
-            RpOutcome::RpError,
-            first / 64 % 2 == 1,
-            OptionalOctet::Present(cause),
-        )
+        decode(data, RpOutcome::RpError)
     }
 
     // Writes the report to the start of a lent output, its user data within a limit.
@@ -221,7 +96,7 @@ impl SmsDeliverReport {
         ensures { λ r. ⌜ (writtenSays r, now (out .exit)) ≡ lend refuses (deliverReportingWithin limit self) (now (out .entry)) ⌝ }
     {
         let n = self.tp_user_data.length;
-        if 255 < n {
+        if !(n <= 255) {
             return Written::Refused(Refusal::LengthTooLarge);
         }
         let outcome = self.rp_outcome;
@@ -233,11 +108,14 @@ impl SmsDeliverReport {
         let pid = self.tp_pid;
         let dcs = self.tp_dcs;
         let udl = self.tp_user_data_length;
-        writing::encode_fields(
+        report::writing::encode_fields(
             limit,
+            MTI_DELIVER,
             self.tp_udhi,
             cause,
             self.tp_parameter_indicator,
+            false,
+            b"",
             pid,
             dcs,
             udl,

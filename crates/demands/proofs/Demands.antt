@@ -26,16 +26,16 @@ use Rattle.submit_report.specs.SubmitReport as SubmitReport
 use Rattle.submit_report.specs.declared.SmsSubmitReport.{SmsSubmitReport}
 use Rattle.submit_report.proofs.Demand.{ack-demand3 as submit-ack, error-demand3 as submit-error}
 use Rattle.submit_report.proofs.Limits.{submit-report-limits}
-use Rattle.submit_report.proofs.EntryPoint.{ack-outcome as submit-ack-outcome, error-outcome as submit-error-outcome}
+use Rattle.submit_report.proofs.Demand.{outcome-read as submit-outcome}
 use Rattle.deliver_report.specs.DeliverReport as DeliverReport
 use Rattle.deliver_report.specs.declared.SmsDeliverReport.{SmsDeliverReport}
 use Rattle.deliver_report.proofs.Demand.{ack-demand3 as deliver-ack, error-demand3 as deliver-error}
 use Rattle.deliver_report.proofs.Limits.{deliver-report-limits}
-use Rattle.deliver_report.proofs.EntryPoint.{ack-outcome as deliver-ack-outcome, error-outcome as deliver-error-outcome}
+use Rattle.deliver_report.proofs.Demand.{outcome-read as deliver-outcome}
 use Rattle.status_report.specs.StatusReport as StatusReport
 use Rattle.status_report.proofs.Demand.{status-report-demand3}
 use Rattle.status_report.proofs.Limits.{status-report-limits}
-use Rattle.demands.specs.Cuts.{submitReportOf, deliverReportOf, cutAfterStatus, withoutIndicator}
+use Rattle.demands.specs.Cuts.{cutAfterStatus, withoutIndicator}
 use Rattle.demands.proofs.SubmitBack.{submit-demand2, submit-ends, submit-counts}
 use Rattle.demands.proofs.DeliverBack.{deliver-demand2, deliver-ends, deliver-counts}
 use Rattle.demands.proofs.SubmitReportBack.{submit-report-demand2, submit-report-ends, submit-report-counts}
@@ -53,19 +53,19 @@ pub of-deliver : Demand3 Deliver.cleared Deliver.deliver Deliver.delivering fals
 of-deliver = deliver-demand3
 
 -- `SmsSubmitReport::decode_for_rp_ack`
-pub of-submit-report-ack : Demand3 SubmitReport.cleared SubmitReport.ack SubmitReport.submitReporting false
+pub of-submit-report-ack : Demand3 SubmitReport.cleared (SubmitReport.layoutOf RpAck) SubmitReport.submitReporting false
 of-submit-report-ack = submit-ack
 
 -- `SmsSubmitReport::decode_for_rp_error`
-pub of-submit-report-error : Demand3 SubmitReport.cleared SubmitReport.error SubmitReport.submitReporting true
+pub of-submit-report-error : Demand3 SubmitReport.cleared (SubmitReport.layoutOf RpError) SubmitReport.submitReporting true
 of-submit-report-error = submit-error
 
 -- `SmsDeliverReport::decode_for_rp_ack`
-pub of-deliver-report-ack : Demand3 DeliverReport.cleared DeliverReport.ack DeliverReport.deliverReporting false
+pub of-deliver-report-ack : Demand3 DeliverReport.cleared (DeliverReport.layoutOf RpAck) DeliverReport.deliverReporting false
 of-deliver-report-ack = deliver-ack
 
 -- `SmsDeliverReport::decode_for_rp_error`
-pub of-deliver-report-error : Demand3 DeliverReport.cleared DeliverReport.error DeliverReport.deliverReporting false
+pub of-deliver-report-error : Demand3 DeliverReport.cleared (DeliverReport.layoutOf RpError) DeliverReport.deliverReporting false
 of-deliver-report-error = deliver-error
 
 -- `SmsStatusReport::decode`
@@ -83,7 +83,7 @@ deliver-back = deliver-demand2
 pub submit-report-back : Demand2 SubmitReport.Typed SubmitReport.cleared SubmitReport.capitalised (λ r. SubmitReport.layoutOf (r .«rp_outcome»)) SubmitReport.submitReporting (λ r. fine) (λ r. false)
 submit-report-back = submit-report-demand2 (λ r. 140)
 
-pub deliver-report-back : Demand2 DeliverReport.Typed DeliverReport.cleared DeliverReport.capitalised (λ r. DeliverReport.layoutOf (r .«rp_outcome»)) DeliverReport.deliverReporting (λ r. fine) (λ r. false)
+pub deliver-report-back : Demand2 DeliverReport.Typed DeliverReport.cleared (λ r. r) (λ r. DeliverReport.layoutOf (r .«rp_outcome»)) DeliverReport.deliverReporting (λ r. fine) (λ r. false)
 deliver-report-back = deliver-report-demand2 (λ r. 140)
 
 pub status-report-back : Demand2 StatusReport.Typed StatusReport.cleared StatusReport.capitalised (λ r. StatusReport.statusReport) StatusReport.statusReporting (λ r. fine) (λ r. false)
@@ -97,16 +97,16 @@ submit-answers3 = answers3 _ _ _ _ _ of-submit
 pub deliver-answers3 : Answers3 Deliver.cleared Deliver.blank Deliver.deliver Deliver.delivering false
 deliver-answers3 = answers3 _ _ _ _ _ of-deliver
 
-pub submit-report-ack-answers3 : Answers3 SubmitReport.cleared SubmitReport.blank SubmitReport.ack SubmitReport.submitReporting false
+pub submit-report-ack-answers3 : Answers3 SubmitReport.cleared SubmitReport.blank (SubmitReport.layoutOf RpAck) SubmitReport.submitReporting false
 submit-report-ack-answers3 = answers3 _ _ _ _ _ of-submit-report-ack
 
-pub submit-report-error-answers3 : Answers3 SubmitReport.cleared SubmitReport.blank SubmitReport.error SubmitReport.submitReporting true
+pub submit-report-error-answers3 : Answers3 SubmitReport.cleared SubmitReport.blank (SubmitReport.layoutOf RpError) SubmitReport.submitReporting true
 submit-report-error-answers3 = answers3 _ _ _ _ _ of-submit-report-error
 
-pub deliver-report-ack-answers3 : Answers3 DeliverReport.cleared DeliverReport.blank DeliverReport.ack DeliverReport.deliverReporting false
+pub deliver-report-ack-answers3 : Answers3 DeliverReport.cleared DeliverReport.blank (DeliverReport.layoutOf RpAck) DeliverReport.deliverReporting false
 deliver-report-ack-answers3 = answers3 _ _ _ _ _ of-deliver-report-ack
 
-pub deliver-report-error-answers3 : Answers3 DeliverReport.cleared DeliverReport.blank DeliverReport.error DeliverReport.deliverReporting false
+pub deliver-report-error-answers3 : Answers3 DeliverReport.cleared DeliverReport.blank (DeliverReport.layoutOf RpError) DeliverReport.deliverReporting false
 deliver-report-error-answers3 = answers3 _ _ _ _ _ of-deliver-report-error
 
 pub status-report-answers3 : Answers3 StatusReport.cleared StatusReport.blank StatusReport.statusReport StatusReport.statusReporting false
@@ -121,7 +121,7 @@ deliver-answers2 = answers2 _ _ _ _ _ _ _ _ deliver-back deliver-counts
 pub submit-report-answers2 : Answers2 SubmitReport.Typed SubmitReport.cleared SubmitReport.capitalised SubmitReport.blank (λ r. SubmitReport.layoutOf (r .«rp_outcome»)) SubmitReport.submitReporting (λ r. fine)
 submit-report-answers2 = answers2 _ _ _ _ _ _ _ _ submit-report-back (submit-report-counts (λ r. 140))
 
-pub deliver-report-answers2 : Answers2 DeliverReport.Typed DeliverReport.cleared DeliverReport.capitalised DeliverReport.blank (λ r. DeliverReport.layoutOf (r .«rp_outcome»)) DeliverReport.deliverReporting (λ r. fine)
+pub deliver-report-answers2 : Answers2 DeliverReport.Typed DeliverReport.cleared (λ r. r) DeliverReport.blank (λ r. DeliverReport.layoutOf (r .«rp_outcome»)) DeliverReport.deliverReporting (λ r. fine)
 deliver-report-answers2 = answers2 _ _ _ _ _ _ _ _ deliver-report-back (deliver-report-counts (λ r. 140))
 
 pub status-report-answers2 : Answers2 StatusReport.Typed StatusReport.cleared StatusReport.capitalised StatusReport.blank (λ r. StatusReport.statusReport) StatusReport.statusReporting (λ r. fine)
@@ -132,7 +132,7 @@ status-report-answers2 = answers2 _ _ _ _ _ _ _ _ status-report-back (status-rep
 pub submit-report-standard-back : Demand2 SubmitReport.Typed SubmitReport.cleared SubmitReport.capitalised (λ r. SubmitReport.layoutOf (r .«rp_outcome»)) SubmitReport.submitReportingToStandard (λ r. fine) (λ r. false)
 submit-report-standard-back = submit-report-demand2 (λ r. SubmitReport.standardLimit (r .«tp_failure_cause»))
 
-pub deliver-report-standard-back : Demand2 DeliverReport.Typed DeliverReport.cleared DeliverReport.capitalised (λ r. DeliverReport.layoutOf (r .«rp_outcome»)) DeliverReport.deliverReportingToStandard (λ r. fine) (λ r. false)
+pub deliver-report-standard-back : Demand2 DeliverReport.Typed DeliverReport.cleared (λ r. r) (λ r. DeliverReport.layoutOf (r .«rp_outcome»)) DeliverReport.deliverReportingToStandard (λ r. fine) (λ r. false)
 deliver-report-standard-back = deliver-report-demand2 (λ r. DeliverReport.standardLimit (r .«tp_failure_cause»))
 
 pub status-report-standard-back : Demand2 StatusReport.Typed StatusReport.cleared StatusReport.capitalised (λ r. StatusReport.statusReport) StatusReport.statusReportingToStandard (λ r. fine) (λ r. false)
@@ -141,7 +141,7 @@ status-report-standard-back = status-report-demand2 StatusReport.standardLimit
 pub submit-report-standard-answers2 : Answers2 SubmitReport.Typed SubmitReport.cleared SubmitReport.capitalised SubmitReport.blank (λ r. SubmitReport.layoutOf (r .«rp_outcome»)) SubmitReport.submitReportingToStandard (λ r. fine)
 submit-report-standard-answers2 = answers2 _ _ _ _ _ _ _ _ submit-report-standard-back (submit-report-counts (λ r. SubmitReport.standardLimit (r .«tp_failure_cause»)))
 
-pub deliver-report-standard-answers2 : Answers2 DeliverReport.Typed DeliverReport.cleared DeliverReport.capitalised DeliverReport.blank (λ r. DeliverReport.layoutOf (r .«rp_outcome»)) DeliverReport.deliverReportingToStandard (λ r. fine)
+pub deliver-report-standard-answers2 : Answers2 DeliverReport.Typed DeliverReport.cleared (λ r. r) DeliverReport.blank (λ r. DeliverReport.layoutOf (r .«rp_outcome»)) DeliverReport.deliverReportingToStandard (λ r. fine)
 deliver-report-standard-answers2 = answers2 _ _ _ _ _ _ _ _ deliver-report-standard-back (deliver-report-counts (λ r. DeliverReport.standardLimit (r .«tp_failure_cause»)))
 
 pub status-report-standard-answers2 : Answers2 StatusReport.Typed StatusReport.cleared StatusReport.capitalised StatusReport.blank (λ r. StatusReport.statusReport) StatusReport.statusReportingToStandard (λ r. fine)
@@ -159,17 +159,17 @@ status-report-alike = status-report-limits
 
 -- ---- the outcome in both reports' records: that of the entry point, so that records of one reader are as equal or different as without it
 
-pub submit-report-ack-outcome : OneOutcome SubmitReport.cleared (λ r. r .«rp_outcome») SubmitReport.withOutcome SubmitReport.ack RpAck
-submit-report-ack-outcome = submit-ack-outcome
+pub submit-report-ack-outcome : OneOutcome SubmitReport.cleared (λ r. r .«rp_outcome») SubmitReport.withOutcome (SubmitReport.layoutOf RpAck) RpAck
+submit-report-ack-outcome = submit-outcome RpAck
 
-pub submit-report-error-outcome : OneOutcome SubmitReport.cleared (λ r. r .«rp_outcome») SubmitReport.withOutcome SubmitReport.error RpError
-submit-report-error-outcome = submit-error-outcome
+pub submit-report-error-outcome : OneOutcome SubmitReport.cleared (λ r. r .«rp_outcome») SubmitReport.withOutcome (SubmitReport.layoutOf RpError) RpError
+submit-report-error-outcome = submit-outcome RpError
 
-pub deliver-report-ack-outcome : OneOutcome DeliverReport.cleared (λ r. r .«rp_outcome») DeliverReport.withOutcome DeliverReport.ack RpAck
-deliver-report-ack-outcome = deliver-ack-outcome
+pub deliver-report-ack-outcome : OneOutcome DeliverReport.cleared (λ r. r .«rp_outcome») DeliverReport.withOutcome (DeliverReport.layoutOf RpAck) RpAck
+deliver-report-ack-outcome = deliver-outcome RpAck
 
-pub deliver-report-error-outcome : OneOutcome DeliverReport.cleared (λ r. r .«rp_outcome») DeliverReport.withOutcome DeliverReport.error RpError
-deliver-report-error-outcome = deliver-error-outcome
+pub deliver-report-error-outcome : OneOutcome DeliverReport.cleared (λ r. r .«rp_outcome») DeliverReport.withOutcome (DeliverReport.layoutOf RpError) RpError
+deliver-report-error-outcome = deliver-outcome RpError
 
 -- ---- cut messages, of the eight writers: a report's line is that of both its writers, whatever the limit of user data (140, or `standardLimit`)
 
@@ -179,10 +179,10 @@ submit-cut = submit-ends
 pub deliver-cut : Cut Deliver.Typed Deliver.cleared Deliver.capitalised (λ r. Deliver.deliver) Deliver.delivering (λ r. none) (λ r. r)
 deliver-cut = deliver-ends
 
-pub submit-report-cut : (limitOf : SmsSubmitReport → ℕ) → Cut SubmitReport.Typed SubmitReport.cleared SubmitReport.capitalised submitReportOf (λ r. SubmitReport.submitReportingWithin (limitOf r) r) (λ r. none) (λ r. r)
+pub submit-report-cut : (limitOf : SmsSubmitReport → ℕ) → Cut SubmitReport.Typed SubmitReport.cleared SubmitReport.capitalised (λ r. SubmitReport.layoutOf (r .«rp_outcome»)) (λ r. SubmitReport.submitReportingWithin (limitOf r) r) (λ r. none) (λ r. r)
 submit-report-cut = submit-report-ends
 
-pub deliver-report-cut : (limitOf : SmsDeliverReport → ℕ) → Cut DeliverReport.Typed DeliverReport.cleared DeliverReport.capitalised deliverReportOf (λ r. DeliverReport.deliverReportingWithin (limitOf r) r) (λ r. none) (λ r. r)
+pub deliver-report-cut : (limitOf : SmsDeliverReport → ℕ) → Cut DeliverReport.Typed DeliverReport.cleared (λ r. r) (λ r. DeliverReport.layoutOf (r .«rp_outcome»)) (λ r. DeliverReport.deliverReportingWithin (limitOf r) r) (λ r. none) (λ r. r)
 deliver-report-cut = deliver-report-ends
 
 pub status-report-cut : (limit : ℕ) → Cut StatusReport.Typed StatusReport.cleared StatusReport.capitalised (λ r. StatusReport.statusReport) (StatusReport.statusReportingWithin limit) cutAfterStatus withoutIndicator
@@ -197,11 +197,11 @@ pub deliver-answers-cut : AnswersCut Deliver.Typed Deliver.cleared Deliver.capit
 deliver-answers-cut = answers-cut _ _ _ _ _ _ _ _ deliver-cut deliver-counts
 
 pub submit-report-answers-cut : (limitOf : SmsSubmitReport → ℕ)
-    → AnswersCut SubmitReport.Typed SubmitReport.cleared SubmitReport.capitalised SubmitReport.blank submitReportOf (λ r. SubmitReport.submitReportingWithin (limitOf r) r) (λ r. none) (λ r. r)
+    → AnswersCut SubmitReport.Typed SubmitReport.cleared SubmitReport.capitalised SubmitReport.blank (λ r. SubmitReport.layoutOf (r .«rp_outcome»)) (λ r. SubmitReport.submitReportingWithin (limitOf r) r) (λ r. none) (λ r. r)
 submit-report-answers-cut limitOf = answers-cut _ _ _ _ _ _ _ _ (submit-report-cut limitOf) (submit-report-counts limitOf)
 
 pub deliver-report-answers-cut : (limitOf : SmsDeliverReport → ℕ)
-    → AnswersCut DeliverReport.Typed DeliverReport.cleared DeliverReport.capitalised DeliverReport.blank deliverReportOf (λ r. DeliverReport.deliverReportingWithin (limitOf r) r) (λ r. none) (λ r. r)
+    → AnswersCut DeliverReport.Typed DeliverReport.cleared (λ r. r) DeliverReport.blank (λ r. DeliverReport.layoutOf (r .«rp_outcome»)) (λ r. DeliverReport.deliverReportingWithin (limitOf r) r) (λ r. none) (λ r. r)
 deliver-report-answers-cut limitOf = answers-cut _ _ _ _ _ _ _ _ (deliver-report-cut limitOf) (deliver-report-counts limitOf)
 
 pub status-report-answers-cut : (limit : ℕ)

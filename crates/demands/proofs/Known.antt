@@ -18,7 +18,8 @@ use Rattle.address.specs.Writing.{digitCharacters, digitValue, isDigit, address
 use Rattle.address.specs.Address.{digitCharacter, withoutF, valueText, textIn, addressIn, addressWith, canonicalAddress, encoding}
 use Rattle.layout.specs.Layout.{read, readFrom, reading, after, stops, kept, indicatorSize}
 use Rattle.parameters.specs.Layout.{parameters}
-use Rattle.deliver_report.specs.Layout.{format, deliverReported}
+use Rattle.report.specs.Report.{format}
+use Rattle.deliver_report.specs.DeliverReport.{deliverReported}
 use Rattle.demands.specs.Rows.{Holds, All, none, _also_, rows}
 
 pub known : All rows

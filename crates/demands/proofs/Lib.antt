@@ -1,5 +1,6 @@
 pub mod Demands
 pub mod ParametersBack
+pub mod ReportBack
 pub mod DeliverBack
 pub mod DeliverReportBack
 pub mod SubmitReportBack

@@ -2,21 +2,22 @@
 -- And each proper beginning of it is refused with 2; cut just after status, where an indicator follows, it is read as the same record with no indicator, parameters or user data (document 02, Ask 9).
 -- Assumes nothing.
 use Prim.Native.Nat.{ℕ, _+_, _-_, _≤_, _<_}
-use mathlib.Core.Path.{_≡_, refl, sym, ap, ap₂, _∙_}
-use mathlib.Core.Bool.{Bool, true, false, _&&_}
-use mathlib.Core.List.{List, [], _∷_, _++_, append-assoc}
+use mathlib.Core.Path.{_≡_, refl, sym, ap, _∙_}
+use mathlib.Core.Bool.{Bool, true, false}
+use mathlib.Core.List.{List, [], _∷_, _++_, append-assoc, append-nil}
+use mathlib.Core.Logic.{⊎-elim}
 use mathlib.Core.Option.{some, Option·none-ne-some}
+use native.Mathlib.Nat.{zero-add}
 use native.Mathlib.Omega.{arith}
-use borrow.Author.Tests.{eqb-true, ltb-true, ltb-false}
+use borrow.Author.Tests.{eqb-true, eq-eqb, ltb-true, ltb-false}
 use lib.Dec.{eqb, ltb}
 use lib.ListN.{length, take, drop, length-append, length-drop}
 use lib.Seq.{length-take-le, drop-at, drop-drop, take-at, take-append-le, take-append-add}
 use Rattle.octets.specs.Answers.{Said, gives, fine}
-use Rattle.octets.specs.Checks.{_unless_, found}
+use Rattle.octets.specs.Checks.{_unless_, found, allFit}
 use Rattle.octets.specs.Lent.{made}
 use Rattle.octets.specs.declared.Refusal.the-variants.{LengthTooLarge, OctetsEnd, NotATime, ParametersWithoutIndicator}
-use Rattle.octets.proofs.Choice.{and-true, both, both-holds, same, same-is}
-use Rattle.octets.proofs.Checks.{never, holds, both-hold, made-unless, made-told, made-counts}
+use Rattle.octets.proofs.Checks.{never, holds, both-hold, made-told, made-counts, all-fit}
 use Rattle.coding.specs.Coding.{dataWith, dataOf, clearedData}
 use Rattle.coding.proofs.Laws.{data-back}
 use Rattle.time.specs.Time.{isTime, timeOctets, timeIn, digitsOf, clearedTime, capitalTime}
@@ -26,8 +27,10 @@ use Rattle.address.specs.Address.{addressIn, textHeld, clearedAddress}
 use Rattle.address.proofs.Laws.{Spelled, address-passed, address-held}
 use Rattle.layout.specs.Cut.{Cut}
 use Rattle.layout.specs.Demand.{Demand2}
-use Rattle.layout.specs.Layout.{octet, octets, any, address, leading, isSet, messageType, kept, Format, field, message, one, time, done, _then_, reached, halted, reading, readFrom, plain, read}
-use Rattle.layout.proofs.Beginnings.{cut-read, cut-after-end}
+use Rattle.layout.specs.Layout.{first, octet, octets, any, address, leading, firstOctet, Field, standsAs, joined, Format, field, message, one, time, done, _then_, reached, halted, reading, readFrom, plain, read}
+use Rattle.layout.proofs.Beginnings.{fronts, cut-read, cut-after-end}
+use Rattle.layout.proofs.FirstOctet.{first-type, first-flag, first-kept}
+use Rattle.layout.proofs.LayoutBack.{Calls, joined-read}
 use Rattle.layout.proofs.Steps.{done-reached, end-not-reached, then-goes-on, then-ends}
 use Rattle.parameters.specs.Checking.{indicatorChecks, dataWithin}
 use Rattle.parameters.specs.Optional.{octetsHeld, held}
@@ -36,23 +39,43 @@ use Rattle.parameters.specs.declared.OptionalOctet.{OptionalOctet}
 use Rattle.parameters.specs.declared.OptionalOctet.the-variants.{Absent, Present}
 use Rattle.status_report.specs.Layout.{Fields, bits, fields}
 use Rattle.status_report.specs.Internal.{fieldsWith, afterStatus}
-use Rattle.status_report.specs.StatusReport.{statusReported, format, statusReport, firstWith, firstOf, tooLong, parametersOf, octetsOf, optionalChecks, statusReportingWithin, statusReporting, statusReportingToStandard, cleared, capitalised, Typed}
+use Rattle.status_report.specs.StatusReport.{statusReported, format, statusReport, lengthsOf, flagsOf, parametersOf, optionalChecks, statusReportingWithin, statusReporting, statusReportingToStandard, cleared, capitalised, Typed}
 use Rattle.status_report.specs.declared.SmsStatusReport.{SmsStatusReport}
 use Rattle.status_report.proofs.Demand.{made-cleared}
-use Rattle.status_report.proofs.RecordWritten.{all-fit}
-use Rattle.layout.proofs.LayoutBack.{field-read, message-read, done-read}
 use Rattle.demands.specs.Cuts.{recipientOctets, upToStatus, ifHeld, cutAfterStatus, withoutIndicator}
 use Rattle.demands.proofs.ParametersBack.{parameters-endless, indicator-here, not-extended, parameters-here, parameters-limit}
 
 -- ---- the checks that a written record passed
 
-record Passed (limit : ℕ) (r : SmsStatusReport) (os : List ℕ) : Type 0 where
-  pub is : octetsOf r ≡ os
-  pub fits : tooLong r ≡ false
-  pub address : Spelled (r .«tp_recipient_address» .ton) (r .«tp_recipient_address» .npi) (textHeld (r .«tp_recipient_address»)) (recipientOctets r)
-  pub time-is : isTime (digitsOf (r .«tp_service_centre_timestamp»)) ≡ true
-  pub discharge-is : isTime (digitsOf (r .«tp_discharge_time»)) ≡ true
-  pub optional : found (optionalChecks limit (r .«tp_parameter_indicator») (parametersOf r)) ≡ fine
+module _ (r : SmsStatusReport) where
+  abbrev stamp : List ℕ
+  stamp = digitsOf (r .«tp_service_centre_timestamp»)
+
+  abbrev late : List ℕ
+  late = digitsOf (r .«tp_discharge_time»)
+
+  -- the fields up to status, their octets, and those that follow
+  abbrev parts : List Field
+  parts =
+      standsAs (first bits) (firstOctet 2 (flagsOf r) ∷ []) ∷ standsAs octet (r .«tp_mr» ∷ []) ∷ standsAs address (recipientOctets r) ∷ standsAs (octets any 7) (timeOctets stamp)
+      ∷ standsAs (octets any 7) (timeOctets late) ∷ standsAs octet (r .«tp_status» ∷ []) ∷ []
+
+  abbrev front : List ℕ
+  front = joined parts
+
+  abbrev rest : List ℕ
+  rest = octetsHeld (r .«tp_parameter_indicator») ++ parametersOctets (parametersOf r)
+
+  splits : (more : List ℕ) → firstOctet 2 (flagsOf r) ∷ r .«tp_mr» ∷ (recipientOctets r ++ (timeOctets stamp ++ (timeOctets late ++ (r .«tp_status» ∷ more)))) ≡ front ++ more
+  splits more = simp append-assoc
+
+  record Passed (limit : ℕ) (os : List ℕ) : Type 0 where
+    pub is : front ++ rest ≡ os
+    pub fit : allFit (lengthsOf r) ≡ true
+    pub address : Spelled (r .«tp_recipient_address» .ton) (r .«tp_recipient_address» .npi) (textHeld (r .«tp_recipient_address»)) (recipientOctets r)
+    pub time-is : isTime stamp ≡ true
+    pub discharge-is : isTime late ≡ true
+    pub optional : found (optionalChecks limit (r .«tp_parameter_indicator») (parametersOf r)) ≡ fine
 
 -- indicator and parameters that pass have at most four octets more than the user data may
 optional-size : (limit : ℕ) (pi : OptionalOctet) (p : Parameters) → found (optionalChecks limit pi p) ≡ fine → length (octetsHeld pi) + length (parametersOctets p) ≤ 4 + limit
@@ -61,33 +84,6 @@ optional-size limit Absent p h = omega (arith, eqb-true (length (parametersOctet
 optional-size limit (Present i) p h =
     let (x, d) = both-hold (indicatorChecks i (p .pid) (p .dcs) (p .udl)) (dataWithin limit (p .dcs) (p .udl) (length (p .ud))) h in
     simp length-append (omega (arith, parameters-limit limit p d))
-
--- ---- the first octet
-
--- it tells its flags and its MTI, and is its own canonical form
-record Tells (udhi srq lp mms : Bool) (f : ℕ) : Type 0 where
-  pub whole : kept bits f ≡ f
-  pub mti-is : messageType f ≡ 2
-  pub udhi-is : isSet 6 f ≡ udhi
-  pub srq-is : isSet 5 f ≡ srq
-  pub lp-is : isSet 3 f ≡ lp
-  pub mms-is : isSet 2 f ≡ mms
-
-abbrev tells : Bool → Bool → Bool → Bool → Bool
-tells udhi srq lp mms =
-    let f = firstWith udhi srq lp mms in
-    eqb (kept bits f) f && (eqb (messageType f) 2 && (same udhi (isSet 6 f) && (same srq (isSet 5 f) && (same lp (isSet 3 f) && same mms (isSet 2 f)))))
-
-first-tells : (udhi srq lp mms : Bool) → Tells udhi srq lp mms (firstWith udhi srq lp mms)
-unfolding kept
-first-tells udhi srq lp mms =
-    let e = both-holds (tells udhi srq lp) (both-holds (λ d. both (tells udhi srq d)) (both-holds (λ c. both λ d. both (tells udhi c d)) (both-holds (λ b. both λ c. both λ d. both (tells b c d)) refl udhi) srq) lp) mms in
-    let (whole, e1) = and-true _ _ e in
-    let (mti, e2) = and-true _ _ e1 in
-    let (a, e3) = and-true _ _ e2 in
-    let (b, e4) = and-true _ _ e3 in
-    let (c, d) = and-true _ _ e4 in
-    record { whole = eqb-true _ _ whole; mti-is = eqb-true _ _ mti; udhi-is = same-is _ _ a; srq-is = same-is _ _ b; lp-is = same-is _ _ c; mms-is = same-is _ _ d }
 
 -- ---- octets in the layout's order are read as the fields that they are, to their end
 
@@ -111,7 +107,7 @@ module _ (limit : ℕ) (make : OptionalOctet → Parameters → Fields) (p : Par
   optional-read (Present pi) h e =
       let (i, d) = both-hold (indicatorChecks pi (p .pid) (p .dcs) (p .udl)) (dataWithin limit (p .dcs) (p .udl) (length (p .ud))) h in
       let n : at + 1 + held (p .pid) + held (p .dcs) + held (p .udl) + length (p .ud) ≡ length s = omega (arith, length-drop at s, simp length-append at (ap length e)) in
-      end-not-reached s at _ _ (omega arith) ∙ indicator-here s at e _ (not-extended limit pi p [] 0 i d) ∙ parameters-here limit pi p i d s (at + 1) (sym (drop-drop 1 at s) ∙ ap (drop 1) e) _
+      end-not-reached s at _ _ (omega arith) ∙ indicator-here s at e _ (not-extended limit pi p i d) ∙ parameters-here limit pi p i d s (at + 1) (sym (drop-drop 1 at s) ∙ ap (drop 1) e) _
       ∙ done-reached s _ _ ∙ ap (reached (make (Present pi) p)) n
 
 -- octets follow status exactly where an indicator is held
@@ -125,93 +121,73 @@ is-followed Absent p {k = k} e = absurd (Option·none-ne-some k e)
 is-followed (Present pi) p e = ((cc), omega arith)
 
 -- the layout in two: the fields up to status; and what follows it
-abbrev afterAddress : ℕ → ℕ → List ℕ → Format (OptionalOctet → Parameters → Fields)
-afterAddress first mr ra = time λ scts. time λ dt. one λ st. done (fieldsWith first mr ra scts dt st)
-
-abbrev afterFirst : ℕ → Format (OptionalOctet → Parameters → Fields)
-afterFirst first = one λ mr. field address λ ra. afterAddress first mr ra
-
 abbrev toStatus : Format (OptionalOctet → Parameters → Fields)
-toStatus = message 2 bits afterFirst
+toStatus = message 2 bits λ first. one λ mr. field address λ ra. time λ scts. time λ dt. one λ st. done (fieldsWith first mr ra scts dt st)
 
 in-two : fields ≡ (toStatus then afterStatus)
 unfolding fields afterStatus
 in-two = refl
 
--- the octets of a record up to status, and the rest
-abbrev upTo : SmsStatusReport → List ℕ → List ℕ
-upTo r rest =
-    firstOf r ∷ r .«tp_mr» ∷ (recipientOctets r ++ (timeOctets (digitsOf (r .«tp_service_centre_timestamp»)) ++ (timeOctets (digitsOf (r .«tp_discharge_time»)) ++ (r .«tp_status» ∷ rest))))
+never-read : {R : Type 0} {x : R} {n : ℕ} → halted OctetsEnd ≡ reached x n → ⊥
+never-read e = let z : _≡_ {A = ℕ} 0 1 = cc in omega arith
 
-splits : (r : SmsStatusReport) (rest : List ℕ) → upTo r rest ≡ upTo r [] ++ rest
-splits r rest = simp append-assoc
-
--- its fields, by what follows status
+-- the fields of a record, by what follows status
 abbrev fieldsOf : SmsStatusReport → OptionalOctet → Parameters → Fields
-fieldsOf r = fieldsWith (firstOf r) (r .«tp_mr») (recipientOctets r) (timeOctets (digitsOf (r .«tp_service_centre_timestamp»))) (timeOctets (digitsOf (r .«tp_discharge_time»))) (r .«tp_status»)
+fieldsOf r = fieldsWith (firstOctet 2 (flagsOf r)) (r .«tp_mr») (recipientOctets r) (timeOctets (stamp r)) (timeOctets (late r)) (r .«tp_status»)
 
-told : (r : SmsStatusReport) → Tells (r .«tp_udhi») (r .«tp_srq») (r .«tp_lp») (r .«tp_mms») (firstOf r)
-told r = first-tells (r .«tp_udhi») (r .«tp_srq») (r .«tp_lp») (r .«tp_mms»)
-
-module _ {limit : ℕ} {os : List ℕ} (r : SmsStatusReport) (p : Passed limit r os) where
-  scts-size : length (timeOctets (digitsOf (r .«tp_service_centre_timestamp»))) ≡ 7
-  scts-size = time-size (digitsOf (r .«tp_service_centre_timestamp»)) (p .time-is)
-
-  dt-size : length (timeOctets (digitsOf (r .«tp_discharge_time»))) ≡ 7
-  dt-size = time-size (digitsOf (r .«tp_discharge_time»)) (p .discharge-is)
-
-  up-to-status : length (upTo r []) ≡ upToStatus r
+module _ {limit : ℕ} {os : List ℕ} (r : SmsStatusReport) (p : Passed r limit os) where
+  up-to-status : length (front r) ≡ upToStatus r
   unfolding upToStatus
-  up-to-status = simp length-append (omega (arith, scts-size, dt-size))
+  up-to-status = simp length-append (omega (arith, time-size (stamp r) (p .time-is), time-size (late r) (p .discharge-is)))
 
-  status-read : (rest : List ℕ) → readFrom toStatus (upTo r rest) 0 ≡ reached (fieldsOf r) (upToStatus r)
-  unfolding readFrom upToStatus
-  status-read rest =
-      let ra = recipientOctets r in
-      let scts = timeOctets (digitsOf (r .«tp_service_centre_timestamp»)) in
-      let dt = timeOctets (digitsOf (r .«tp_discharge_time»)) in
-      let n : 2 + length ra + length scts + length dt + 1 ≡ 1 + 1 + length ra + 7 + 7 + 1 = omega (arith, scts-size, dt-size) in
-      message-read 2 bits afterFirst (firstOf r) (told r .whole) (told r .mti-is) _ 0 ∙ field-read octet _ (r .«tp_mr» ∷ []) _ 1 refl
-      ∙ field-read address (λ ra. afterAddress (firstOf r) (r .«tp_mr») ra) ra _ 2 (p .address .whole)
-      ∙ rw (p .address .again)
-      (field-read (octets any 7) _ scts _ (2 + length ra) (sym scts-size) ∙ field-read (octets any 7) _ dt _ (2 + length ra + length scts) (sym dt-size)
-      ∙ field-read octet _ (r .«tp_status» ∷ []) rest (2 + length ra + length scts + length dt) refl ∙ done-read rest _ _)
-      ∙ ap (reached (fieldsOf r)) n
+  called : Calls toStatus (parts r) (fieldsOf r)
+  called =
+      let whole = ap (λ (x : ℕ). x ∷ []) (first-kept 2 (omega arith) (flagsOf r) refl) in
+      let mti = eq-eqb _ 2 (first-type 2 (omega arith) (flagsOf r) refl) in
+      (refl, whole, (mti, (refl, refl, (p .address .whole, p .address .again, (sym (time-size (stamp r) (p .time-is)), refl, (sym (time-size (late r) (p .discharge-is)), refl, (refl, refl, refl)))))))
 
-  dropped : (rest : List ℕ) → drop (upToStatus r) (upTo r rest) ≡ rest
-  dropped rest = ap (drop (upToStatus r)) (splits r rest) ∙ drop-at (upTo r []) rest (upToStatus r) up-to-status
+  front-read : readFrom toStatus (front r) 0 ≡ reached (fieldsOf r) (length (front r))
+  unfolding readFrom
+  front-read = joined-read (fieldsOf r) toStatus (parts r) called 0 ∙ ap (reached (fieldsOf r)) (zero-add (length (front r)))
 
-  sizes : (rest : List ℕ) → length (upTo r rest) ≡ upToStatus r + length rest
-  sizes rest = ap length (splits r rest) ∙ length-append (upTo r []) rest ∙ rw up-to-status
+  -- whatever follows
+  status-read : (more : List ℕ) → readFrom toStatus (front r ++ more) 0 ≡ reached (fieldsOf r) (upToStatus r)
+  unfolding readFrom
+  status-read more =
+      ⊎-elim (λ h. absurd (never-read (sym h ∙ front-read))) (λ same. sym same ∙ front-read) (fronts toStatus (λ first mr ra scts dt st. tt) (front r) more 0) ∙ ap (reached (fieldsOf r)) up-to-status
 
-  fields-read : (rest : List ℕ) → readFrom fields (upTo r rest) 0 ≡ readFrom (afterStatus (fieldsOf r)) (upTo r rest) (upToStatus r)
-  fields-read rest = ap (λ (l : Format Fields). readFrom l (upTo r rest) 0) in-two ∙ then-goes-on (upTo r rest) toStatus 0 (status-read rest) afterStatus
+  dropped : (more : List ℕ) → drop (upToStatus r) (front r ++ more) ≡ more
+  dropped more = drop-at (front r) more (upToStatus r) up-to-status
+
+  sizes : (more : List ℕ) → length (front r ++ more) ≡ upToStatus r + length more
+  sizes more = length-append (front r) more ∙ rw up-to-status
+
+  fields-read : (more : List ℕ) → readFrom fields (front r ++ more) 0 ≡ readFrom (afterStatus (fieldsOf r)) (front r ++ more) (upToStatus r)
+  fields-read more = ap (λ (l : Format Fields). readFrom l (front r ++ more) 0) in-two ∙ then-goes-on (front r ++ more) toStatus 0 (status-read more) afterStatus
 
   -- what follows status and passes the checks
   written-read : (pi : OptionalOctet) (held : Parameters) → found (optionalChecks limit pi held) ≡ fine
-      → let s = upTo r (octetsHeld pi ++ parametersOctets held) in readFrom fields s 0 ≡ reached (fieldsOf r pi held) (length s)
+      → let s = front r ++ (octetsHeld pi ++ parametersOctets held) in readFrom fields s 0 ≡ reached (fieldsOf r pi held) (length s)
   written-read pi held h =
-      let rest = octetsHeld pi ++ parametersOctets held in
-      fields-read rest ∙ optional-read limit (fieldsOf r) held (upTo r rest) (upToStatus r) (omega (arith, sizes rest)) pi h (dropped rest)
+      let more = octetsHeld pi ++ parametersOctets held in
+      fields-read more ∙ optional-read limit (fieldsOf r) held (front r ++ more) (upToStatus r) (omega (arith, sizes more)) pi h (dropped more)
 
   -- ---- cut before status, and after it
 
-  cut-before : (rest : List ℕ) (k : ℕ) → k < upToStatus r → readFrom fields (take k (upTo r rest)) 0 ≡ halted OctetsEnd
+  cut-before : (k : ℕ) → k < upToStatus r → readFrom fields (take k (front r ++ rest r)) 0 ≡ halted OctetsEnd
   unfolding read
-  cut-before rest k h =
-      let front = upTo r [] in
-      let few : k < length front = omega (arith, up-to-status) in
-      let here : take k (upTo r rest) ≡ take k front = ap (take k) (splits r rest) ∙ take-append-le k front rest (omega arith) in
-      ap (λ (s : List ℕ). readFrom fields s 0) here ∙ ap (λ (l : Format Fields). readFrom l (take k front) 0) in-two
-      ∙ then-ends (take k front) toStatus 0 (cut-read (plain toStatus) (λ first mr ra scts dt st. tt) front (status-read [] ∙ ap (reached (fieldsOf r)) (sym up-to-status)) k few) afterStatus
+  cut-before k h =
+      let few : k < length (front r) = omega (arith, up-to-status) in
+      ap (λ (s : List ℕ). readFrom fields s 0) (take-append-le k (front r) (rest r) (omega arith)) ∙ ap (λ (l : Format Fields). readFrom l (take k (front r)) 0) in-two
+      ∙ then-ends (take k (front r)) toStatus 0 (cut-read (plain toStatus) (λ first mr ra scts dt st. tt) (front r) front-read k few) afterStatus
 
-  cut-after : {x : Fields} (rest : List ℕ) → readFrom fields (upTo r rest) 0 ≡ reached x (length (upTo r rest)) → (j : ℕ) → 0 < j → j < length rest → readFrom fields (take (upToStatus r + j) (upTo r rest)) 0 ≡ halted OctetsEnd
+  cut-after : {x : Fields} → readFrom fields (front r ++ rest r) 0 ≡ reached x (length (front r ++ rest r)) → (j : ℕ) → 0 < j → j < length (rest r) → readFrom fields (take (upToStatus r + j) (front r ++ rest r)) 0 ≡ halted OctetsEnd
   unfolding readFrom afterStatus
-  cut-after rest e j more few =
-      let here : take (upToStatus r + j) (upTo r rest) ≡ upTo r (take j rest) =
-      ap₂ take (ap (λ (n : ℕ). n + j) (sym up-to-status)) (splits r rest) ∙ take-append-add (upTo r []) rest j ∙ sym (splits r (take j rest)) in
-      let from : (more : List ℕ) → readFrom fields (upTo r more) 0 ≡ reading (afterStatus (fieldsOf r)) more (upToStatus r) = λ more. fields-read more ∙ ap (λ (l : List ℕ). reading (afterStatus (fieldsOf r)) l (upToStatus r)) (dropped more) in
-      ap (λ (s : List ℕ). readFrom fields s 0) here ∙ from (take j rest) ∙ cut-after-end _ _ (λ i. parameters-endless (leading i) _ λ p. tt) rest (upToStatus r) (sym (from rest) ∙ e) (sym (sizes rest)) j few more
+  cut-after e j more few =
+      let here : take (upToStatus r + j) (front r ++ rest r) ≡ front r ++ take j (rest r) = ap (λ (n : ℕ). take (n + j) (front r ++ rest r)) (sym up-to-status) ∙ take-append-add (front r) (rest r) j in
+      let from : (xs : List ℕ) → readFrom fields (front r ++ xs) 0 ≡ reading (afterStatus (fieldsOf r)) xs (upToStatus r) = λ xs. fields-read xs ∙ ap (λ (l : List ℕ). reading (afterStatus (fieldsOf r)) l (upToStatus r)) (dropped xs) in
+      ap (λ (s : List ℕ). readFrom fields s 0) here ∙ from (take j (rest r))
+      ∙ cut-after-end _ _ (λ i. parameters-endless (leading i) _ λ p. tt) (rest r) (upToStatus r) (sym (from (rest r)) ∙ e) (sym (sizes (rest r))) j few more
 
 -- ---- the record that they make
 
@@ -224,43 +200,37 @@ to-refusal : (s : List ℕ) → readFrom fields s 0 ≡ halted OctetsEnd → rea
 unfolding read format
 to-refusal s e = then-ends s fields 0 e (λ x. done (statusReported x))
 
-same-record : (r : SmsStatusReport) (f : ℕ) → Tells (r .«tp_udhi») (r .«tp_srq») (r .«tp_lp») (r .«tp_mms») f → (ra scts dt : List ℕ)
-    → addressIn ra ≡ clearedAddress (r .«tp_recipient_address») → timeIn scts ≡ capitalTime (clearedTime (r .«tp_service_centre_timestamp»)) → timeIn dt ≡ capitalTime (clearedTime (r .«tp_discharge_time»))
-    → dataWith (dataOf (r .«tp_user_data»)) ≡ clearedData (r .«tp_user_data»)
-    → statusReported (fieldsWith f (r .«tp_mr») ra scts dt (r .«tp_status») (r .«tp_parameter_indicator») (parametersOf r)) ≡ capitalised (cleared r)
+same-record : (r : SmsStatusReport) (ra scts dt : List ℕ) → addressIn ra ≡ clearedAddress (r .«tp_recipient_address»)
+    → timeIn scts ≡ capitalTime (clearedTime (r .«tp_service_centre_timestamp»)) → timeIn dt ≡ capitalTime (clearedTime (r .«tp_discharge_time»)) → dataWith (dataOf (r .«tp_user_data»)) ≡ clearedData (r .«tp_user_data»)
+    → statusReported (fieldsWith (firstOctet 2 (flagsOf r)) (r .«tp_mr») ra scts dt (r .«tp_status») (r .«tp_parameter_indicator») (parametersOf r)) ≡ capitalised (cleared r)
 unfolding statusReported
-same-record r f t ra scts dt ea et eu ed = rw (t .udhi-is, t .srq-is, t .lp-is, t .mms-is, ea, et, eu, ed)
+same-record r ra scts dt ea et eu ed =
+    let tells = first-flag 2 (omega arith) (flagsOf r) refl in
+    rw (tells 6 refl, tells 5 refl, tells 3 refl, tells 2 refl, ea, et, eu, ed)
 
 -- ---- a record
 
 module _ {os : List ℕ} {answer : Said ℕ} (limit : ℕ) (r : SmsStatusReport) (e : statusReportingWithin limit r ≡ made os answer) where
-  passed : Passed limit r os
+  passed : Passed r limit os
   unfolding statusReportingWithin
   passed =
-      let a = r .«tp_recipient_address» in
-      let scts = digitsOf (r .«tp_service_centre_timestamp») in
-      let dt = digitsOf (r .«tp_discharge_time») in
+      let of-address = addressChecks (r .«tp_recipient_address» .ton) (r .«tp_recipient_address» .npi) (textHeld (r .«tp_recipient_address»)) in
       let more = optionalChecks limit (r .«tp_parameter_indicator») (parametersOf r) in
-      let (fits, m) = made-unless LengthTooLarge (tooLong r) e in
-      let (f, x) = made-told _ _ m in
-      let (g, k) = both-hold (addressChecks (a .ton) (a .npi) (textHeld a)) ((NotATime unless isTime scts) ∷ (NotATime unless isTime dt) ∷ more) f in
-      let (t, k1) = holds NotATime (isTime scts) ((NotATime unless isTime dt) ∷ more) k in
-      let (d, k2) = holds NotATime (isTime dt) more k1 in
-      record { is = x; fits = fits; address = address-passed _ _ _ g; time-is = t; discharge-is = d; optional = k2 }
-
-  abbrev rest : List ℕ
-  rest = octetsHeld (r .«tp_parameter_indicator») ++ parametersOctets (parametersOf r)
+      let (f, x) = made-told _ _ e in
+      let (fit, f0) = holds LengthTooLarge (allFit (lengthsOf r)) (of-address ++ ((NotATime unless isTime (stamp r)) ∷ (NotATime unless isTime (late r)) ∷ more)) f in
+      let (g, k) = both-hold of-address ((NotATime unless isTime (stamp r)) ∷ (NotATime unless isTime (late r)) ∷ more) f0 in
+      let (t, k1) = holds NotATime (isTime (stamp r)) ((NotATime unless isTime (late r)) ∷ more) k in
+      let (d, k2) = holds NotATime (isTime (late r)) more k1 in
+      record { is = sym (splits r (rest r)) ∙ x; fit = fit; address = address-passed _ _ _ g; time-is = t; discharge-is = d; optional = k2 }
 
   -- what was written has at most 33 octets more than the user data may
   at-most-within : length os ≤ 33 + limit
   at-most-within =
-      let m = time-size (digitsOf (r .«tp_service_centre_timestamp»)) (passed .time-is) in
-      let n = time-size (digitsOf (r .«tp_discharge_time»)) (passed .discharge-is) in
       let o = simp length-append at (optional-size limit (r .«tp_parameter_indicator») (parametersOf r) (passed .optional)) in
-      rw (← passed .is) (simp length-append (omega (arith, m, n, o, passed .address .short)))
+      rw (← passed .is) (simp length-append (omega (arith, time-size (stamp r) (passed .time-is), time-size (late r) (passed .discharge-is), o, passed .address .short)))
 
   -- what was written is read back, to its end
-  read-back : readFrom fields (upTo r rest) 0 ≡ reached (fieldsOf r (r .«tp_parameter_indicator») (parametersOf r)) (length (upTo r rest))
+  read-back : readFrom fields (front r ++ rest r) 0 ≡ reached (fieldsOf r (r .«tp_parameter_indicator») (parametersOf r)) (length (front r ++ rest r))
   read-back = written-read r passed (r .«tp_parameter_indicator») (parametersOf r) (passed .optional)
 
   -- as the same record; and what is read where no indicator follows is the record without it
@@ -270,30 +240,30 @@ module _ {os : List ℕ} {answer : Said ℕ} (limit : ℕ) (r : SmsStatusReport)
   record-back (ha, ht, hu, hd) =
       let p = passed in
       let a = r .«tp_recipient_address» in
-      let stamp = r .«tp_service_centre_timestamp» in
-      let late = r .«tp_discharge_time» in
+      let s = r .«tp_service_centre_timestamp» in
+      let l = r .«tp_discharge_time» in
       let d = r .«tp_user_data» in
-      let (fa, ft, fu, fd) = all-fit r (p .fits) in
-      let la : length (textHeld a) ≡ a .«address_length» = length-take-le (a .«address_length») (a .address) (omega (arith, ha, fa)) in
-      let lt : length (digitsOf stamp) ≡ stamp .length = length-take-le (stamp .length) (stamp .digits) (omega (arith, ht, ft)) in
-      let lu : length (digitsOf late) ≡ late .length = length-take-le (late .length) (late .digits) (omega (arith, hu, fu)) in
-      let ld : length (dataOf d) ≡ d .length = length-take-le (d .length) (d .octets) (omega (arith, hd, fd)) in
+      let fit = all-fit (lengthsOf r) (p .fit) in
+      let la : length (textHeld a) ≡ a .«address_length» = length-take-le (a .«address_length») (a .address) (omega (arith, ha, fit .0)) in
+      let lt : length (digitsOf s) ≡ s .length = length-take-le (s .length) (s .digits) (omega (arith, ht, fit .1 .0)) in
+      let lu : length (digitsOf l) ≡ l .length = length-take-le (l .length) (l .digits) (omega (arith, hu, fit .1 .1 .0)) in
+      let ld : length (dataOf d) ≡ d .length = length-take-le (d .length) (d .octets) (omega (arith, hd, fit .1 .1 .1 .0)) in
       let ea = p .address .back ∙ address-held a la in
-      let et = time-back stamp (p .time-is) lt in
-      let eu = time-back late (p .discharge-is) lu in
-      (made-cleared _ ∙ same-record r (firstOf r) (told r) _ _ _ ea et eu (data-back d ld), made-cleared _ ∙ same-record (withoutIndicator r) (firstOf r) (told r) _ _ _ ea et eu refl)
+      let et = time-back s (p .time-is) lt in
+      let eu = time-back l (p .discharge-is) lu in
+      (made-cleared _ ∙ same-record r _ _ _ ea et eu (data-back d ld), made-cleared _ ∙ same-record (withoutIndicator r) _ _ _ ea et eu refl)
 
   -- each proper beginning of it is refused with 2, but for that up to status
   cut-back : (k : ℕ) → k < length os → (k ≡ upToStatus r → ⊥) → read statusReport (take k os) ≡ halted OctetsEnd
   cut-back k h other = to-refusal (take k os) (ap (λ (s : List ℕ). readFrom fields (take k s) 0) (sym (passed .is)) ∙ by (ltb k (upToStatus r)) (ltb (upToStatus r) k) refl refl)
     where
-      by : (a b : Bool) → ltb k (upToStatus r) ≡ a → ltb (upToStatus r) k ≡ b → readFrom fields (take k (upTo r rest)) 0 ≡ halted OctetsEnd
-      by true b before after = cut-before r passed rest k (ltb-true _ _ before)
+      by : (a b : Bool) → ltb k (upToStatus r) ≡ a → ltb (upToStatus r) k ≡ b → readFrom fields (take k (front r ++ rest r)) 0 ≡ halted OctetsEnd
+      by true b before after = cut-before r passed k (ltb-true _ _ before)
       by false true before after =
           let j = k - upToStatus r in
           let past : upToStatus r < k = ltb-true _ _ after in
           let all : upToStatus r + j ≡ k = omega arith in
-          rw all at (cut-after r passed rest read-back j (omega arith) (omega (arith, sizes r passed rest, ap length (passed .is))))
+          rw all at (cut-after r passed read-back j (omega arith) (omega (arith, sizes r passed (rest r), ap length (passed .is))))
       by false false before after = absurd (other (omega (arith, ltb-false k (upToStatus r) before, ltb-false (upToStatus r) k after)))
 
   -- that one is a proper beginning where an indicator follows, and is read to its end
@@ -301,9 +271,9 @@ module _ {os : List ℕ} {answer : Said ℕ} (limit : ℕ) (r : SmsStatusReport)
   unfolding optionalChecks
   status-back x =
       let (same, more) = is-followed (r .«tp_parameter_indicator») (parametersOf r) x in
-      let here : take (upToStatus r) os ≡ upTo r [] = ap (take (upToStatus r)) (sym (passed .is) ∙ splits r rest) ∙ take-at (upTo r []) rest (upToStatus r) (up-to-status r passed) in (
-        omega (arith, sizes r passed rest, ap length (passed .is)),
-        rw same (ap (read statusReport) here ∙ to-record (upTo r []) (written-read r passed Absent noParameters refl) ∙ ap (reached (statusReported (fieldsOf r Absent noParameters))) (up-to-status r passed)),
+      let here : take (upToStatus r) os ≡ front r ++ [] = ap (take (upToStatus r)) (sym (passed .is)) ∙ take-at (front r) (rest r) (upToStatus r) (up-to-status r passed) ∙ sym (append-nil (front r)) in (
+        omega (arith, sizes r passed (rest r), ap length (passed .is)),
+        rw same (ap (read statusReport) here ∙ to-record (front r ++ []) (written-read r passed Absent noParameters refl) ∙ ap (reached (statusReported (fieldsOf r Absent noParameters))) (omega (arith, sizes r passed []))),
       )
 
 -- ---- the writer within a limit
@@ -320,13 +290,13 @@ module _ (limit : ℕ) where
   status-report-ends = record {
     ends = λ r t octets n e k h x.
         let p = passed limit r e in
-        cut-back limit r e k h λ same. x (rw same (followed limit (r .«tp_parameter_indicator») (parametersOf r) (p .optional) (omega (arith, sizes r p (rest limit r e), ap length (p .is)))));
+        cut-back limit r e k h λ same. x (rw same (followed limit (r .«tp_parameter_indicator») (parametersOf r) (p .optional) (omega (arith, sizes r p (rest r), ap length (p .is)))));
     takes = λ r t octets n e k x. let (h, is) = status-back limit r e x in (h, statusReported (fieldsOf r Absent noParameters), is, record-back limit r e t .1);
   }
 
   pub status-report-counts : (r : SmsStatusReport) (xs : List ℕ) (a : Said ℕ) → statusReportingWithin limit r ≡ made xs a → a ≡ gives (length xs)
   unfolding statusReportingWithin
-  status-report-counts r xs a e = made-counts _ _ (made-unless LengthTooLarge (tooLong r) e .1)
+  status-report-counts r xs a e = made-counts _ _ e
 
 -- ---- how much is written
 

@@ -1,26 +1,24 @@
 -- Demand 2 of document 01 for SMS-SUBMIT: what was written is read back as the same record but for header and text, which are derived, time letters capital; or refused with 17 or 18 for the header in its data.
 -- And each proper beginning of it is refused with 2 (document 02, Ask 9).
 -- Assumes nothing.
-use Prim.Native.Nat.{ℕ, _+_, _*_, _≤_, _<_}
+use Prim.Native.Nat.{ℕ, _+_, _*_, _/_, _%_, _≤_, _<_}
 use mathlib.Core.Path.{_≡_, refl, sym, ap, _∙_}
-use mathlib.Core.Bool.{Bool, true, false, _&&_}
-use mathlib.Core.List.{List, []}
+use mathlib.Core.Bool.{Bool, true, false}
+use mathlib.Core.List.{List, [], _∷_}
 use mathlib.Core.Option.{none}
 use native.Mathlib.Omega.{arith}
-use borrow.Author.Tests.{eqb-true, ltb-true, le-leb}
-use lib.Dec.{eqb, ltb}
+use borrow.Author.Tests.{eqb-true, eqb-false, le-leb}
+use lib.Dec.{eqb}
 use lib.ListN.{length, take}
 use lib.Seq.{length-take-le}
 use Rattle.octets.specs.Answers.{Said, gives, refuses}
 use Rattle.octets.specs.Arrays.{pad}
-use Rattle.octets.specs.Choice.{if_then_else_, flag, lengthIf}
+use Rattle.octets.specs.Choice.{if_then_else_, lengthIf}
 use Rattle.octets.specs.Lent.{made}
 use Rattle.octets.specs.declared.Refusal.{Refusal}
-use Rattle.octets.specs.declared.Refusal.the-variants.{OctetsEnd}
-use Rattle.octets.proofs.Checks.{never, made-counts}
-use Rattle.octets.proofs.Choice.{and-true, both, both-holds, same, same-is}
+use Rattle.octets.specs.declared.Refusal.the-variants.{OctetsEnd, LengthTooLarge}
+use Rattle.octets.proofs.Checks.{never, made-if, made-counts}
 use Rattle.octets.proofs.Laws.{pad-full}
-use Rattle.octets.proofs.Table.{allBelow, below}
 use Rattle.coding.specs.Coding.{codingOf, dataOf, dataWith, clearedData}
 use Rattle.coding.specs.declared.UserDataCoding.{UserDataCoding}
 use Rattle.coding.specs.declared.UserDataCoding.the-variants.{Gsm7Bit, EightBit, Ucs2, Compressed}
@@ -34,22 +32,23 @@ use Rattle.address.specs.Address.{addressIn, clearedAddress, textHeld}
 use Rattle.address.proofs.Laws.{Spelled, address-passed, address-held}
 use Rattle.layout.specs.Cut.{Cut}
 use Rattle.layout.specs.Demand.{Demand2}
-use Rattle.layout.specs.Layout.{isSet, messageType, halted, read}
+use Rattle.layout.specs.Layout.{bit, isSet, messageType, kept, halted, read}
 use Rattle.layout.proofs.Beginnings.{cut-always}
+use Rattle.layout.proofs.FirstOctet.{names, flagAt, first-type, first-flag, first-kept}
 use Rattle.validity_period.specs.Validity.{formatOf, periodIn, periodOctets, isAbsolute, timeHolds, periodSize, ofFormat}
 use Rattle.validity_period.specs.declared.ValidityPeriod.{ValidityPeriod}
 use Rattle.validity_period.proofs.Period.{period-size}
 use Rattle.submit.specs.declared.SmsSubmit.{SmsSubmit}
-use Rattle.submit.specs.Layout.{Fields, formatIn, headerSize}
+use Rattle.submit.specs.Layout.{Fields, formatIn, headerSize, bits}
 use Rattle.submit.specs.Submit.{submitted, submit, firstOf, submitting, headerAnswer, underived, compared, capitalised, Typed}
-use Rattle.submit.proofs.CheckByCheck.{Passed, all-passed, all-fit}
+use Rattle.submit.proofs.CheckByCheck.{Passed, all-passed}
 use Rattle.submit.proofs.Demand.{made-cleared}
 use Rattle.demands.proofs.SubmitWritten.{ends, written-read, written-cut}
 
 -- ---- the first octet tells its flags, its MTI and its format
 
 record Tells (r : SmsSubmit) (f : ℕ) : Type 0 where
-  pub small : f < 256
+  pub kept-is : kept bits f ≡ f
   pub mti-is : messageType f ≡ 1
   pub rp-is : isSet 7 f ≡ r .«tp_rp»
   pub udhi-is : isSet 6 f ≡ r .«tp_udhi»
@@ -57,25 +56,35 @@ record Tells (r : SmsSubmit) (f : ℕ) : Type 0 where
   pub rd-is : isSet 2 f ≡ r .«tp_rd»
   pub vpf-is : formatIn f ≡ r .«tp_vpf»
 
-abbrev tells : Bool → Bool → Bool → Bool → ℕ → Bool
-tells rp udhi srr rd vpf =
-    let f = flag rp 128 + flag udhi 64 + flag srr 32 + flag rd 4 + 8 * vpf + 1 in
-    ltb f 256 && (eqb (messageType f) 1 && (same rp (isSet 7 f) && (same udhi (isSet 6 f) && (same srr (isSet 5 f) && (same rd (isSet 2 f) && eqb (formatIn f) vpf)))))
+-- two bits that are set alike are the same
+same-bit : (a b : ℕ) → a < 2 → b < 2 → eqb a 1 ≡ eqb b 1 → a ≡ b
+same-bit a b ha hb e = by (eqb b 1) refl
+  where
+    by : (t : Bool) → eqb b 1 ≡ t → a ≡ b
+    by true w = omega (arith, eqb-true a 1 (e ∙ w), eqb-true b 1 w)
+    by false w = omega (arith, eqb-false a 1 (e ∙ w), eqb-false b 1 w)
+
+two-bits : (a : ℕ) → a % 4 ≡ 2 * (a / 2 % 2) + a / 1 % 2
+two-bits a = omega arith
+
+small : (v : ℕ) → v < 4 → v % 4 ≡ v
+small v l = omega arith
+
+format-alike : (f v : ℕ) → v < 4 → bit 4 f ≡ bit 1 v → bit 3 f ≡ bit 0 v → formatIn f ≡ v
+format-alike f v l high low =
+    let higher : f / 8 / 2 ≡ f / 16 = omega arith in
+    let lower : f / 8 / 1 ≡ f / 8 = omega arith in
+    two-bits (f / 8) ∙ rw (higher, lower, high, low) (sym (two-bits v)) ∙ small v l
 
 first-tells : (r : SmsSubmit) → r .«tp_vpf» < 4 → Tells r (firstOf r)
 first-tells r l =
-    let rp = r .«tp_rp» in
-    let udhi = r .«tp_udhi» in
-    let srr = r .«tp_srr» in
-    let rd = r .«tp_rd» in
-    let e = below (tells rp udhi srr rd) 4 (both-holds (λ d. allBelow (tells rp udhi srr d) 4) (both-holds (λ c. both λ d. allBelow (tells rp udhi c d) 4) (both-holds (λ b. both λ c. both λ d. allBelow (tells rp b c d) 4) (both-holds (λ a. both λ b. both λ c. both λ d. allBelow (tells a b c d) 4) refl rp) udhi) srr) rd) (r .«tp_vpf») l in
-    let (small, e1) = and-true _ _ e in
-    let (mti, e2) = and-true _ _ e1 in
-    let (a, e3) = and-true _ _ e2 in
-    let (b, e4) = and-true _ _ e3 in
-    let (c, e5) = and-true _ _ e4 in
-    let (d, v) = and-true _ _ e5 in
-    record { small = ltb-true _ _ small; mti-is = eqb-true _ _ mti; rp-is = same-is _ _ a; udhi-is = same-is _ _ b; srr-is = same-is _ _ c; rd-is = same-is _ _ d; vpf-is = eqb-true _ _ v }
+    let vpf = r .«tp_vpf» in
+    let f = firstOf r in
+    let flags : List (ℕ × Bool) = (7, r .«tp_rp») ∷ (6, r .«tp_udhi») ∷ (5, r .«tp_srr») ∷ (4, isSet 1 vpf) ∷ (3, isSet 0 vpf) ∷ (2, r .«tp_rd») ∷ [] in
+    let flag-is : (b : ℕ) → names bits b ≡ true → isSet b f ≡ flagAt flags b = first-flag 1 (omega arith) flags refl in
+    let high : bit 4 f ≡ bit 1 vpf = same-bit _ _ (omega arith) (omega arith) (flag-is 4 refl) in
+    let low : bit 3 f ≡ bit 0 vpf = same-bit _ _ (omega arith) (omega arith) (flag-is 3 refl) in
+    record { kept-is = first-kept 1 (omega arith) flags refl; mti-is = first-type 1 (omega arith) flags refl; rp-is = flag-is 7 refl; udhi-is = flag-is 6 refl; srr-is = flag-is 5 refl; rd-is = flag-is 2 refl; vpf-is = format-alike f vpf l high low }
 
 format-small : (p : ValidityPeriod) → formatOf p < 4
 format-small ValidityPeriod.None = omega arith
@@ -138,11 +147,11 @@ module _ {octets : List ℕ} {answer : Said ℕ} (r : SmsSubmit) (typed : Typed 
   -- it is read as its fields, or as the answer of its header says
   read-back : read submit octets ≡ ends (headerAnswer r) (submitted to-fields) (length octets)
   unfolding headerAnswer
-  read-back = rw (← passed .octets-are) (rw (told .udhi-is) at (written-read to-fields (told .small) (told .mti-is) (spelled .whole) (spelled .again) period-is (sym (passed .size-is))))
+  read-back = rw (← passed .octets-are) (rw (told .udhi-is) at (written-read to-fields (told .kept-is) (told .mti-is) (spelled .whole) (spelled .again) period-is (sym (passed .size-is))))
 
   -- and each proper beginning of it is refused with 2
   cut-back : (k : ℕ) → k < length octets → read submit (take k octets) ≡ halted OctetsEnd
-  cut-back = rw (← passed .octets-are) (written-cut to-fields (told .small) (told .mti-is) (spelled .whole) (spelled .again) period-is (sym (passed .size-is)))
+  cut-back = rw (← passed .octets-are) (written-cut to-fields (told .kept-is) (told .mti-is) (spelled .whole) (spelled .again) period-is (sym (passed .size-is)))
 
   -- the fields make the same record
   record-back : compared (submitted to-fields) ≡ capitalised (compared r)
@@ -150,8 +159,9 @@ module _ {octets : List ℕ} {answer : Said ℕ} (r : SmsSubmit) (typed : Typed 
       let p = passed in
       let to = r .«tp_destination_address» in
       let d = r .«tp_user_data_raw» in
-      let (few-text, few-digits, few-data) = all-fit r (p .fits) in
-      let few : to .«address_length» ≤ 290 = rw (p .there) at few-text in
+      let few-digits = p .fits .1 .0 in
+      let few-data = p .fits .1 .1 .0 in
+      let few : to .«address_length» ≤ 290 = rw (p .there) at (p .fits .0) in
       let la : length (textHeld to) ≡ to .«address_length» = length-take-le (to .«address_length») (to .address) (omega (arith, typed .0)) in
       let ld : length (dataOf d) ≡ d .length = length-take-le (d .length) (d .octets) (omega (arith, typed .3)) in
       let (period, digits, enhanced) = period-back (r .«tp_validity_period») (r .«validity_period_digits») (r .«validity_period_octets») (typed .1) few-digits (typed .2) (p .time) in

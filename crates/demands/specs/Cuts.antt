@@ -1,4 +1,4 @@
--- The exception of cut messages (document 02, Ask 9): a STATUS-REPORT written with an indicator, cut just after status; and the layouts of the reports by their outcome.
+-- The exception of cut messages (document 02, Ask 9): a STATUS-REPORT written with an indicator, cut just after status.
 use Prim.Native.Nat.{ℕ, _+_}
 use mathlib.Core.Path.{_≡_, refl}
 use mathlib.Core.List.{List, []}
@@ -9,22 +9,10 @@ use Rattle.octets.specs.SemiOctets.{inPairs}
 use Rattle.coding.specs.Coding.{dataWith}
 use Rattle.address.specs.Address.{addressWith, textHeld}
 use Rattle.address.specs.Writing.{addressOctets, octetsOr}
-use Rattle.layout.specs.Layout.{Layout}
 use Rattle.parameters.specs.declared.OptionalOctet.{OptionalOctet}
 use Rattle.parameters.specs.declared.OptionalOctet.the-variants.{Absent, Present}
-use Rattle.submit_report.specs.SubmitReport as SubmitReport
-use Rattle.submit_report.specs.declared.SmsSubmitReport.{SmsSubmitReport}
-use Rattle.deliver_report.specs.DeliverReport as DeliverReport
-use Rattle.deliver_report.specs.declared.SmsDeliverReport.{SmsDeliverReport}
 use Rattle.status_report.specs.StatusReport.{blank}
 use Rattle.status_report.specs.declared.SmsStatusReport.{SmsStatusReport}
-
--- the layout by which a report is read back: that of its outcome
-abbrev pub submitReportOf : SmsSubmitReport → Layout SmsSubmitReport
-submitReportOf r = SubmitReport.layoutOf (r .«rp_outcome»)
-
-abbrev pub deliverReportOf : SmsDeliverReport → Layout SmsDeliverReport
-deliverReportOf r = DeliverReport.layoutOf (r .«rp_outcome»)
 
 -- the octets of a STATUS-REPORT's address
 abbrev pub recipientOctets : SmsStatusReport → List ℕ

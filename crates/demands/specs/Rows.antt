@@ -16,7 +16,8 @@ use Rattle.time.specs.Time.{timeOctets, timeDigits}
 use Rattle.time.specs.Timestamp.{timestamp}
 use Rattle.address.specs.Address.{addressWith, addressIn, encoding, canonicalAddress}
 use Rattle.layout.specs.Layout.{read, answer}
-use Rattle.deliver_report.specs.DeliverReport.{error, blank, stopped}
+use Rattle.parameters.specs.declared.RpOutcome.the-variants.{RpError}
+use Rattle.deliver_report.specs.DeliverReport.{layoutOf, blank, stopped}
 use Rattle.user_data_header.specs.Header.{unpackedWithHeader, packingWithHeader, headerGiven}
 
 pub data Row : Type 0 where
@@ -56,7 +57,7 @@ Holds (zone z ds) = drop 12 (timestamp 24 2 15 12 30 45 z .1) ≡ ds
 Holds (writesAddress ton npi text octets) = encoding (addressWith ton npi text) ≡ made octets (gives (length octets))
 Holds (readsAddress f ton npi text) = addressIn f ≡ addressWith ton npi text
 Holds (canonical f octets) = canonicalAddress f ≡ octets
-Holds (readsStopped s) = answer blank (read error s) ≡ (fine, stopped)
+Holds (readsStopped s) = answer blank (read (layoutOf RpError) s) ≡ (fine, stopped)
 
 abbrev pub rows : List Row
 rows =

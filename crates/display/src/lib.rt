@@ -17,7 +17,10 @@ use crate::user_data::optional_user_data;
 use crate::user_data::user_data;
 use output::Output;
 use text_fields::slices::least;
+use tpdu::DeliverRead;
+use tpdu::DeliverReportRead;
 use tpdu::OptionalOctet;
+use tpdu::Outcome;
 use tpdu::RpOutcome;
 use tpdu::SMSAddress;
 use tpdu::SmsDeliver;
@@ -25,13 +28,22 @@ use tpdu::SmsDeliverReport;
 use tpdu::SmsStatusReport;
 use tpdu::SmsSubmit;
 use tpdu::SmsSubmitReport;
+use tpdu::StatusReportRead;
+use tpdu::SubmitRead;
+use tpdu::SubmitReportRead;
 use tpdu::Time;
 use tpdu::ValidityPeriod;
 use wording::labels;
-use wording::refusals::refusal_number;
 
-// ---- records: each function takes the number of the reader's refusal too, which is 0 if there is none, and the number
-// of escapes that the reader replaced
+// ---- records: each function takes what a reader gives
+
+// The lines that were put from `at` to `next`; or that of the refusal, in their place.
+fn unless_refused(out: &mut Output, at: usize, next: usize, o: Outcome) -> usize {
+    match o {
+        Outcome::Done => next,
+        Outcome::Refused(why) => refused_line(out, at, why.number()),
+    }
+}
 
 // At most 145 are replaced in an address, and 255 in user data.
 const MOST_REPLACED: usize = 255;
@@ -44,16 +56,9 @@ fn stand_ins(out: &mut Output, shown: Shown, replaced: usize) -> usize {
     stand_ins_line(out, shown.end, n)
 }
 
-fn deliver(
-    out: &mut Output,
-    at: usize,
-    refusal: u8,
-    message: SmsDeliver,
-    replaced: usize,
-) -> usize {
-    if refusal != 0 {
-        return refused_line(out, at, refusal);
-    }
+fn deliver(out: &mut Output, at: usize, read: DeliverRead) -> usize {
+    let outcome = read.outcome;
+    let message = read.message;
     let p1 = address_line(out, at, labels::FROM, message.tp_originating_address);
     let p2 = time_line(out, p1, labels::TIME, message.tp_service_centre_timestamp);
     let shown = user_data(
@@ -64,7 +69,8 @@ fn deliver(
         message.tp_user_data_length,
         message.tp_user_data,
     );
-    stand_ins(out, shown, replaced)
+    let end = stand_ins(out, shown, read.replaced_escapes);
+    unless_refused(out, at, end, outcome)
 }
 
 fn destination(out: &mut Output, at: usize, is_held: bool, address: SMSAddress) -> usize {
@@ -114,10 +120,9 @@ fn before_user_data(out: &mut Output, at: usize, message: SmsSubmit) -> usize {
 }
 
 // The reader has counted its user data too.
-fn submit(out: &mut Output, at: usize, refusal: u8, message: SmsSubmit, replaced: usize) -> usize {
-    if refusal != 0 {
-        return refused_line(out, at, refusal);
-    }
+fn submit(out: &mut Output, at: usize, read: SubmitRead) -> usize {
+    let outcome = read.outcome;
+    let message = read.message;
     let next = before_user_data(out, at, message);
     let shown = user_data(
         out,
@@ -127,7 +132,8 @@ fn submit(out: &mut Output, at: usize, refusal: u8, message: SmsSubmit, replaced
         message.tp_user_data_length,
         message.tp_user_data_raw,
     );
-    stand_ins_line(out, shown.end, replaced)
+    let end = stand_ins_line(out, shown.end, read.replaced_escapes);
+    unless_refused(out, at, end, outcome)
 }
 
 // No line without a cause.
@@ -138,8 +144,8 @@ fn cause(out: &mut Output, at: usize, cause: OptionalOctet) -> usize {
     }
 }
 
-// The heading of a report: its kind and its outcome.
-fn heading(out: &mut Output, at: usize, kind: &[u8], outcome: RpOutcome) -> usize {
+// A kind of report with an outcome.
+fn kind_and_outcome(out: &mut Output, at: usize, kind: &[u8], outcome: RpOutcome) -> usize {
     let next = output::put(out, at, kind);
     match outcome {
         RpOutcome::RpAck => output::put(out, next, b" (RP-ACK)\n"),
@@ -147,51 +153,50 @@ fn heading(out: &mut Output, at: usize, kind: &[u8], outcome: RpOutcome) -> usiz
     }
 }
 
-// The outcome is that of the record; a refusal has no record, and then it is that which was asked for.
-fn submit_report(
+// The heading of a report: its kind, and the outcome that its record holds; a refusal has no record, and then it is the
+// outcome that was asked for.
+fn heading(
     out: &mut Output,
-    start: usize,
+    at: usize,
+    kind: &[u8],
+    o: Outcome,
     asked: RpOutcome,
-    refusal: u8,
-    message: SmsSubmitReport,
-    replaced: usize,
+    held: RpOutcome,
 ) -> usize {
-    if refusal != 0 {
-        let at = heading(out, start, b"SMS-SUBMIT-REPORT", asked);
-        return refused_line(out, at, refusal);
+    match o {
+        Outcome::Done => kind_and_outcome(out, at, kind, held),
+        Outcome::Refused(_) => kind_and_outcome(out, at, kind, asked),
     }
-    let outcome = message.rp_outcome;
-    let at = heading(out, start, b"SMS-SUBMIT-REPORT", outcome);
-    let failure = message.tp_failure_cause;
-    let dcs = message.tp_dcs;
-    let udl = message.tp_user_data_length;
-    let udhi = message.tp_udhi == 1;
-    let p1 = cause(out, at, failure);
-    let p2 = time_line(out, p1, labels::TIME, message.tp_service_centre_timestamp);
-    let shown = optional_user_data(out, p2, udhi, dcs, udl, message.tp_user_data);
-    stand_ins(out, shown, replaced)
 }
 
-fn deliver_report(
-    out: &mut Output,
-    start: usize,
-    asked: RpOutcome,
-    refusal: u8,
-    message: SmsDeliverReport,
-    replaced: usize,
-) -> usize {
-    if refusal != 0 {
-        let at = heading(out, start, b"SMS-DELIVER-REPORT", asked);
-        return refused_line(out, at, refusal);
-    }
-    let outcome = message.rp_outcome;
-    let at = heading(out, start, b"SMS-DELIVER-REPORT", outcome);
+fn submit_report(out: &mut Output, at: usize, asked: RpOutcome, read: SubmitReportRead) -> usize {
+    let outcome = read.outcome;
+    let message = read.message;
+    let held = message.rp_outcome;
     let failure = message.tp_failure_cause;
     let dcs = message.tp_dcs;
     let udl = message.tp_user_data_length;
-    let next = cause(out, at, failure);
+    let start = heading(out, at, b"SMS-SUBMIT-REPORT", outcome, asked, held);
+    let p1 = cause(out, start, failure);
+    let p2 = time_line(out, p1, labels::TIME, message.tp_service_centre_timestamp);
+    let udhi = message.tp_udhi == 1;
+    let shown = optional_user_data(out, p2, udhi, dcs, udl, message.tp_user_data);
+    let end = stand_ins(out, shown, read.replaced_escapes);
+    unless_refused(out, start, end, outcome)
+}
+
+fn deliver_report(out: &mut Output, at: usize, asked: RpOutcome, read: DeliverReportRead) -> usize {
+    let outcome = read.outcome;
+    let message = read.message;
+    let held = message.rp_outcome;
+    let failure = message.tp_failure_cause;
+    let dcs = message.tp_dcs;
+    let udl = message.tp_user_data_length;
+    let start = heading(out, at, b"SMS-DELIVER-REPORT", outcome, asked, held);
+    let next = cause(out, start, failure);
     let shown = optional_user_data(out, next, message.tp_udhi, dcs, udl, message.tp_user_data);
-    stand_ins(out, shown, replaced)
+    let end = stand_ins(out, shown, read.replaced_escapes);
+    unless_refused(out, start, end, outcome)
 }
 
 // When a message was sent, when it was done with, and how.
@@ -201,16 +206,9 @@ fn fate(out: &mut Output, at: usize, sent: Time, done: Time, status: u8) -> usiz
     status_line(out, p2, status)
 }
 
-fn status_report(
-    out: &mut Output,
-    at: usize,
-    refusal: u8,
-    message: SmsStatusReport,
-    replaced: usize,
-) -> usize {
-    if refusal != 0 {
-        return refused_line(out, at, refusal);
-    }
+fn status_report(out: &mut Output, at: usize, read: StatusReportRead) -> usize {
+    let outcome = read.outcome;
+    let message = read.message;
     let dcs = message.tp_dcs;
     let udl = message.tp_user_data_length;
     let p1 = address_line(out, at, labels::TO, message.tp_recipient_address);
@@ -223,110 +221,43 @@ fn status_report(
         message.tp_status,
     );
     let shown = optional_user_data(out, p3, message.tp_udhi, dcs, udl, message.tp_user_data);
-    stand_ins(out, shown, replaced)
+    let end = stand_ins(out, shown, read.replaced_escapes);
+    unless_refused(out, at, end, outcome)
 }
 
 // ---- messages: the kind, and what its reader gives
 
-fn read_deliver(octets: &[u8], out: &mut Output, at: usize) -> usize {
-    let read = SmsDeliver::decode(octets);
-    let outcome = read.outcome;
-    deliver(
-        out,
-        at,
-        refusal_number(outcome),
-        read.message,
-        read.replaced_escapes,
-    )
-}
-
 pub fn show_deliver(octets: &[u8], out: &mut Output, at: usize) -> usize {
     let next = output::put(out, at, b"SMS-DELIVER\n");
-    read_deliver(octets, out, next)
-}
-
-fn read_submit(octets: &[u8], out: &mut Output, at: usize) -> usize {
-    let read = tpdu::decode_sms_submit_tpdu(octets);
-    let outcome = read.outcome;
-    submit(
-        out,
-        at,
-        refusal_number(outcome),
-        read.message,
-        read.replaced_escapes,
-    )
+    deliver(out, next, SmsDeliver::decode(octets))
 }
 
 pub fn show_submit(octets: &[u8], out: &mut Output, at: usize) -> usize {
     let next = output::put(out, at, b"SMS-SUBMIT\n");
-    read_submit(octets, out, next)
+    submit(out, next, tpdu::decode_sms_submit_tpdu(octets))
 }
 
 pub fn show_submit_report_ack(octets: &[u8], out: &mut Output, at: usize) -> usize {
     let read = SmsSubmitReport::decode_for_rp_ack(octets);
-    let outcome = read.outcome;
-    submit_report(
-        out,
-        at,
-        RpOutcome::RpAck,
-        refusal_number(outcome),
-        read.message,
-        read.replaced_escapes,
-    )
+    submit_report(out, at, RpOutcome::RpAck, read)
 }
 
 pub fn show_submit_report_error(octets: &[u8], out: &mut Output, at: usize) -> usize {
     let read = SmsSubmitReport::decode_for_rp_error(octets);
-    let outcome = read.outcome;
-    submit_report(
-        out,
-        at,
-        RpOutcome::RpError,
-        refusal_number(outcome),
-        read.message,
-        read.replaced_escapes,
-    )
+    submit_report(out, at, RpOutcome::RpError, read)
 }
 
 pub fn show_deliver_report_ack(octets: &[u8], out: &mut Output, at: usize) -> usize {
     let read = SmsDeliverReport::decode_for_rp_ack(octets);
-    let outcome = read.outcome;
-    deliver_report(
-        out,
-        at,
-        RpOutcome::RpAck,
-        refusal_number(outcome),
-        read.message,
-        read.replaced_escapes,
-    )
+    deliver_report(out, at, RpOutcome::RpAck, read)
 }
 
 pub fn show_deliver_report_error(octets: &[u8], out: &mut Output, at: usize) -> usize {
     let read = SmsDeliverReport::decode_for_rp_error(octets);
-    let outcome = read.outcome;
-    deliver_report(
-        out,
-        at,
-        RpOutcome::RpError,
-        refusal_number(outcome),
-        read.message,
-        read.replaced_escapes,
-    )
-}
-
-fn read_status_report(octets: &[u8], out: &mut Output, at: usize) -> usize {
-    let read = SmsStatusReport::decode(octets);
-    let outcome = read.outcome;
-    status_report(
-        out,
-        at,
-        refusal_number(outcome),
-        read.message,
-        read.replaced_escapes,
-    )
+    deliver_report(out, at, RpOutcome::RpError, read)
 }
 
 pub fn show_status_report(octets: &[u8], out: &mut Output, at: usize) -> usize {
     let next = output::put(out, at, b"SMS-STATUS-REPORT\n");
-    read_status_report(octets, out, next)
+    status_report(out, next, SmsStatusReport::decode(octets))
 }

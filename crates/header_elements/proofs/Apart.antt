@@ -7,7 +7,7 @@ use mathlib.Core.Logic.{_↔_, _⊎_, inl, inr, ⊎-elim}
 use native.Mathlib.Omega.{arith}
 use borrow.Author.Tests.{leb-true, le-leb, lt-leb, ltb-true, ltb-false, le-ltb}
 use lib.Dec.{leb, ltb}
-use lib.ListN.{length, getD, take, drop, length-append, take-append-drop}
+use lib.ListN.{length, take, drop, length-append, take-append-drop}
 use lib.Seq.{length-take-le, drop-append-seam, take-append-seam}
 use Rattle.octets.specs.Answers.{Said, gives, refuses}
 use Rattle.octets.specs.declared.Refusal.{Refusal}

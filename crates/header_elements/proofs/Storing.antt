@@ -1,8 +1,8 @@
 -- The reader's loop: the elements that are left, stored after those that are read already, make the answer.
 -- Assumes nothing.
 use Prim.Native.Nat.{ℕ, suc, _+_, _*_, _≤_, _<_}
-use mathlib.Core.Path.{_≡_, refl, sym, ap, _∙_}
-use mathlib.Core.List.{List, [], _∷_, _++_, map}
+use mathlib.Core.Path.{_≡_, refl, sym, _∙_}
+use mathlib.Core.List.{List, [], _∷_, map}
 use native.Mathlib.Nat.{add-zero, zero-add}
 use native.Mathlib.Numerals.{add-one}
 use native.Mathlib.Omega.{arith}
@@ -13,7 +13,7 @@ use Rattle.octets.specs.Lent.{Wrote}
 use Rattle.octets.specs.declared.Refusal.the-variants.{ElementPassesHeader}
 use Rattle.octets.proofs.Laws.{sets-append, sets-zeros, kept-by}
 use Rattle.header_elements.specs.declared.HeaderElements.{HeaderElements}
-use Rattle.header_elements.specs.Elements.{Element, element, joined, before, elementsAfter, elementsOf}
+use Rattle.header_elements.specs.Elements.{Element, element, before, elementsAfter, elementsOf}
 use Rattle.header_elements.specs.Record.{identifierOf, lengthOf, values, held, answer}
 use Rattle.header_elements.proofs.Apart.{one-more, passes, lone, elements-are}
 use Rattle.header_elements.proofs.Held.{elements-fit}

@@ -9,3 +9,4 @@ pub mod Rewriting
 pub mod Answered
 pub mod LayoutBack
 pub mod Beginnings
+pub mod Records

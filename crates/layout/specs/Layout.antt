@@ -1,6 +1,6 @@
 -- Layouts (document 01, "Messages") as data: the strings that a layout generates, their canonical octets, and the reader that it describes.
 use Prim.Native.Nat.{ℕ, suc, _+_, _*_, _/_, _%_, _^_}
-use mathlib.Core.Path.{_≡_}
+use mathlib.Core.Path.{_≡_, refl}
 use mathlib.Core.Bool.{Bool, true, false, not, _&&_, _||_}
 use mathlib.Core.List.{List, [], _∷_, _++_}
 use mathlib.Core.Logic.{_⊎_}
@@ -8,7 +8,7 @@ use lib.Bits.{bitAnd}
 use lib.Dec.{leb, ltb, eqb}
 use lib.ListN.{length, getD, take, drop}
 use Rattle.octets.specs.Answers.{Said, refuses, fine}
-use Rattle.octets.specs.Choice.{if_then_else_}
+use Rattle.octets.specs.Choice.{if_then_else_, flag}
 use Rattle.octets.specs.declared.Refusal.{Refusal}
 use Rattle.octets.specs.declared.Refusal.the-variants.{OctetsEnd, WrongMessageType}
 use Rattle.gsm7.specs.Reading.{replacedInAll}
@@ -52,6 +52,16 @@ messageType x = x % 4
 unfoldable pub kept : List ℕ → ℕ → ℕ
 kept [] x = messageType x
 kept (b ∷ bits) x = bit b x * 2 ^ b + kept bits x
+
+-- a first octet of TP-MTI and flags, each with its bit
+unfoldable pub firstOctet : ℕ → List (ℕ × Bool) → ℕ
+firstOctet mti [] = mti
+firstOctet mti ((b, on) ∷ flags) = flag on (2 ^ b) + firstOctet mti flags
+
+-- MTI 1 with bits 6 and 2, and not 5, is 45; with bit 6 named, of FE what stays is 42
+known-firsts : (firstOctet 1 ((6, true) ∷ (5, false) ∷ (2, true) ∷ []) ≡ 0x45) × (kept (6 ∷ []) 0xfe ≡ 0x42)
+unfolding firstOctet kept
+known-firsts = (refl, refl)
 
 -- the number of octets of an indicator: while bit 7 is set in it or in its last extension octet, one more follows
 unfoldable pub indicatorSize : List ℕ → ℕ
@@ -211,6 +221,11 @@ pub data Layout (R : Type 0) : Type 0 where
   plain : Format R → Layout R
   -- RP-ERROR with this MTI: stopped, it stands as these octets and gives this record; else the format
   stopping : ℕ → List ℕ → R → Format R → Layout R
+
+-- a layout of fields, and the records that they make
+abbrev pub records : {A R : Type 0} → (A → R) → Layout A → Layout R
+records make (plain format) = plain (format then λ x. done (make x))
+records make (stopping mti stands x format) = stopping mti stands (make x) (format then λ y. done (make y))
 
 -- document 01's stopped RP-ERROR, read no further: the first octet AND BC is nonzero, with the right MTI
 unfoldable pub stops : ℕ → List ℕ → Bool

@@ -1,16 +1,19 @@
 -- A writer's list of checks: what it comes to, and what is known where the octets were written.
 -- Assumes nothing.
-use Prim.Native.Nat.{ℕ}
+use Prim.Native.Nat.{ℕ, _≤_}
 use mathlib.Core.Path.{_≡_, refl, sym, ap, _∙_}
 use mathlib.Core.Bool.{Bool, true, false}
 use mathlib.Core.List.{List, [], _∷_, _++_, append-nil}
 use native.Mathlib.Omega.{arith}
+use borrow.Author.Tests.{leb-true}
+use lib.Dec.{leb}
 use lib.ListN.{length}
 use Rattle.octets.specs.Answers.{Said, gives, refuses, fine}
 use Rattle.octets.specs.Choice.{if_then_else_}
-use Rattle.octets.specs.Checks.{Check, _unless_, found, checked, afterChecked}
+use Rattle.octets.specs.Checks.{Check, _unless_, found, checked, afterChecked, allFit}
 use Rattle.octets.specs.Lent.{Making, refused, made}
 use Rattle.octets.specs.declared.Refusal.{Refusal}
+use Rattle.octets.proofs.Choice.{and-true}
 
 -- what gives values is no refusal
 pub never : {A : Type 0} {x : A} {why : Refusal} → gives x ≡ refuses why → ⊥
@@ -50,6 +53,11 @@ module _ (octets : List ℕ) where
 pub check-holds : {holds : Bool} → holds ≡ true → (why : Refusal) (checks : List Check) (xs : List ℕ) → checked ((why unless holds) ∷ checks) xs ≡ checked checks xs
 unfolding checked
 check-holds e why checks xs = rw e
+
+-- one that fails refuses
+pub check-fails : {holds : Bool} → holds ≡ false → (why : Refusal) (checks : List Check) (xs : List ℕ) → checked ((why unless holds) ∷ checks) xs ≡ refused why
+unfolding checked
+check-fails e why checks xs = rw e
 
 pub no-checks : (xs : List ℕ) → checked [] xs ≡ made xs (gives (length xs))
 unfolding checked
@@ -91,3 +99,14 @@ pub made-counts : {octets : List ℕ} {answer : Said ℕ} (checks : List Check) 
 unfolding checked
 made-counts {octets} [] xs e = let same : xs ≡ octets = cc in cc
 made-counts ((why unless test) ∷ checks) xs e = made-counts checks xs (made-if why test e .1)
+
+-- ---- lengths that all fit
+
+abbrev pub Fit : List (ℕ × ℕ) → Type 0
+Fit [] = Unit
+Fit (l ∷ lengths) = (l .0 ≤ l .1) × Fit lengths
+
+pub all-fit : (lengths : List (ℕ × ℕ)) → allFit lengths ≡ true → Fit lengths
+all-fit [] e = tt
+all-fit (l ∷ []) e = (leb-true (l .0) (l .1) e, tt)
+all-fit (l ∷ k ∷ lengths) e = let (a, more) = and-true (leb (l .0) (l .1)) (allFit (k ∷ lengths)) e in (leb-true (l .0) (l .1) a, all-fit (k ∷ lengths) more)

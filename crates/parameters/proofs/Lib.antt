@@ -2,8 +2,6 @@ pub mod Laws
 pub mod Agreeing
 pub mod Indicator
 pub mod StepsOfReader
-pub mod Outcomes
 pub mod Made
 pub mod Checking
 pub mod Limits
-pub mod OneOutcome

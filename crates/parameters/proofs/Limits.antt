@@ -2,14 +2,11 @@
 -- Assumes nothing.
 use Prim.Native.Nat.{ℕ, _≤_}
 use mathlib.Core.Path.{_≡_, sym, _∙_}
-use mathlib.Core.Bool.{Bool}
 use mathlib.Core.List.{List, _++_}
 use Rattle.octets.specs.Answers.{Said, gives, fine}
 use Rattle.octets.specs.Checks.{Check, found, checked}
-use Rattle.octets.specs.Choice.{if_then_else_}
-use Rattle.octets.specs.Lent.{Making, refused, made}
-use Rattle.octets.specs.declared.Refusal.the-variants.{LengthTooLarge}
-use Rattle.octets.proofs.Checks.{both-hold, passed, all-passed, made-unless, made-told}
+use Rattle.octets.specs.Lent.{Making, made}
+use Rattle.octets.proofs.Checks.{both-hold, passed, all-passed, made-told}
 use Rattle.parameters.specs.Checking.{dataWithin}
 use Rattle.parameters.specs.Limits.{Limits}
 use Rattle.parameters.specs.declared.OptionalOctet.{OptionalOctet}
@@ -32,16 +29,16 @@ module _ {R : Type 0} (within : ℕ → R → Making (Said ℕ)) (count : R → 
   }
 
 -- the checks of user data stand last
-module _ (long : Bool) (front : List Check) (dcs udl : OptionalOctet) (n : ℕ) (xs : List ℕ) where
+module _ (front : List Check) (dcs udl : OptionalOctet) (n : ℕ) (xs : List ℕ) where
   abbrev last : ℕ → List Check
   last limit = dataWithin limit dcs udl n
 
   abbrev pub writing : ℕ → Making (Said ℕ)
-  writing limit = if long then refused LengthTooLarge else checked (front ++ last limit) xs
+  writing limit = checked (front ++ last limit) xs
 
   module _ (limit : ℕ) (octets : List ℕ) (answer : Said ℕ) (e : writing limit ≡ made octets answer) where
     each-passes : (found front ≡ fine) × (found (last limit) ≡ fine)
-    each-passes = both-hold front (last limit) (made-told _ xs (made-unless LengthTooLarge long e .1) .0)
+    each-passes = both-hold front (last limit) (made-told _ xs e .0)
 
     pub keeps : n ≤ limit
     keeps = data-few limit dcs udl n (each-passes .1) .1
@@ -49,6 +46,5 @@ module _ (long : Bool) (front : List Check) (dcs udl : OptionalOctet) (n : ℕ) 
     pub moves : (other : ℕ) → n ≤ other → writing other ≡ made octets answer
     moves other h =
         let (f, d) = each-passes in
-        let (short, m) = made-unless LengthTooLarge long e in
         let here : checked (front ++ last limit) xs ≡ made xs (gives _) = all-passed xs (front ++ last limit) (passed (last limit) front f ∙ d) in
-        rw short (all-passed xs (front ++ last other) (passed (last other) front f ∙ data-moves limit other dcs udl n d h) ∙ sym here ∙ m)
+        all-passed xs (front ++ last other) (passed (last other) front f ∙ data-moves limit other dcs udl n d h) ∙ sym here ∙ e

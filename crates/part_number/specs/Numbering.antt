@@ -10,7 +10,6 @@ use Rattle.octets.specs.Answers.{Said, gives, refuses}
 use Rattle.octets.specs.Choice.{if_then_else_, within}
 use Rattle.octets.specs.declared.Refusal.the-variants.{HeaderNotWhole, HeaderPassesCount, ElementPassesHeader, NotAPart}
 use Rattle.coding.specs.Coding.{codingOf, characterSet}
-use Rattle.septets.specs.Septets.{headerSeptets}
 use Rattle.user_data_header.specs.Header.{headerOctets, inCount}
 use Rattle.header_elements.specs.Elements.{Element, element, elementsAfter, elementsOf, afterFirst}
 use Rattle.part_number.specs.declared.PartNumber.{PartNumber}

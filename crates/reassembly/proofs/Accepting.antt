@@ -31,8 +31,8 @@ use Rattle.deliver.specs.declared.reading.DeliverFound.{DeliverFound}
 use Rattle.part_number.specs.Numbering.{Numbering, numbered, numberingIn}
 use Rattle.part_number.specs.declared.Reference.{Reference}
 use Rattle.part_number.proofs.Range.{numbered-in-range}
-use Rattle.reassembly.specs.Part.{keyOf, arrivalOf}
-use Rattle.reassembly.specs.Store.{keyOctets, fits}
+use Rattle.message_store.specs.Part.{keyOf, arrivalOf}
+use Rattle.message_store.specs.Store.{keyOctets, fits}
 use Rattle.reassembly.specs.Calls.{SaidPart, unaccepted, placingAs, arriving, accepting}
 use Rattle.reassembly.proofs.Arrival.{Fits, read-fits}
 

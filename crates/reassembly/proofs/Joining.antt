@@ -1,22 +1,20 @@
 -- What joining a message and placing a part come to, case by case.
 -- Assumes nothing.
-use Prim.Native.Nat.{ℕ, suc, _+_, _-_, _*_, _≤_, _<_}
-use mathlib.Core.Path.{_≡_, refl, sym, ap, _∙_}
-use mathlib.Core.Bool.{true, false, not, _&&_}
-use mathlib.Core.List.{List, [], _∷_, _++_}
+use Prim.Native.Nat.{ℕ, _+_, _-_, _*_, _≤_, _<_}
+use mathlib.Core.Path.{_≡_, sym, ap, _∙_}
+use mathlib.Core.Bool.{true, false}
+use mathlib.Core.List.{List, _∷_, _++_}
 use native.Mathlib.Omega.{arith}
 use native.Mathlib.Numerals.{add-one}
 use borrow.Author.Tests.{eq-eqb, ne-eqb}
-use lib.Dec.{eqb}
 use lib.ListN.{length, getD, take, drop}
 use lib.Seq.{drop-cons}
-use Rattle.octets.specs.Choice.{if_then_else_}
 use Rattle.octets.specs.declared.Refusal.the-variants.{StoreFull, NotAPart}
 use Rattle.part_number.specs.declared.Reference.{Reference}
-use Rattle.reassembly.specs.Part.{Part}
-use Rattle.reassembly.specs.Store.{begins, isOpen, hasKey, codingIn, isHeld, partAt, block, slotAt, slotWith, freeSlot, openedWith, messageIn}
+use Rattle.message_store.specs.Part.{Part}
+use Rattle.message_store.specs.Store.{begins, codingIn, partAt, block, slotWith, freeSlot, openedWith, messageIn}
 use Rattle.reassembly.specs.Calls.{SaidPart, inSlot, told, unaccepted, storing, joining, placingAs}
-use Rattle.reassembly.proofs.Slots.{cut-is, slot-bounds, free-bounds}
+use Rattle.message_store.proofs.Slots.{cut-is, slot-bounds, free-bounds}
 
 module _ (r : Reference) (t n dcs : ℕ) (p : Part) (slot : List ℕ) where
   pub joins-coding : (codingIn slot ≡ dcs → ⊥) → (unaccepted NotAPart, slot) ≡ joining r t n dcs p slot

@@ -1,8 +1,3 @@
-pub mod First
-pub mod AtStart
-pub mod Slots
-pub mod Keys
-pub mod Shown
 pub mod Joining
 pub mod Arrival
 pub mod Accepting

@@ -6,9 +6,9 @@ use mathlib.Core.Bool.{true, false, _&&_}
 use mathlib.Core.List.{List, [], _∷_, _++_}
 use native.Mathlib.Nat.{add-zero, zero-add}
 use native.Mathlib.Omega.{arith}
-use borrow.Author.Tests.{eq-eqb, ne-eqb, lt-ltb, le-ltb, le-leb, lt-leb, leb-true, ltb-true, ltb-false}
+use borrow.Author.Tests.{ne-eqb, lt-ltb, le-ltb, le-leb, lt-leb, leb-true}
 use borrow.Rule.Slice.PartMut.{set-mid-at}
-use lib.Dec.{eqb, leb, ltb}
+use lib.Dec.{leb, ltb}
 use lib.ListN.{length, getD, set, take, drop, replicate}
 use lib.Seq.{sets, getD-drop, getD-take}
 use mathlib.Core.Logic.{⊎-elim}
@@ -22,12 +22,12 @@ use Rattle.octets.proofs.Laws.{sets-start}
 use Rattle.octets.proofs.Places.{given}
 use Rattle.address.specs.declared.SMSAddress.{SMSAddress}
 use Rattle.part_number.specs.declared.Reference.{Reference}
-use Rattle.reassembly.specs.Part.{keyOf}
-use Rattle.reassembly.specs.Store.{begins, isOpen, hasKey, keyOctets, slotFits, closed, slotAt, withSlot, slotWith, slotOf, fits, Message, messageIn, missingOf, shownOf}
-use Rattle.reassembly.specs.Calls.{Taken, whole, notOpen, notWhole, Dropping, dropped, wasNotOpen, messageMaking, handing, finding, findingBy, takingFrom, droppingFrom, takingBy, droppingBy}
-use Rattle.reassembly.proofs.AtStart.{begins-is}
-use Rattle.reassembly.proofs.Keys.{written-cut}
-use Rattle.reassembly.proofs.Slots.{Room, slot-size, cut-is, slot-bounds, found-has, fits-room, fits-slot}
+use Rattle.message_store.specs.Part.{keyOf}
+use Rattle.message_store.specs.Store.{begins, isOpen, hasKey, keyOctets, slotFits, closed, slotAt, withSlot, slotWith, fits, Message, messageIn, missingOf, shownOf}
+use Rattle.reassembly.specs.Calls.{Taken, whole, notOpen, notWhole, Dropping, dropped, wasNotOpen, messageMaking, handing, finding, findingBy, takingBy, droppingBy}
+use Rattle.message_store.proofs.AtStart.{begins-is}
+use Rattle.message_store.proofs.Keys.{written-cut}
+use Rattle.message_store.proofs.Slots.{Room, slot-size, cut-is, slot-bounds, found-has, fits-room, fits-slot}
 
 no-length : (xs : List ℕ) → length xs ≡ 0 → xs ≡ []
 no-length [] e = refl

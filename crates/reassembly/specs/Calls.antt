@@ -1,7 +1,6 @@
 -- What the four calls answer, and every octet of the store and of a lent output afterwards.
 use Prim.Native.Nat.{ℕ}
-use mathlib.Core.Path.{_≡_, refl}
-use mathlib.Core.Bool.{Bool, true, false, not}
+use mathlib.Core.Bool.{not}
 use mathlib.Core.List.{List, [], _∷_, _++_}
 use lib.ListN.{length, drop, replicate}
 use lib.Dec.{eqb, leb, ltb}
@@ -20,8 +19,8 @@ use Rattle.part_number.specs.declared.Reference.the-variants.{Eight}
 use Rattle.reassembly.specs.declared.MessageDropped.{MessageDropped}
 use Rattle.reassembly.specs.declared.MessageTaken.{MessageTaken}
 use Rattle.reassembly.specs.declared.PartAccepted.{PartAccepted}
-use Rattle.reassembly.specs.Part.{Key, Part, Arrived, keyOf, arrivalOf}
-use Rattle.reassembly.specs.Store.{begins, isHeld, codingIn, block, keyOctets, openedWith, withPart, closed, storeOctets, slotAt, withSlot, slotWith, slotOf, freeSlot, fits, Message, messageIn, missingOf, shownOf}
+use Rattle.message_store.specs.Part.{Key, Part, Arrived, keyOf, arrivalOf}
+use Rattle.message_store.specs.Store.{begins, isHeld, codingIn, block, keyOctets, openedWith, withPart, closed, storeOctets, slotAt, withSlot, slotWith, slotOf, freeSlot, fits, Message, messageIn, missingOf, shownOf}
 
 -- ---- what the answers say
 

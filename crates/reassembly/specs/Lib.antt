@@ -1,4 +1,2 @@
-pub mod Part
-pub mod Store
 pub mod Calls
 pub mod Internal

@@ -3,9 +3,9 @@
 use Prim.Native.Nat.{ℕ, zero, _+_, _*_, _≤_, _<_}
 use mathlib.Core.Path.{_≡_, refl, sym, ap, _∙_, subst}
 use mathlib.Core.Bool.{Bool, true, false}
-use mathlib.Core.List.{List, [], _∷_, _++_}
+use mathlib.Core.List.{List, _++_}
 use mathlib.Core.Logic.{_⊎_, inl, inr}
-use mathlib.Core.Option.{Option, none, some}
+use mathlib.Core.Option.{none, some}
 use native.Mathlib.Omega.{arith}
 use borrow.Author.Tests.{eqb-true, eqb-false, le-leb, le-ltb}
 use lib.Dec.{eqb, leb}
@@ -27,13 +27,13 @@ use Rattle.deliver.specs.declared.SmsDeliver.{SmsDeliver}
 use Rattle.part_number.specs.Numbering.{Numbering, numberingIn}
 use Rattle.part_number.specs.declared.Reference.{Reference}
 use Rattle.part_number.proofs.Range.{numbered-in-range, numbered-header}
-use Rattle.reassembly.specs.Part.{Key, Named, Part, Arrived, keyOf, arrivedAs, arrivalOf}
-use Rattle.reassembly.specs.Store.{isOpen, belongs, slotFits, closed, storeOctets, slotAt, withSlot, slotWith, slotOf, fits, Message, messageIn, missingOf, shownOf, heldOf}
-use Rattle.reassembly.specs.Calls.{SaidPart, Taken, whole, notOpen, notWhole, Dropping, dropped, wasNotOpen, emptied, unaccepted, arriving, gathering, accepting, messageMaking, closedBy, handing, finding, findingBy, taking, takingFrom, takingBy, dropping, droppingFrom, droppingBy}
+use Rattle.message_store.specs.Part.{Key, Named, Arrived, keyOf, arrivedAs, arrivalOf}
+use Rattle.message_store.specs.Store.{isOpen, belongs, slotFits, closed, storeOctets, slotAt, withSlot, slotWith, slotOf, Message, messageIn, missingOf, shownOf, heldOf}
+use Rattle.reassembly.specs.Calls.{SaidPart, Taken, whole, notOpen, notWhole, Dropping, dropped, wasNotOpen, emptied, unaccepted, arriving, gathering, accepting, messageMaking, closedBy, handing, finding, findingBy, taking, takingBy, dropping, droppingBy}
 use Rattle.reassembly.proofs.Arrival.{Fits, read-fits}
-use Rattle.reassembly.proofs.First.{true-false, first-none}
-use Rattle.reassembly.proofs.Slots.{Room, slot-size, put-back}
-use Rattle.reassembly_claims.specs.Claims.{partRead, arrivalIn, OthersStay, Joined, Turned, takenOf, leftBy, Took, droppedOf, Dropped}
+use Rattle.message_store.proofs.First.{true-false, first-none}
+use Rattle.message_store.proofs.Slots.{Room, slot-size, put-back}
+use Rattle.reassembly_claims.specs.Claims.{partRead, arrivalIn, Joined, Turned, takenOf, Took, Dropped}
 use Rattle.reassembly_claims.proofs.Slot.{belongs-one, belongs-closed, length-closed, closed-closed, closed-fits}
 use Rattle.reassembly_claims.proofs.Held.{others-stay, is-gone, Sound, sound-fits, sound-after}
 use Rattle.reassembly_claims.proofs.Step.{some-none, Valid, slot-inside, slot-belongs, held-there, held-none, placing-does}

@@ -7,7 +7,7 @@ use mathlib.Core.List.{List, [], _∷_, _++_}
 use mathlib.Core.Logic.{_⊎_, inl, inr, _↔_}
 use mathlib.Core.Option.{Option, none, some}
 use native.Mathlib.Omega.{arith}
-use borrow.Author.Tests.{ltb-true, ltb-false, leb-true}
+use borrow.Author.Tests.{ltb-true, ltb-false}
 use lib.Dec.{ltb}
 use lib.ListN.{length, getD, take, drop, length-take}
 use lib.Seq.{getD-take, getD-drop}
@@ -23,19 +23,19 @@ use Rattle.coding.specs.Coding.{codingOf, dataOctets}
 use Rattle.coding.proofs.Laws.{data-at-most}
 use Rattle.address.specs.declared.SMSAddress.{SMSAddress}
 use Rattle.part_number.specs.declared.Reference.{Reference}
-use Rattle.reassembly.specs.Part.{Key, Named, Part, Arrived, keyOf, shownIn}
-use Rattle.reassembly.specs.Store.{isHeld, codingIn, partAt, block, keyOctets, partOf, holding, holdings, slotAt, slotOf, Message, messageIn, missingFrom, missingOf, shownOf, heldOf}
+use Rattle.message_store.specs.Part.{Key, Named, Part, Arrived, keyOf, shownIn}
+use Rattle.message_store.specs.Store.{isHeld, codingIn, partAt, block, keyOctets, partOf, holding, holdings, slotAt, slotOf, Message, messageIn, missingFrom, missingOf, heldOf}
 use Rattle.reassembly.specs.Calls.{SaidPart, Taken, whole, told, unaccepted, accepting, findingBy, taking, takingBy, dropping}
-use Rattle.reassembly.proofs.Shown.{length-holdings, shown-short}
-use Rattle.reassembly.proofs.Slots.{slot-bounds, found-has}
+use Rattle.message_store.proofs.Shown.{length-holdings, shown-short}
+use Rattle.message_store.proofs.Slots.{slot-bounds, found-has}
 use Rattle.reassembly.proofs.Taking.{total-few, found-is}
-use Rattle.reassembly_claims.specs.Claims.{Call, accept, after, afterAll, OnlyCalls, arrivalIn, Accepts, Accepted, Leaves, LeaveAll, heldWith, adding, SameCoding, GoesWith, SixteenOpen, Joined, Turned, takenOf, leftBy, Took, Dropped, Keeps, Among}
+use Rattle.reassembly_claims.specs.Claims.{Call, accept, after, afterAll, OnlyCalls, arrivalIn, Accepts, Accepted, LeaveAll, adding, GoesWith, SixteenOpen, Joined, Turned, takenOf, leftBy, Took, Dropped, Keeps, Among}
 use Rattle.reassembly_claims.proofs.Slot.{belongs-open, belongs-one, holding-at}
-use Rattle.reassembly_claims.proofs.Held.{SmallPart, Sound}
+use Rattle.reassembly_claims.proofs.Held.{Sound}
 use Rattle.reassembly_claims.proofs.Pigeonhole.{Shared, pigeonhole}
-use Rattle.reassembly_claims.proofs.Step.{some-none, none-at, Valid, slot-inside, slot-belongs, held-slot}
+use Rattle.reassembly_claims.proofs.Step.{some-none, none-at, slot-inside, slot-belongs, held-slot}
 use Rattle.reassembly_claims.proofs.Calls.{valid-arrival, Comes, accepting-does, taking-does, dropping-does}
-use Rattle.reassembly_claims.proofs.Made.{MadeOf, determined, made-of-accepted, sound-call, sound-calls, only-sound, joined-done, turned-not, keeps-calls, held-size}
+use Rattle.reassembly_claims.proofs.Made.{MadeOf, determined, made-of-accepted, sound-calls, only-sound, turned-not, keeps-calls}
 use Rattle.reassembly_claims.proofs.Sizes.{shown-few, small-shown, whole-is}
 
 -- ---- a part comes

@@ -1,23 +1,20 @@
 -- What a store holds of a message, once a slot is another.
 -- Assumes nothing.
-use Prim.Native.Nat.{ℕ, zero, suc, _+_, _-_, _*_, _≤_, _<_}
-use mathlib.Core.Path.{_≡_, refl, sym, ap, ap₂, _∙_}
-use mathlib.Core.Bool.{Bool, true, false, not, _&&_}
-use mathlib.Core.List.{List, [], _∷_, _++_}
-use mathlib.Core.Option.{Option, none, some}
+use Prim.Native.Nat.{ℕ, _+_, _-_, _*_, _≤_, _<_}
+use mathlib.Core.Path.{_≡_, refl, sym, ap, _∙_}
+use mathlib.Core.Bool.{Bool, true, false, not}
+use mathlib.Core.List.{List}
+use mathlib.Core.Option.{none, some}
 use native.Mathlib.Omega.{arith}
-use borrow.Author.Tests.{eqb-true, eqb-false, eq-eqb, ne-eqb, ltb-true, ltb-false, le-leb, leb-true}
-use lib.Dec.{eqb, ltb, leb}
-use lib.ListN.{length, getD, take, drop, length-drop}
-use lib.Seq.{length-take-le}
+use borrow.Author.Tests.{eqb-true, eqb-false, ne-eqb, ltb-true, ltb-false, le-leb}
+use lib.Dec.{eqb, ltb}
+use lib.ListN.{length}
 use Rattle.octets.specs.Choice.{if_then_else_}
-use Rattle.octets.proofs.Choice.{and-true}
-use Rattle.octets.proofs.Laws.{part-is}
 use Rattle.user_data_header.specs.Header.{headerOctets}
-use Rattle.reassembly.specs.Part.{Key, Named, Part}
-use Rattle.reassembly.specs.Store.{first, isOpen, hasKey, belongs, slotFits, holding, storeOctets, slotAt, withSlot, slotWith, slotOf, freeSlot, fits, Message, messageIn, heldOf}
-use Rattle.reassembly.proofs.First.{true-false, first-bounds, first-passes, first-before, first-none, first-is, first-same}
-use Rattle.reassembly.proofs.Slots.{Room, slot-size}
+use Rattle.message_store.specs.Part.{Key, Named, Part}
+use Rattle.message_store.specs.Store.{isOpen, belongs, slotFits, holding, slotAt, withSlot, slotWith, slotOf, fits, messageIn, heldOf}
+use Rattle.message_store.proofs.First.{true-false, first-bounds, first-passes, first-none, first-is, first-same}
+use Rattle.message_store.proofs.Slots.{Room}
 use Rattle.reassembly_claims.proofs.Runs.{length-replaced, same-slot, slot-before, slot-after}
 
 -- ---- one slot is another

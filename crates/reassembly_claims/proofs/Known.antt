@@ -11,9 +11,9 @@ use Rattle.octets.specs.Arrays.{pad}
 use Rattle.octets.specs.Lent.{lend}
 use Rattle.coding.specs.Coding.{codingOf, characterSet, dataOctets}
 use Rattle.part_number.specs.declared.Reference.{Reference}
-use Rattle.reassembly.specs.Part.{Key, Arrived, shownIn}
-use Rattle.reassembly.specs.Store.{begins, first, hasKey, belongs, slotFits, partOf, holding, holdings, keyOctets, openedWith, openedFor, withPart, slotWith, freeSlot, fits, messageIn, missingFrom, shownParts}
-use Rattle.reassembly.specs.Calls.{whole, placingAs, placing, joining, told, unaccepted, messageMaking, handing, finding, taking}
+use Rattle.message_store.specs.Part.{Key, Arrived, shownIn}
+use Rattle.message_store.specs.Store.{begins, first, hasKey, belongs, slotFits, partOf, holding, holdings, keyOctets, openedWith, openedFor, withPart, slotWith, freeSlot, fits, messageIn, missingFrom, shownParts}
+use Rattle.reassembly.specs.Calls.{whole, placingAs, placing, joining, told, messageMaking, handing, finding, taking}
 
 key : Key
 key = record { ton = 1; npi = 1; text = 0x31 ∷ 0x32 ∷ []; reference = Reference.Eight 7; total = 2 }

@@ -1,6 +1,6 @@
 -- What a store holds of a message depends on which of its parts were accepted since it was opened, and on nothing else.
 -- Assumes nothing.
-use Prim.Native.Nat.{ℕ, zero, suc, _+_, _-_, _≤_, _<_}
+use Prim.Native.Nat.{ℕ, _-_, _<_}
 use mathlib.Core.Path.{_≡_, refl, sym, ap, _∙_, subst}
 use mathlib.Core.Bool.{Bool, true, false}
 use mathlib.Core.List.{List, [], _∷_, append-nil}
@@ -11,22 +11,21 @@ use borrow.Author.Tests.{eqb-true, eqb-false}
 use lib.Dec.{eqb}
 use lib.ListN.{length, getD, set, replicate, length-set, length-replicate}
 use lib.Seq.{getD-set-same, getD-set-other, ext-getD}
-use Rattle.octets.specs.Answers.{Said, gives, refuses, fine}
+use Rattle.octets.specs.Answers.{Said, gives, fine}
 use Rattle.octets.specs.Choice.{if_then_else_}
-use Rattle.octets.specs.Each.{Octets}
 use Rattle.octets.specs.declared.Refusal.{Refusal}
 use Rattle.octets.specs.declared.Refusal.the-variants.{StoreFull, NotAPart}
 use Rattle.octets.proofs.Checks.{never}
 use Rattle.octets.proofs.Places.{given}
 use Rattle.part_number.specs.declared.Reference.{Reference}
-use Rattle.reassembly.specs.Part.{Key, Named, Part, Arrived}
-use Rattle.reassembly.specs.Store.{begins, keyOctets, slotAt, slotOf, Message, messageIn, heldOf}
-use Rattle.reassembly.specs.Calls.{SaidPart, Taken, Dropping, dropped, told, unaccepted, emptied, accepting, taking, dropping}
-use Rattle.reassembly.proofs.AtStart.{begins-itself}
-use Rattle.reassembly.proofs.First.{true-false}
-use Rattle.reassembly.proofs.Keys.{one-key}
-use Rattle.reassembly.proofs.Shown.{length-holdings}
-use Rattle.reassembly_claims.specs.Claims.{Call, accept, take, drop, after, afterAll, OnlyCalls, arrivalIn, Accepts, Accepted, Leaves, LeaveAll, adding, SameCoding, GoesWith, Joined, SixteenOpen, Turned, droppedOf, Dropped, Keeps}
+use Rattle.message_store.specs.Part.{Key, Named, Part, Arrived}
+use Rattle.message_store.specs.Store.{begins, keyOctets, slotAt, slotOf, Message, messageIn, heldOf}
+use Rattle.reassembly.specs.Calls.{SaidPart, told, unaccepted, emptied, accepting, taking, dropping}
+use Rattle.message_store.proofs.AtStart.{begins-itself}
+use Rattle.message_store.proofs.First.{true-false}
+use Rattle.message_store.proofs.Keys.{one-key}
+use Rattle.message_store.proofs.Shown.{length-holdings}
+use Rattle.reassembly_claims.specs.Claims.{Call, accept, take, drop, after, afterAll, OnlyCalls, Accepts, Accepted, Leaves, LeaveAll, adding, GoesWith, Joined, SixteenOpen, Turned, droppedOf, Dropped, Keeps}
 use Rattle.reassembly_claims.proofs.Held.{Sound}
 use Rattle.reassembly_claims.proofs.Step.{some-none, none-at, Valid}
 use Rattle.reassembly_claims.proofs.Calls.{valid-arrival, Comes, accepting-does, taking-does, dropping-does, begun-sound}

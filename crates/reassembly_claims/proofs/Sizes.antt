@@ -1,7 +1,7 @@
 -- How many octets a message that is taken has.
 -- Assumes nothing.
-use Prim.Native.Nat.{ℕ, zero, suc, _+_, _-_, _*_, _≤_, _<_}
-use mathlib.Core.Path.{_≡_, refl, sym, ap, _∙_}
+use Prim.Native.Nat.{ℕ, suc, _+_, _-_, _*_, _≤_}
+use mathlib.Core.Path.{_≡_, refl, sym}
 use mathlib.Core.Bool.{Bool, true, false}
 use mathlib.Core.List.{List, [], _∷_, _++_}
 use mathlib.Core.Option.{Option, none, some}
@@ -21,8 +21,8 @@ use Rattle.coding.specs.declared.UserDataCoding.the-variants.{Gsm7Bit, EightBit
 use Rattle.septets.specs.Septets.{headerSeptets, fillBits}
 use Rattle.gsm7.proofs.DecodingLaws.{text-short}
 use Rattle.user_data_header.specs.Header.{headerOctets}
-use Rattle.reassembly.specs.Part.{Part, textAfter, shownIn}
-use Rattle.reassembly.specs.Store.{slotAt, withSlot, Message, messageIn, missingOf, shownParts, shownOf}
+use Rattle.message_store.specs.Part.{Part, textAfter, shownIn}
+use Rattle.message_store.specs.Store.{slotAt, withSlot, Message, messageIn, missingOf, shownParts, shownOf}
 use Rattle.reassembly.specs.Calls.{Taken, whole, notOpen, notWhole, messageMaking, closedBy, handing, takingFrom}
 use Rattle.reassembly_claims.proofs.Held.{SmallPart}
 

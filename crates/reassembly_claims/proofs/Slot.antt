@@ -4,23 +4,22 @@ use Prim.Native.Nat.{ℕ, zero, suc, _+_, _-_, _*_, _/_, _%_, _≤_, _<_}
 use mathlib.Core.Path.{_≡_, refl, sym, ap, ap₂, _∙_}
 use mathlib.Core.Bool.{Bool, true, false, _&&_}
 use mathlib.Core.List.{List, [], _∷_, _++_, append-assoc}
-use mathlib.Core.Option.{Option, none, some}
+use mathlib.Core.Option.{none, some}
 use native.Mathlib.Nat.{add-suc, suc-add, add-zero}
 use native.Mathlib.Omega.{arith}
 use borrow.Author.Tests.{eqb-true, eqb-false, ltb-true, ltb-false, le-leb}
 use lib.Dec.{eqb, ltb}
 use lib.ListN.{length, getD, set, take, drop, replicate, length-set, length-replicate, getD-replicate, List·getD-append}
 use lib.Seq.{length-sets, take-at, take-take, drop-set-lt, getD-set-other, getD-set-same, ext-getD}
-use Rattle.octets.proofs.Choice.{and-true}
 use Rattle.octets.proofs.Laws.{sets-start}
 use Rattle.coding.specs.Coding.{codingOf, dataOctets}
 use Rattle.part_number.specs.declared.Reference.{Reference}
 use Rattle.part_number.specs.declared.Reference.the-variants.{Eight, Sixteen}
-use Rattle.reassembly.specs.Part.{Key, Named, Part}
-use Rattle.reassembly.specs.Store.{begins, isOpen, codingIn, isHeld, partAt, block, referenceOctets, keyOctets, hasKey, belongs, slotFits, partOf, holding, holdings, openedWith, openedFor, withPart, closed}
-use Rattle.reassembly.proofs.AtStart.{begins-itself, begins-first, begins-is, is-begins}
-use Rattle.reassembly.proofs.Keys.{length-key, one-key}
-use Rattle.reassembly.proofs.Shown.{length-holdings}
+use Rattle.message_store.specs.Part.{Key, Named, Part}
+use Rattle.message_store.specs.Store.{begins, isOpen, codingIn, isHeld, partAt, block, referenceOctets, keyOctets, hasKey, belongs, slotFits, partOf, holding, holdings, openedWith, openedFor, withPart, closed}
+use Rattle.message_store.proofs.AtStart.{begins-itself, begins-first, begins-is, is-begins}
+use Rattle.message_store.proofs.Keys.{length-key, one-key}
+use Rattle.message_store.proofs.Shown.{length-holdings}
 use Rattle.reassembly_claims.proofs.Runs.{cut-before, cut-after, getD-before, drop-there}
 
 -- a slot belongs to one message

@@ -1,6 +1,6 @@
 -- What becomes of a part that comes.
 -- Assumes nothing.
-use Prim.Native.Nat.{ℕ, zero, suc, _+_, _-_, _*_, _≤_, _<_}
+use Prim.Native.Nat.{ℕ, zero, suc, _+_, _-_, _≤_, _<_}
 use mathlib.Core.Path.{_≡_, refl, sym, ap, _∙_, subst}
 use mathlib.Core.Bool.{Bool, true, false, not}
 use mathlib.Core.List.{List, [], _∷_}
@@ -15,12 +15,12 @@ use Rattle.octets.specs.Choice.{if_then_else_}
 use Rattle.octets.specs.declared.Refusal.the-variants.{StoreFull, NotAPart}
 use Rattle.coding.specs.Coding.{codingOf, dataOctets}
 use Rattle.part_number.specs.declared.Reference.the-variants.{Eight}
-use Rattle.reassembly.specs.Part.{Key, Named, Part, Arrived}
-use Rattle.reassembly.specs.Store.{begins, isOpen, isHeld, codingIn, partAt, block, belongs, slotFits, holding, openedFor, withPart, slotAt, withSlot, slotWith, slotOf, freeSlot, Message, messageIn, heldOf}
+use Rattle.message_store.specs.Part.{Key, Named, Part, Arrived}
+use Rattle.message_store.specs.Store.{begins, isOpen, isHeld, codingIn, partAt, block, belongs, holding, openedFor, withPart, slotAt, withSlot, slotWith, slotOf, freeSlot, Message, messageIn, heldOf}
 use Rattle.reassembly.specs.Calls.{SaidPart, inSlot, told, unaccepted, storing, joining, placingAs, placing}
-use Rattle.reassembly.proofs.First.{true-false, first-bounds, first-passes, first-before}
-use Rattle.reassembly.proofs.Slots.{Room, slot-size, put-back}
-use Rattle.reassembly_claims.specs.Claims.{heldWith, adding, SameCoding, GoesWith, Joined, SixteenOpen, Turned}
+use Rattle.message_store.proofs.First.{true-false, first-bounds, first-passes, first-before}
+use Rattle.message_store.proofs.Slots.{slot-size, put-back}
+use Rattle.reassembly_claims.specs.Claims.{heldWith, adding, GoesWith, Joined, SixteenOpen, Turned}
 use Rattle.reassembly_claims.proofs.Slot.{belongs-one, belongs-closed, length-with, same-belongs, same-coding, still-open, with-fits, holds-it, holds-others, holding-at, holdings-with, length-opened, opened-belongs, opened-other, opened-coding, opened-holds, holdings-opened, opened-fits, same-held, held-same, held-not-none}
 use Rattle.reassembly_claims.proofs.Held.{others-stay, is-there, SmallPart, Small, Sound, sound-after}
 use Rattle.reassembly_claims.proofs.Pigeonhole.{Shared, pigeonhole}

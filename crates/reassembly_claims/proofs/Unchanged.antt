@@ -1,7 +1,7 @@
 -- A refusal changes no lent octet, whatever the store holds (demand 1).
 -- Assumes nothing.
 use Prim.Native.Nat.{ℕ}
-use mathlib.Core.Path.{_≡_, refl, sym, ap, _∙_}
+use mathlib.Core.Path.{_≡_, refl, ap, _∙_}
 use mathlib.Core.Bool.{Bool, true, false, not}
 use mathlib.Core.List.{List, _∷_, _++_}
 use lib.Dec.{eqb, leb}
@@ -16,10 +16,10 @@ use Rattle.layout.specs.Layout.{Reached, reached, halted, read}
 use Rattle.deliver.specs.Deliver.{deliver}
 use Rattle.deliver.specs.declared.SmsDeliver.{SmsDeliver}
 use Rattle.part_number.specs.declared.Reference.{Reference}
-use Rattle.reassembly.specs.Part.{Part, Arrived, arrivalOf}
-use Rattle.reassembly.specs.Store.{begins, codingIn, isHeld, block, keyOctets, openedWith, withPart, closed, slotAt, withSlot, slotWith, freeSlot, fits, Message, messageIn, missingOf, shownOf}
+use Rattle.message_store.specs.Part.{Part, Arrived, arrivalOf}
+use Rattle.message_store.specs.Store.{begins, codingIn, isHeld, block, keyOctets, openedWith, withPart, closed, slotAt, withSlot, slotWith, freeSlot, fits, Message, messageIn, missingOf, shownOf}
 use Rattle.reassembly.specs.Calls.{SaidPart, Taken, whole, notOpen, notWhole, Dropping, dropped, wasNotOpen, inSlot, told, unaccepted, storing, joining, placingAs, arriving, gathering, accepting, messageMaking, closedBy, handing, takingFrom, droppingFrom}
-use Rattle.reassembly.proofs.Slots.{put-back}
+use Rattle.message_store.proofs.Slots.{put-back}
 
 -- ---- accepting: where the answer is a refusal the list is as it was
 

@@ -14,8 +14,8 @@ use Rattle.octets.specs.declared.Refusal.the-variants.{StoreFull, NotAPart}
 use Rattle.layout.specs.Layout.{Reached, reached, halted, read}
 use Rattle.deliver.specs.Deliver.{deliver}
 use Rattle.deliver.specs.declared.SmsDeliver.{SmsDeliver}
-use Rattle.reassembly.specs.Part.{Key, Named, Part, Arrived, arrivalOf}
-use Rattle.reassembly.specs.Store.{storeOctets, Message, missingOf, heldOf}
+use Rattle.message_store.specs.Part.{Key, Named, Part, Arrived, arrivalOf}
+use Rattle.message_store.specs.Store.{storeOctets, Message, missingOf, heldOf}
 use Rattle.reassembly.specs.Calls.{SaidPart, Taken, whole, notOpen, notWhole, Dropping, dropped, wasNotOpen, told, unaccepted, emptied, accepting, messageMaking, taking, dropping}
 
 -- ---- calls, one after the other

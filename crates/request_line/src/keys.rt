@@ -9,9 +9,9 @@ use text_fields::fields::field_start;
 use text_fields::lists::entry;
 use text_fields::lists::entry_number;
 use text_fields::slices::after;
-use text_fields::slices::begins;
 use text_fields::slices::between;
 use text_fields::slices::find;
+use text_fields::slices::find_text;
 
 // ---- the keys by number, in the order of their names
 
@@ -154,27 +154,11 @@ fn key_of(field: &[u8]) -> usize {
     entry_number(&NAMES, between(field, 0, end + 1))
 }
 
-// Where the first field begins that begins with the name of a key; the end of the line if there is none.
-fn place_of(line: &[u8], name: &[u8]) -> usize {
-    let mut start = 0;
-    while start < line.len() {
-        let end = find(line, start, b' ');
-        if begins(between(line, start, end), name) {
-            return start;
-        }
-        if line.len() <= end {
-            return end;
-        }
-        start = end + 1;
-    }
-    start
-}
-
 // The value of a key.
 pub fn value(line: &[u8], key: usize) -> &[u8] {
     let names = NAMES;
     let name = entry(&names, key);
-    after(field_from(line, place_of(line, name)), name.len())
+    after(field_from(line, find_text(line, b' ', name)), name.len())
 }
 
 // Whether a line gives a SUBMIT without destination: three values are -.
@@ -197,7 +181,7 @@ fn against_key(kind: usize, line: &[u8], start: usize) -> usize {
     if form(kind, key) == NO_KEY {
         return reasons::UNKNOWN_KEY;
     }
-    if place_of(line, entry(&NAMES, key)) != start {
+    if find_text(line, b' ', entry(&NAMES, key)) != start {
         return reasons::KEY_GIVEN_TWICE;
     }
     reasons::NONE

@@ -118,27 +118,6 @@ fn answer_rewritten(
     fields::written(out, at, w, &lent, show)
 }
 
-// The answer to a request whose last field holds these octets.
-fn answer_octets(
-    request: Request,
-    line: &[u8],
-    octets: &[u8],
-    store: &mut Store,
-    show: bool,
-    out: &mut Output,
-    at: usize,
-) -> usize {
-    match request {
-        Request::Read(reader) => answer_read(reader, octets, show, out, at),
-        Request::Rewrite(reader) => answer_rewritten(reader, octets, show, out, at),
-        Request::Convert(number) => conversions::answer(number, line, octets, show, out, at),
-        Request::Gather(number) => gathering::answer(number, line, octets, store, show, out, at),
-        Request::Write(kind, to_standard) => {
-            writing::answer(kind, to_standard, line, show, out, at)
-        }
-    }
-}
-
 // The answer to a request that is well formed.
 fn answer_request(
     request: Request,
@@ -148,9 +127,18 @@ fn answer_request(
     out: &mut Output,
     at: usize,
 ) -> usize {
-    let mut octets = [0u8; 4096];
-    let n = values::octets_of(last_field(line), &mut octets);
-    answer_octets(request, line, between(&octets, 0, n), store, show, out, at)
+    let mut array = [0u8; 4096];
+    let n = values::octets_of(last_field(line), &mut array);
+    let octets = between(&array, 0, n);
+    match request {
+        Request::Read(reader) => answer_read(reader, octets, show, out, at),
+        Request::Rewrite(reader) => answer_rewritten(reader, octets, show, out, at),
+        Request::Convert(number) => conversions::answer(number, line, octets, show, out, at),
+        Request::Gather(number) => gathering::answer(number, line, octets, store, show, out, at),
+        Request::Write(kind, to_standard) => {
+            writing::answer(kind, to_standard, line, show, out, at)
+        }
+    }
 }
 
 // The answer to a line, without its end.

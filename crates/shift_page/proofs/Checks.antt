@@ -2,17 +2,17 @@
 -- Assumes nothing.
 use Prim.Native.Nat.{ℕ, _+_, _<_, _≤_}
 use mathlib.Core.Path.{_≡_, _∙_}
-use mathlib.Core.Bool.{true, false, not}
+use mathlib.Core.Bool.{true, false}
 use mathlib.Core.List.{List, [], _∷_, _++_, append-assoc, map}
 use mathlib.Core.Logic.{_↔_}
 use native.Mathlib.Numerals.{add-one}
 use native.Mathlib.Omega.{arith}
-use borrow.Author.Tests.{leb-true, not-true}
+use borrow.Author.Tests.{leb-true}
 use lib.Dec.{leb, eqb}
 use lib.ListN.{length, getD, take, drop, drop-of-length-le}
 use lib.Seq.{drop-cons, getD-take, length-take-le}
 use Rattle.octets.specs.Answers.{fine, refuses}
-use Rattle.octets.specs.Checks.{found, _unless_}
+use Rattle.octets.specs.Checks.{found, _unless_, allFit}
 use Rattle.octets.specs.Choice.{within}
 use Rattle.octets.specs.Each.{each}
 use Rattle.octets.specs.declared.Refusal.{Refusal}
@@ -24,7 +24,7 @@ use Rattle.time.specs.Time.{isHex, isTime, digitsOf}
 use Rattle.time.proofs.Laws.{time-means}
 use Rattle.address.specs.Address.{textHeld}
 use Rattle.parameters.specs.declared.OptionalOctet.the-variants.{Absent}
-use Rattle.status_report.specs.StatusReport.{tooLong}
+use Rattle.status_report.specs.StatusReport.{lengthsOf}
 use Rattle.status_report.specs.declared.SmsStatusReport.{SmsStatusReport}
 use Rattle.shift_page.specs.ShiftPage.{printable, reportChecks, reportsChecks, reportLine, ended}
 
@@ -37,11 +37,11 @@ module _ (r : SmsStatusReport) where
   abbrev pub dischargeOf : List ℕ
   dischargeOf = digitsOf (r .«tp_discharge_time»)
 
-  pub lengths-against : tooLong r ≡ true → found (reportChecks r) ≡ refuses LengthTooLarge
+  pub lengths-against : allFit (lengthsOf r) ≡ false → found (reportChecks r) ≡ refuses LengthTooLarge
   unfolding reportChecks
   lengths-against e = rw e
 
-  module _ (e : tooLong r ≡ false) where
+  module _ (e : allFit (lengthsOf r) ≡ true) where
     pub recipient-against : printable recipientOf ≡ false → found (reportChecks r) ≡ refuses RecipientNotPrintable
     unfolding reportChecks
     recipient-against p = rw (e, p)
@@ -57,7 +57,7 @@ module _ (r : SmsStatusReport) where
 
   -- a record that passes
   pub record Passed : Type 0 where
-    pub lengths : tooLong r ≡ false
+    pub lengths : allFit (lengthsOf r) ≡ true
     pub short : length recipientOf ≤ 20
     pub shown : each (within 0x20 0x7e) recipientOf ≡ true
     pub long : length dischargeOf ≡ 14
@@ -66,12 +66,12 @@ module _ (r : SmsStatusReport) where
   pub fine-told : found (reportChecks r) ≡ fine → Passed
   unfolding reportChecks printable isTime
   fine-told e =
-      let (l, f) = holds LengthTooLarge (not (tooLong r)) ((RecipientNotPrintable unless printable recipientOf) ∷ (NotATime unless isTime dischargeOf) ∷ []) e in
+      let (l, f) = holds LengthTooLarge (allFit (lengthsOf r)) ((RecipientNotPrintable unless printable recipientOf) ∷ (NotATime unless isTime dischargeOf) ∷ []) e in
       let (p, g) = holds RecipientNotPrintable (printable recipientOf) ((NotATime unless isTime dischargeOf) ∷ []) f in
       let (t, h) = holds NotATime (isTime dischargeOf) [] g in
       let (short, shown) = and-true (leb (length recipientOf) 20) (each (within 0x20 0x7e) recipientOf) p in
       record {
-        lengths = not-true (tooLong r) l;
+        lengths = l;
         short = leb-true (length recipientOf) 20 short;
         shown = shown;
         long = time-means dischargeOf .0 t .0;

@@ -9,7 +9,6 @@ use native.Mathlib.Omega.{arith}
 use borrow.Author.Tests.{lt-ltb, le-ltb, ltb-true, ltb-false, eqb-true, ne-eqb, leb-true}
 use lib.Dec.{eqb, ltb}
 use lib.ListN.{length, take, replicate, length-append, length-map, List·getD-eq-default}
-use lib.Seq.{length-take-le}
 use Rattle.octets.specs.Answers.{gives, refuses, fine}
 use Rattle.octets.specs.Checks.{found}
 use Rattle.octets.specs.Choice.{within}
@@ -26,8 +25,8 @@ use Rattle.time.specs.Time.{hexDigit, inHex, isHex}
 use Rattle.status_report.specs.declared.SmsStatusReport.{SmsStatusReport}
 use Rattle.shift_page.specs.ShiftPage.{left, right, fields, heading, reportLine, totalLine, ended, shiftPage, reportChecks, reportsChecks, paging}
 use Rattle.shift_page.specs.Told.{inLine, numberAfter, totalIn}
-use Rattle.shift_page.proofs.Lines.{length-left, length-fields, ended-append}
-use Rattle.shift_page.proofs.Checks.{recipientOf, dischargeOf, Passed, fine-told}
+use Rattle.shift_page.proofs.Lines.{length-fields, ended-append}
+use Rattle.shift_page.proofs.Checks.{recipientOf, dischargeOf, fine-told}
 
 -- ---- lines: 38 characters, none a line feed
 

@@ -3,7 +3,6 @@
 use Prim.Native.Nat.{ℕ, zero, suc, _+_, _*_, _/_, _%_, _<_, _≤_}
 use Prim.Native.Char.{code}
 use mathlib.Core.Path.{_≡_, refl, sym, ap, _∙_}
-use mathlib.Core.Bool.{true, false}
 use mathlib.Core.List.{List, [], _∷_, _++_, map}
 use native.Mathlib.Numerals.{add-one}
 use native.Mathlib.Nat.{not-suc-le-zero}
@@ -11,10 +10,10 @@ use native.Mathlib.Omega.{arith}
 use borrow.Author.Tests.{ltb-false}
 use lib.Dec.{ltb}
 use lib.ListN.{length, getD, take, drop, length-append, length-map, length-take, List·getD-append, List·getD-map}
-use lib.Seq.{length-take-le, take-at, drop-at, getD-at, take-all, drop-append-add, getD-append-add}
+use lib.Seq.{length-take-le, take-at, getD-at, take-all, drop-append-add, getD-append-add}
 use Rattle.octets.specs.Answers.{Said, gives, refuses, fine}
 use Rattle.octets.specs.Checks.{found}
-use Rattle.octets.specs.Each.{Octets, each}
+use Rattle.octets.specs.Each.{Octets}
 use Rattle.octets.specs.Lent.{made, lend}
 use Rattle.octets.specs.declared.Refusal.the-variants.{TooManyRecords}
 use Rattle.octets.proofs.Checks.{both-hold, made-told, made-unless, made-counts}
@@ -25,10 +24,10 @@ use Rattle.layout.proofs.Answered.{written}
 use Rattle.status_report.specs.StatusReport.{blank, cleared, Typed}
 use Rattle.status_report.specs.declared.SmsStatusReport.{SmsStatusReport}
 use Rattle.shift_page.specs.ShiftPage.{left, fields, heading, reportLine, totalLine, ended, shiftPage, reportChecks, reportsChecks, paging}
-use Rattle.shift_page.specs.Told.{lineAt, endAt, inLine, trimmed, toldBy, toldOf, totalIn, Tells}
+use Rattle.shift_page.specs.Told.{lineAt, endAt, toldBy, toldOf, Tells}
 use Rattle.shift_page.proofs.Lines.{length-left, left-full}
 use Rattle.shift_page.proofs.Trimmed.{trimmed-left}
-use Rattle.shift_page.proofs.Checks.{recipientOf, dischargeOf, Passed, fine-told}
+use Rattle.shift_page.proofs.Checks.{recipientOf, dischargeOf, fine-told}
 use Rattle.shift_page.proofs.Page.{Line, Lines, one-more, total-line, page-lines, page-size}
 
 -- ---- line after line

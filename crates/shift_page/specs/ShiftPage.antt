@@ -2,13 +2,13 @@
 use Prim.Native.Nat.{ℕ, _-_}
 use Prim.Native.Char.{code}
 use mathlib.Core.Path.{_≡_, refl}
-use mathlib.Core.Bool.{Bool, false, not, _&&_}
+use mathlib.Core.Bool.{Bool, false, _&&_}
 use mathlib.Core.List.{List, [], _∷_, _++_, map}
 use lib.Dec.{leb, ltb}
 use lib.ListN.{length, take, replicate}
 use Rattle.octets.specs.Answers.{Said}
 use Rattle.octets.specs.Arrays.{pad}
-use Rattle.octets.specs.Checks.{Check, _unless_, checked}
+use Rattle.octets.specs.Checks.{Check, _unless_, checked, allFit}
 use Rattle.octets.specs.Choice.{if_then_else_, within}
 use Rattle.octets.specs.Decimal.{significant, decimalText}
 use Rattle.octets.specs.Each.{each}
@@ -19,7 +19,7 @@ use Rattle.coding.specs.Coding.{dataWith}
 use Rattle.time.specs.Time.{hexDigit, inHex, isTime, timeIn, digitsOf}
 use Rattle.address.specs.Address.{addressWith, textHeld}
 use Rattle.parameters.specs.declared.OptionalOctet.the-variants.{Absent}
-use Rattle.status_report.specs.StatusReport.{tooLong}
+use Rattle.status_report.specs.StatusReport.{lengthsOf}
 use Rattle.status_report.specs.declared.SmsStatusReport.{SmsStatusReport}
 
 -- ---- columns
@@ -67,7 +67,7 @@ printable text = leb (length text) 20 && each (within 0x20 0x7e) text
 
 -- of a record: 1, 34, 12
 unfoldable pub reportChecks : SmsStatusReport → List Check
-reportChecks r = (LengthTooLarge unless not (tooLong r)) ∷ (RecipientNotPrintable unless printable (textHeld (r .«tp_recipient_address»))) ∷ (NotATime unless isTime (digitsOf (r .«tp_discharge_time»))) ∷ []
+reportChecks r = (LengthTooLarge unless allFit (lengthsOf r)) ∷ (RecipientNotPrintable unless printable (textHeld (r .«tp_recipient_address»))) ∷ (NotATime unless isTime (digitsOf (r .«tp_discharge_time»))) ∷ []
 
 -- of records, in their order
 unfoldable pub reportsChecks : List SmsStatusReport → List Check

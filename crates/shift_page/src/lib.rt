@@ -41,7 +41,7 @@ fn check_report(r: SmsStatusReport) -> Checked
     let m = r.tp_service_centre_timestamp.length;
     let l = r.tp_discharge_time.length;
     let k = r.tp_user_data.length;
-    if (290 < n) | ((14 < m) | ((14 < l) | (255 < k))) {
+    if !((n <= 290) & ((m <= 14) & ((l <= 14) & (k <= 255)))) {
         return Checked::Against(Refusal::LengthTooLarge);
     }
     let recipient = r.tp_recipient_address.address;

@@ -1,6 +1,6 @@
 -- Demand 3 of STATUS-REPORT, and that its writer looks at nothing that is no part of a record.
 -- Assumes nothing.
-use Prim.Native.Nat.{ℕ, _≤_, _<_}
+use Prim.Native.Nat.{ℕ, _≤_}
 use mathlib.Core.Path.{_≡_, refl, sym, ap, _∙_}
 use mathlib.Core.Bool.{true, false}
 use mathlib.Core.List.{List, [], _∷_, _++_, append-nil}
@@ -12,8 +12,7 @@ use Rattle.octets.specs.Checks.{checked}
 use Rattle.octets.specs.Choice.{if_then_else_}
 use Rattle.octets.specs.Each.{Octets}
 use Rattle.octets.specs.Lent.{refused}
-use Rattle.octets.specs.declared.Refusal.the-variants.{NotATime, AddressTooLong}
-use Rattle.octets.proofs.Table.{below}
+use Rattle.octets.specs.declared.Refusal.the-variants.{LengthTooLarge, NotATime, AddressTooLong}
 use Rattle.octets.proofs.Checks.{check-holds}
 use Rattle.octets.proofs.Laws.{take-cleared}
 use Rattle.coding.specs.Coding.{dataWith}
@@ -23,7 +22,8 @@ use Rattle.time.proofs.Laws.{octets-back, digits-time, length-digits, time-held
 use Rattle.address.specs.Address.{canonicalAddress}
 use Rattle.address.proofs.Laws.{address-cleared, canonical-reads, octets-again, length-short, read-checked, Field as AddressField}
 use Rattle.layout.specs.Demand.{Demand3}
-use Rattle.layout.specs.Layout.{Field, any, first, octet, octets, address, indicator, done, standsAs, joined, anyPastLimit, messageType, kept, isSet, reached, read, canonicalOf, unwritable}
+use Rattle.layout.specs.Layout.{Field, any, first, octet, octets, address, indicator, done, standsAs, joined, anyPastLimit, messageType, kept, firstOctet, reached, read, canonicalOf, unwritable}
+use Rattle.layout.proofs.FirstOctet.{flagsIn, told-first}
 use Rattle.layout.proofs.Makes.{Makes, makes-then}
 use Rattle.layout.proofs.Demand.{Answers, answers-checked, Writes, demand3, answers-plain}
 use Rattle.parameters.specs.Layout.{parameters}
@@ -37,7 +37,7 @@ use Rattle.status_report.proofs.RecordWritten.{fits}
 use Rattle.status_report.specs.declared.SmsStatusReport.{SmsStatusReport}
 use Rattle.status_report.specs.Layout.{Fields, bits, fields}
 use Rattle.status_report.specs.Internal.{fieldsWith}
-use Rattle.status_report.specs.StatusReport.{statusReported, format, statusReport, firstWith, octetsOf, optionalChecks, statusReportingWithin, statusReporting, cleared, Typed}
+use Rattle.status_report.specs.StatusReport.{statusReported, format, statusReport, octetsOf, optionalChecks, statusReportingWithin, statusReporting, cleared, Typed}
 
 -- ---- what is no part of a record
 
@@ -63,11 +63,7 @@ made-cleared x = rw (address-cleared (x .ra), time-cleared (x .scts), time-clear
 
 -- ---- a record that was read: its octets, and how its checks fare
 
-first-octet : (x : ℕ) → x < 256 → eqb (messageType (kept bits x)) 2 ≡ true → (let f = kept bits x in firstWith (isSet 6 f) (isSet 5 f) (isSet 3 f) (isSet 2 f) ≡ f)
-unfolding kept
-first-octet x h m = eqb-true _ _ (rw m at (below (λ x. if eqb (messageType (kept bits x)) 2 then (let f = kept bits x in eqb (firstWith (isSet 6 f) (isSet 5 f) (isSet 3 f) (isSet 2 f)) f) else true) 256 refl x h))
-
-module _ (x : ℕ) (hx : x < 256) (mti : eqb (messageType (kept bits x)) 2 ≡ true) (mr : ℕ) (f : List ℕ) (wf : AddressField f) (t : List ℕ) (ot : Octets t) (wt : 7 ≡ length t) (u : List ℕ) (ou : Octets u) (wu : 7 ≡ length u) (st : ℕ) where
+module _ (x : ℕ) (mti : eqb (messageType (kept bits x)) 2 ≡ true) (mr : ℕ) (f : List ℕ) (wf : AddressField f) (t : List ℕ) (ot : Octets t) (wt : 7 ≡ length t) (u : List ℕ) (ou : Octets u) (wu : 7 ≡ length u) (st : ℕ) where
   abbrev make : OptionalOctet → Parameters → SmsStatusReport
   make pi p = statusReported (fieldsWith (kept bits x) mr (canonicalAddress f) t u st pi p)
 
@@ -81,14 +77,14 @@ module _ (x : ℕ) (hx : x < 256) (mti : eqb (messageType (kept bits x)) 2 ≡ t
 
     its-octets : octetsOf (make pi p) ≡ octetsRead
     unfolding statusReported
-    its-octets = rw (canonical-reads f wf, first-octet x hx mti, octets-again f wf, time-held t, time-held u, octets-back t ot, octets-back u ou, data-held (p .ud))
+    its-octets = rw (canonical-reads f wf, ap (λ n. firstOctet n (flagsIn bits (kept bits x))) (sym (eqb-true _ 2 mti)) ∙ told-first bits refl x, octets-again f wf, time-held t, time-held u, octets-back t ot, octets-back u ou, data-held (p .ud))
 
     its-making : statusReporting (make pi p) ≡ (if ltb 12 (length (canonicalAddress f)) then refused AddressTooLong else checked (optionalChecks 140 pi p) octetsRead)
     unfolding statusReportingWithin statusReported timeIn dataWith
     its-making =
         let short : length (timeDigits t) ≤ 14 = omega (arith, length-digits t) in
         let brief : length (timeDigits u) ≤ 14 = omega (arith, length-digits u) in
-        rw (fits (make pi p) (rw (canonical-reads f wf) (length-short f wf)) short brief few, its-octets)
+        rw (check-holds (fits (make pi p) (rw (canonical-reads f wf) (length-short f wf)) short brief few) LengthTooLarge, its-octets)
         (rw (canonical-reads f wf, data-held (p .ud), read-checked f wf)
         (rw (time-held t, time-held u, check-holds (digits-time t ot (sym wt)) NotATime, check-holds (digits-time u ou (sym wu)) NotATime)))
 
@@ -112,8 +108,8 @@ module _ (x : ℕ) (hx : x < 256) (mti : eqb (messageType (kept bits x)) 2 ≡ t
 fields-make : Makes (λ x cs. Writes cleared statusReporting octetsOf (statusReported x) cs) fields
 unfolding fields
 fields-make x hx mti mr hm f wf t ot wt u ou wu st hs = (
-  ended x hx mti mr f wf t ot wt u ou wu st,
-  λ i low. makes-then (Held i) _ (parameters i) _ (parameters-make i) λ p ds h. rw append-nil (with-indicator x hx mti mr f wf t ot wt u ou wu st i p ds h),
+  ended x mti mr f wf t ot wt u ou wu st,
+  λ i low. makes-then (Held i) _ (parameters i) _ (parameters-make i) λ p ds h. rw append-nil (with-indicator x mti mr f wf t ot wt u ou wu st i p ds h),
 )
 
 reported-makes : Makes (Writes cleared statusReporting octetsOf) format

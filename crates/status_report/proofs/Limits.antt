@@ -8,11 +8,10 @@ use borrow.Author.Tests.{eqb-true}
 use lib.Dec.{eqb}
 use lib.ListN.{length, length-append}
 use Rattle.octets.specs.Answers.{Said, fine}
-use Rattle.octets.specs.Checks.{Check, _unless_, found, checked}
-use Rattle.octets.specs.Choice.{if_then_else_}
-use Rattle.octets.specs.Lent.{Making, refused, made}
+use Rattle.octets.specs.Checks.{Check, _unless_, found, checked, allFit}
+use Rattle.octets.specs.Lent.{Making, made}
 use Rattle.octets.specs.declared.Refusal.the-variants.{LengthTooLarge, NotATime, ParametersWithoutIndicator}
-use Rattle.octets.proofs.Checks.{holds, both-hold, made-unless, made-told}
+use Rattle.octets.proofs.Checks.{holds, both-hold, made-told}
 use Rattle.coding.specs.Coding.{dataOf}
 use Rattle.time.specs.Time.{isTime, digitsOf}
 use Rattle.address.specs.Address.{textHeld}
@@ -23,7 +22,7 @@ use Rattle.parameters.specs.Parameters.{Parameters, parametersOctets}
 use Rattle.parameters.specs.declared.OptionalOctet.{OptionalOctet}
 use Rattle.parameters.specs.declared.OptionalOctet.the-variants.{Absent, Present}
 use Rattle.parameters.proofs.Limits.{limits, keeps, moves, writing}
-use Rattle.status_report.specs.StatusReport.{tooLong, parametersOf, octetsOf, optionalChecks, statusReportingWithin}
+use Rattle.status_report.specs.StatusReport.{lengthsOf, parametersOf, octetsOf, optionalChecks, statusReportingWithin}
 use Rattle.status_report.specs.declared.SmsStatusReport.{SmsStatusReport}
 
 abbrev count : SmsStatusReport → ℕ
@@ -33,11 +32,11 @@ count r = length (dataOf (r .«tp_user_data»))
 abbrev front : SmsStatusReport → List Check
 front r =
     let recipient = r .«tp_recipient_address» in
-    addressChecks (recipient .ton) (recipient .npi) (textHeld recipient) ++ (NotATime unless isTime (digitsOf (r .«tp_service_centre_timestamp»))) ∷ (NotATime unless isTime (digitsOf (r .«tp_discharge_time»))) ∷ []
+    (LengthTooLarge unless allFit (lengthsOf r)) ∷ (addressChecks (recipient .ton) (recipient .npi) (textHeld recipient) ++ ((NotATime unless isTime (digitsOf (r .«tp_service_centre_timestamp»))) ∷ (NotATime unless isTime (digitsOf (r .«tp_discharge_time»))) ∷ []))
 
 -- what is made with an indicator or none
 abbrev with : SmsStatusReport → OptionalOctet → ℕ → Making (Said ℕ)
-with r pi limit = if tooLong r then refused LengthTooLarge else checked (front r ++ optionalChecks limit pi (parametersOf r)) (octetsOf r)
+with r pi limit = checked (front r ++ optionalChecks limit pi (parametersOf r)) (octetsOf r)
 
 optional-last : (limit : ℕ) (r : SmsStatusReport) → statusReportingWithin limit r ≡ with r (r .«tp_parameter_indicator») limit
 unfolding statusReportingWithin
@@ -57,19 +56,19 @@ module _ (r : SmsStatusReport) (i : ℕ) where
   abbrev indicated : List Check
   indicated = indicatorChecks i (r .«tp_pid») (r .«tp_dcs») (r .«tp_user_data_length»)
 
-  data-last : (limit : ℕ) → with r (Present i) limit ≡ writing (tooLong r) (front r ++ indicated) (r .«tp_dcs») (r .«tp_user_data_length») (count r) (octetsOf r) limit
+  data-last : (limit : ℕ) → with r (Present i) limit ≡ writing (front r ++ indicated) (r .«tp_dcs») (r .«tp_user_data_length») (count r) (octetsOf r) limit
   unfolding optionalChecks
   data-last limit = rw (append-assoc (front r) indicated (dataWithin limit (r .«tp_dcs») (r .«tp_user_data_length») (count r)))
 
 module _ (r : SmsStatusReport) (limit : ℕ) (octets : List ℕ) (answer : Said ℕ) where
   keeps-with : (pi : OptionalOctet) → with r pi limit ≡ made octets answer → count r ≤ limit
-  keeps-with Absent e = omega (arith, none-held limit (parametersOf r) (both-hold (front r) (optionalChecks limit Absent (parametersOf r)) (made-told _ _ (made-unless LengthTooLarge (tooLong r) e .1) .0) .1))
-  keeps-with (Present i) e = keeps (tooLong r) (front r ++ indicated r i) _ _ (count r) (octetsOf r) limit octets answer (sym (data-last r i limit) ∙ e)
+  keeps-with Absent e = omega (arith, none-held limit (parametersOf r) (both-hold (front r) (optionalChecks limit Absent (parametersOf r)) (made-told _ _ e .0) .1))
+  keeps-with (Present i) e = keeps (front r ++ indicated r i) _ _ (count r) (octetsOf r) limit octets answer (sym (data-last r i limit) ∙ e)
 
   moves-with : (other : ℕ) (pi : OptionalOctet) → with r pi limit ≡ made octets answer → count r ≤ other → with r pi other ≡ made octets answer
   unfolding optionalChecks
   moves-with other Absent e h = e
-  moves-with other (Present i) e h = data-last r i other ∙ moves (tooLong r) (front r ++ indicated r i) _ _ (count r) (octetsOf r) limit octets answer (sym (data-last r i limit) ∙ e) other h
+  moves-with other (Present i) e h = data-last r i other ∙ moves (front r ++ indicated r i) _ _ (count r) (octetsOf r) limit octets answer (sym (data-last r i limit) ∙ e) other h
 
 pub status-report-limits : Limits statusReportingWithin count
 status-report-limits =

@@ -1,14 +1,13 @@
 -- SMS-STATUS-REPORT (TS 23.040 §9.2.2.3): the record that its fields make, what its writers make of a record, and what is no part of one.
-use Prim.Native.Nat.{ℕ, _+_}
+use Prim.Native.Nat.{ℕ}
 use mathlib.Core.Path.{_≡_, refl}
-use mathlib.Core.Bool.{Bool, false, _||_}
+use mathlib.Core.Bool.{Bool, false}
 use mathlib.Core.List.{List, [], _∷_, _++_}
-use lib.Dec.{eqb, ltb}
+use lib.Dec.{eqb}
 use lib.ListN.{length, drop}
 use Rattle.octets.specs.Answers.{Said, outcomeSays, refuses, fine}
-use Rattle.octets.specs.Checks.{Check, _unless_, found, checked}
-use Rattle.octets.specs.Choice.{if_then_else_, flag}
-use Rattle.octets.specs.Lent.{Making, refused}
+use Rattle.octets.specs.Checks.{Check, _unless_, found, checked, allFit}
+use Rattle.octets.specs.Lent.{Making}
 use Rattle.octets.specs.declared.Refusal.the-variants.{LengthTooLarge, UserDataTooLong, NotATime, ParametersWithoutIndicator}
 use Rattle.coding.specs.Coding.{codingOf, characterSet, dataOctets, dataWith, dataOf, clearedData, TypedData}
 use Rattle.coding.specs.declared.UserData.{UserData}
@@ -17,7 +16,7 @@ use Rattle.time.specs.declared.Time.{Time}
 use Rattle.address.specs.Address.{addressIn, addressWith, septetsRead, textHeld, clearedAddress, TypedAddress}
 use Rattle.address.specs.Writing.{addressOctets, octetsOr, addressChecks}
 use Rattle.address.specs.declared.SMSAddress.{SMSAddress}
-use Rattle.layout.specs.Layout.{Format, Layout, plain, done, _then_, address as addressKind, isSet, cut}
+use Rattle.layout.specs.Layout.{Format, Layout, plain, done, _then_, address as addressKind, isSet, firstOctet, cut}
 use Rattle.parameters.specs.Checking.{indicatorChecks, dataWithin}
 use Rattle.parameters.specs.Optional.{octetsHeld}
 use Rattle.parameters.specs.Parameters.{Parameters, parametersOctets}
@@ -84,27 +83,24 @@ textsRead s r = septetsRead (cut addressKind (drop 2 s)) ∷ []
 
 -- ---- writing
 
--- the first octet: MTI 2; UDHI bit 6, SRQ 5, LP 3, MMS 2
-abbrev pub firstWith : Bool → Bool → Bool → Bool → ℕ
-firstWith udhi srq lp mms = 2 + flag udhi 64 + flag srq 32 + flag lp 8 + flag mms 4
+-- the lengths of a record, each with the size of its array
+abbrev pub lengthsOf : SmsStatusReport → List (ℕ × ℕ)
+lengthsOf r =
+    (r .«tp_recipient_address» .«address_length», 290) ∷ (r .«tp_service_centre_timestamp» .length, 14) ∷ (r .«tp_discharge_time» .length, 14) ∷ (r .«tp_user_data» .length, 255) ∷ []
 
-abbrev pub firstOf : SmsStatusReport → ℕ
-firstOf r = firstWith (r .«tp_udhi») (r .«tp_srq») (r .«tp_lp») (r .«tp_mms»)
+-- its flags, each with its bit
+abbrev pub flagsOf : SmsStatusReport → List (ℕ × Bool)
+flagsOf r = (6, r .«tp_udhi») ∷ (5, r .«tp_srq») ∷ (3, r .«tp_lp») ∷ (2, r .«tp_mms») ∷ []
 
--- a length of the record passes its array
-abbrev pub tooLong : SmsStatusReport → Bool
-tooLong r =
-    ltb 290 (r .«tp_recipient_address» .«address_length») || (ltb 14 (r .«tp_service_centre_timestamp» .length) || (ltb 14 (r .«tp_discharge_time» .length) || ltb 255 (r .«tp_user_data» .length)))
-
--- the parameters of a record
+-- its parameters
 abbrev pub parametersOf : SmsStatusReport → Parameters
 parametersOf r = record { pid = r .«tp_pid»; dcs = r .«tp_dcs»; udl = r .«tp_user_data_length»; ud = dataOf (r .«tp_user_data») }
 
--- the octets of a record, in the layout's order
+-- its octets, in the layout's order
 abbrev pub octetsOf : SmsStatusReport → List ℕ
 octetsOf r =
     let recipient = r .«tp_recipient_address» in
-    firstOf r ∷ r .«tp_mr» ∷ (octetsOr [] (addressOctets (recipient .ton) (recipient .npi) (textHeld recipient)) ++ (timeOctets (digitsOf (r .«tp_service_centre_timestamp»))
+    firstOctet 2 (flagsOf r) ∷ r .«tp_mr» ∷ (octetsOr [] (addressOctets (recipient .ton) (recipient .npi) (textHeld recipient)) ++ (timeOctets (digitsOf (r .«tp_service_centre_timestamp»))
     ++ (timeOctets (digitsOf (r .«tp_discharge_time»)) ++ (r .«tp_status» ∷ (octetsHeld (r .«tp_parameter_indicator») ++ parametersOctets (parametersOf r))))))
 
 -- with an indicator 13, 14, 7, 8, 15, user data within a limit; without one 16: neither parameters nor user data are held
@@ -116,11 +112,9 @@ optionalChecks limit Absent p = (ParametersWithoutIndicator unless eqb (length (
 unfoldable pub statusReportingWithin : ℕ → SmsStatusReport → Making (Said ℕ)
 statusReportingWithin limit r =
     let recipient = r .«tp_recipient_address» in
-    if tooLong r then refused LengthTooLarge
-    else
     checked
-    (addressChecks (recipient .ton) (recipient .npi) (textHeld recipient) ++ (NotATime unless isTime (digitsOf (r .«tp_service_centre_timestamp»))) ∷ (NotATime unless isTime (digitsOf (r .«tp_discharge_time»)))
-    ∷ optionalChecks limit (r .«tp_parameter_indicator») (parametersOf r))
+    ((LengthTooLarge unless allFit (lengthsOf r)) ∷ (addressChecks (recipient .ton) (recipient .npi) (textHeld recipient) ++ ((NotATime unless isTime (digitsOf (r .«tp_service_centre_timestamp»)))
+    ∷ (NotATime unless isTime (digitsOf (r .«tp_discharge_time»))) ∷ optionalChecks limit (r .«tp_parameter_indicator») (parametersOf r))))
     (octetsOf r)
 
 -- the ported writer: within 140

@@ -8,13 +8,13 @@ ghost use Rattle.octets.specs.Lent.{lend};
 ghost use Rattle.gsm7.specs.Reading.{replacedInAll};
 ghost use Rattle.layout.specs.Layout.{read, answer, replacedOf};
 ghost use Rattle.status_report.specs.Internal.{fieldsAt, Inside};
-ghost use Rattle.status_report.specs.StatusReport.{statusReported, statusReport, blank as blankMessage, statusReportReadSays, textsRead, firstWith, statusReportingWithin, statusReporting, statusReportingToStandard};
-use crate::reading::MTI_STATUS_REPORT;
+ghost use Rattle.status_report.specs.StatusReport.{statusReported, statusReport, blank as blankMessage, statusReportReadSays, textsRead, statusReportingWithin, statusReporting, statusReportingToStandard};
 use crate::reading::StatusReportFields;
 use crate::reading::StatusReportFound;
 use crate::writing::StatusReportValues;
 use address::SMSAddress;
 use coding::UserData;
+use layout::MTI_STATUS_REPORT;
 use octets::Outcome;
 use octets::Refusal;
 use octets::Written;
@@ -109,17 +109,6 @@ fn message(data: &[u8], f: StatusReportFields) -> StatusReportRead
     }
 }
 
-// The first octet: TP-MTI and the flags.
-fn first_octet(udhi: bool, srq: bool, lp: bool, mms: bool) -> u8
-    ensures { λ r. ⌜ r ≡ firstWith udhi srq lp mms ⌝ }
-{
-    MTI_STATUS_REPORT
-        + octets::flag(udhi, 64)
-        + octets::flag(srq, 32)
-        + octets::flag(lp, 8)
-        + octets::flag(mms, 4)
-}
-
 impl SmsStatusReport {
     // Writes the message to the start of a lent output, its user data within a limit.
     fn encode_within(self, limit: usize, out: &mut [u8]) -> Written
@@ -129,10 +118,18 @@ impl SmsStatusReport {
         let m = self.tp_service_centre_timestamp.length;
         let l = self.tp_discharge_time.length;
         let k = self.tp_user_data.length;
-        if (290 < n) | ((14 < m) | ((14 < l) | (255 < k))) {
+        if !((n <= 290) & ((m <= 14) & ((l <= 14) & (k <= 255)))) {
             return Written::Refused(Refusal::LengthTooLarge);
         }
-        let first = first_octet(self.tp_udhi, self.tp_srq, self.tp_lp, self.tp_mms);
+        let first = layout::first_octet(
+            MTI_STATUS_REPORT,
+            false,
+            self.tp_udhi,
+            self.tp_srq,
+            false,
+            self.tp_lp,
+            self.tp_mms,
+        );
         let text = self.tp_recipient_address.address;
         let digits = self.tp_service_centre_timestamp.digits;
         let digits2 = self.tp_discharge_time.digits;

@@ -6,14 +6,13 @@ ghost use Rattle.layout.specs.Layout.{readFrom, kept, cut, address as addressKi
 ghost use Rattle.address.specs.Address.{addressSize, canonicalAddress};
 ghost use Rattle.status_report.specs.Layout.{bits, fields};
 ghost use Rattle.status_report.specs.Internal.{fieldsWith, afterStatus, afterAddress, foundSays, Inside};
+use layout::MTI_STATUS_REPORT;
 use octets::Octet;
 use octets::Place;
 use octets::Refusal;
 use octets::Span;
 use parameters::OptionalOctet;
 use parameters::reading::ParametersRead;
-
-pub const MTI_STATUS_REPORT: u8 = 2;
 
 // The fields of one octet, and where the others start: the address, the two times, and so many octets of user data.
 pub struct StatusReportFields {

@@ -1,24 +1,24 @@
 -- What the writer makes of a record, check by check.
 -- Assumes nothing.
-use Prim.Native.Nat.{ℕ, _+_, _*_, _/_, _≤_}
+use Prim.Native.Nat.{ℕ, _+_, _/_, _≤_}
 use mathlib.Core.Path.{_≡_, refl, sym, _∙_}
-use mathlib.Core.Bool.{true, false}
+use mathlib.Core.Bool.{Bool, true, false}
 use mathlib.Core.List.{List, [], _∷_, _++_}
 use native.Mathlib.Omega.{arith}
-use borrow.Author.Tests.{eqb-true, eq-eqb, ne-eqb, leb-true}
-use lib.Dec.{eqb, leb}
+use borrow.Author.Tests.{eqb-true, eq-eqb, ne-eqb}
+use lib.Dec.{eqb}
 use lib.ListN.{length, take, length-append}
 use Rattle.octets.specs.Answers.{Said, gives, refuses, fine}
-use Rattle.octets.specs.Checks.{Check, _unless_, found, checked, afterChecked}
-use Rattle.octets.specs.Choice.{flag, lengthIf}
-use Rattle.octets.specs.Lent.{refused, made}
+use Rattle.octets.specs.Checks.{Check, _unless_, found, checked, afterChecked, allFit}
+use Rattle.octets.specs.Choice.{if_then_else_, lengthIf}
+use Rattle.octets.specs.Lent.{Making, refused, made}
 use Rattle.octets.specs.declared.Refusal.{Refusal}
 use Rattle.octets.specs.declared.Refusal.the-variants.{LengthTooLarge, WrongMessageType, ValidityFormatDisagrees, NoDestination, NotATime}
-use Rattle.octets.proofs.Checks.{holds, both-hold, made-told, check-holds}
-use Rattle.octets.proofs.Choice.{and-true}
+use Rattle.octets.proofs.Checks.{holds, both-hold, made-told, Fit, all-fit}
 use Rattle.coding.specs.Coding.{codingOf, dataOctets, checkedData, dataChecks, dataOf}
 use Rattle.coding.proofs.Laws.{data-checked, data-passed}
 use Rattle.time.specs.Time.{digitsOf}
+use Rattle.time.specs.declared.Time.{Time}
 use Rattle.address.specs.Address.{textHeld}
 use Rattle.address.specs.Writing.{addressChecks, addressMaking}
 use Rattle.address.specs.Internal.{checkOf}
@@ -28,8 +28,9 @@ use Rattle.validity_period.specs.Validity.{formatOf, isAbsolute, periodSize, pe
 use Rattle.validity_period.specs.declared.ValidityPeriod.{ValidityPeriod}
 use Rattle.validity_period.proofs.Period.{period-size}
 use Rattle.submit.specs.declared.SmsSubmit.{SmsSubmit}
-use Rattle.submit.specs.Internal.{octetsIn}
-use Rattle.submit.specs.Submit.{addressLength, digitsLength, lengthsFit, octetsOf, submitting}
+use Rattle.submit.specs.declared.writing.SubmitValues.{SubmitValues}
+use Rattle.submit.specs.Submit.{addressLength, digitsLength, lengthsOf, firstOf, octetsOf, submitting}
+use Rattle.submit.specs.Internal.{octetsIn, making}
 
 -- ---- by the lengths that count
 
@@ -41,153 +42,157 @@ digits-counted (ValidityPeriod.Relative x) n ds enhanced = (refl, refl)
 digits-counted ValidityPeriod.Absolute n ds enhanced = (refl, refl)
 digits-counted ValidityPeriod.Enhanced n ds enhanced = (refl, refl)
 
-module _ (r : SmsSubmit) where
-  abbrev period : ValidityPeriod
-  period = r .«tp_validity_period»
+-- ---- values, check by check
 
+-- the checks from the time, from the address, and from the data on
+abbrev pub last : SubmitValues → List ℕ → List Check
+last v digits = (NotATime unless timeHolds (v .period) digits) ∷ []
+
+abbrev pub toAddress : SubmitValues → List ℕ → List ℕ → List Check
+toAddress v text digits = addressChecks (v .ton) (v .npi) text ++ last v digits
+
+abbrev pub toData : SubmitValues → List ℕ → List ℕ → List ℕ → List Check
+toData v text digits ud = dataChecks (v .dcs) (v .udl) (length ud) ++ toAddress v text digits
+
+module _ (mti vpf : ℕ) (there : Bool) (v : SubmitValues) (text digits enhanced ud : List ℕ) where
+  abbrev all : Making (Said ℕ)
+  all = making mti vpf there v text digits enhanced ud
+
+  abbrev octets : List ℕ
+  octets = octetsIn v text (periodOctets (v .period) digits enhanced) ud
+
+  pub another-type : (mti ≡ 1 → ⊥) → all ≡ refused WrongMessageType
+  unfolding making checked
+  another-type h = rw (ne-eqb mti 1 h)
+
+  module _ (m : mti ≡ 1) where
+    pub another-format : (vpf ≡ formatOf (v .period) → ⊥) → all ≡ refused ValidityFormatDisagrees
+    unfolding making checked
+    another-format h = rw (eq-eqb mti 1 m, ne-eqb vpf (formatOf (v .period)) h)
+
+    module _ (f : vpf ≡ formatOf (v .period)) where
+      pub no-destination : there ≡ false → all ≡ refused NoDestination
+      unfolding making checked
+      no-destination h = rw (eq-eqb mti 1 m, eq-eqb vpf (formatOf (v .period)) f, h)
+
+      module _ (t : there ≡ true) where
+        pub to-data : all ≡ checked (toData v text digits ud) octets
+        unfolding making checked
+        to-data = rw (eq-eqb mti 1 m, eq-eqb vpf (formatOf (v .period)) f, t)
+
+        by-data : all ≡ afterChecked (checkedData (v .dcs) (v .udl) (length ud)) (checked (toAddress v text digits) octets)
+        by-data = to-data ∙ data-checked (v .dcs) (v .udl) (length ud) (toAddress v text digits) octets
+
+        pub data-against : {r : Refusal} → checkedData (v .dcs) (v .udl) (length ud) ≡ refuses r → all ≡ refused r
+        data-against e = by-data ∙ rw e
+
+        module _ (d : checkedData (v .dcs) (v .udl) (length ud) ≡ fine) where
+          by-address : all ≡ afterCheck (checkOf (addressMaking (v .ton) (v .npi) text)) (checked (last v digits) octets)
+          by-address = by-data ∙ rw d (address-checked (v .ton) (v .npi) text (last v digits) octets)
+
+          pub address-against : {r : Refusal} → checkOf (addressMaking (v .ton) (v .npi) text) ≡ refuses r → all ≡ refused r
+          address-against e = by-address ∙ rw e
+
+          module _ {l : ℕ} (a : checkOf (addressMaking (v .ton) (v .npi) text) ≡ gives l) where
+            pub no-time : timeHolds (v .period) digits ≡ false → all ≡ refused NotATime
+            unfolding checked
+            no-time h = by-address ∙ rw (a, h)
+
+            module _ (h : timeHolds (v .period) digits ≡ true) where
+              pub all-made : all ≡ made octets (gives (length octets))
+              unfolding checked
+              all-made = by-address ∙ rw (a, h)
+
+              pub all-size : length enhanced ≡ 7 → length octets ≡ 7 + (l + 1) / 2 + periodSize vpf + length ud
+              all-size seven =
+                  let size = fine-size (v .ton) (v .npi) text l a in
+                  let period = period-size (v .period) digits enhanced h seven in
+                  rw f (simp length-append (omega arith))
+
+-- ---- a record: its lengths, then its values
+
+abbrev pub lengthsFit : SmsSubmit → Bool
+lengthsFit r = allFit (lengthsOf r)
+
+abbrev pub valuesOf : SmsSubmit → SubmitValues
+valuesOf r = record {
+  first = firstOf r;
+  mr = r .«tp_mr»;
+  ton = r .«tp_destination_address» .ton;
+  npi = r .«tp_destination_address» .npi;
+  pid = r .«tp_pid»;
+  dcs = r .«tp_dcs»;
+  period = r .«tp_validity_period»;
+  udl = r .«tp_user_data_length»;
+}
+
+module _ (r : SmsSubmit) where
   abbrev to : SMSAddress
   to = r .«tp_destination_address»
 
-  pub text-counted : {n : ℕ} → r .«has_destination_address» ≡ true → n ≡ addressLength r → take n (to .address) ≡ textHeld to
-  text-counted there e = rw (e, there)
+  abbrev stamp : Time
+  stamp = r .«validity_period_digits»
 
-  pub address-counted : {n : ℕ} {said : Said ℕ} → r .«has_destination_address» ≡ true → n ≡ addressLength r → checkOf (addressMaking (to .ton) (to .npi) (take n (to .address))) ≡ said → checkOf (addressMaking (to .ton) (to .npi) (textHeld to)) ≡ said
-  address-counted there e is = rw (← text-counted there e) is
-
-  pub time-counted : {m : ℕ} → m ≡ digitsLength r → timeHolds period (digitsOf (r .«validity_period_digits»)) ≡ timeHolds period (take m (r .«validity_period_digits» .digits))
-  time-counted e = rw e (sym (digits-counted period (r .«validity_period_digits» .length) (r .«validity_period_digits» .digits) [] .0))
-
-  pub octets-counted : {flags vpf n m : ℕ} → r .«has_destination_address» ≡ true → flags ≡ flag (r .«tp_rp») 128 + flag (r .«tp_udhi») 64 + flag (r .«tp_srr») 32 + flag (r .«tp_rd») 4 → r .«tp_vpf» ≡ vpf
-      → n ≡ addressLength r → m ≡ digitsLength r
-      → octetsIn (record { first = flags + 8 * vpf + 1; mr = r .«tp_mr»; ton = to .ton; npi = to .npi; pid = r .«tp_pid»; dcs = r .«tp_dcs»; period = period; udl = r .«tp_user_data_length» })
-      (take n (to .address)) (periodOctets period (take m (r .«validity_period_digits» .digits)) (r .«validity_period_octets»)) (dataOf (r .«tp_user_data_raw»)) ≡ octetsOf r
-  octets-counted there f v n m =
-      rw (f, ← v, text-counted there n, m, digits-counted period (r .«validity_period_digits» .length) (r .«validity_period_digits» .digits) (r .«validity_period_octets») .1)
-
--- ---- check by check
-
-module _ (r : SmsSubmit) where
-  -- the data that it holds, and what the checks of data, address and time come to
   abbrev ud : List ℕ
   ud = dataOf (r .«tp_user_data_raw»)
 
-  abbrev pub checkedUd : Said Unit
-  checkedUd = checkedData (r .«tp_dcs») (r .«tp_user_data_length») (length ud)
+  -- what is made of its values with these text and digits
+  abbrev withParts : List ℕ → List ℕ → Making (Said ℕ)
+  withParts text digits = making (r .«tp_mti») (r .«tp_vpf») (r .«has_destination_address») (valuesOf r) text digits (r .«validity_period_octets») ud
 
-  abbrev pub checkedAddress : Said ℕ
-  checkedAddress = let to = r .«tp_destination_address» in checkOf (addressMaking (to .ton) (to .npi) (textHeld to))
+  -- without destination its type and format decide
+  pub unsent : r .«has_destination_address» ≡ false → (text digits : List ℕ) → withParts text digits ≡ (if eqb (r .«tp_mti») 1 then if eqb (r .«tp_vpf») (formatOf (r .«tp_validity_period»)) then refused NoDestination else refused ValidityFormatDisagrees else refused WrongMessageType)
+  unfolding making checked
+  unsent e text digits = rw e
 
-  -- its checks from the data, from the address, and from the time on
-  abbrev pub last : List Check
-  last = (NotATime unless timeHolds (r .«tp_validity_period») (digitsOf (r .«validity_period_digits»))) ∷ []
-
-  abbrev pub toAddress : List Check
-  toAddress = let to = r .«tp_destination_address» in addressChecks (to .ton) (to .npi) (textHeld to) ++ last
-
-  abbrev pub toData : List Check
-  toData = dataChecks (r .«tp_dcs») (r .«tp_user_data_length») (length ud) ++ toAddress
-
-  abbrev toDestination : List Check
-  toDestination = (NoDestination unless r .«has_destination_address») ∷ toData
-
-  abbrev toFormat : List Check
-  toFormat = (ValidityFormatDisagrees unless eqb (r .«tp_vpf») (formatOf (r .«tp_validity_period»))) ∷ toDestination
+  -- text and digits that don't count are neither looked at nor written
+  parts-counted : withParts (take (addressLength r) (to .address)) (take (digitsLength r) (stamp .digits)) ≡ withParts (textHeld to) (digitsOf stamp)
+  unfolding making
+  parts-counted = by (r .«has_destination_address») refl
+    where
+      by : (b : Bool) → r .«has_destination_address» ≡ b → withParts (take (addressLength r) (to .address)) (take (digitsLength r) (stamp .digits)) ≡ withParts (textHeld to) (digitsOf stamp)
+      by true e = let (holds, written) = digits-counted (r .«tp_validity_period») (stamp .length) (stamp .digits) (r .«validity_period_octets») in rw (holds, written, e)
+      by false e = unsent e _ _ ∙ sym (unsent e _ _)
 
   pub too-long : lengthsFit r ≡ false → submitting r ≡ refused LengthTooLarge
   unfolding submitting checked
   too-long e = rw e
 
-  module _ (l : lengthsFit r ≡ true) where
-    -- the lengths pass no array
-    pub all-fit : (addressLength r ≤ 290) × (digitsLength r ≤ 14) × (r .«tp_user_data_raw» .length ≤ 255)
-    all-fit =
-        let (a, f) = and-true (leb (addressLength r) 290) _ l in
-        let (d, g) = and-true (leb (digitsLength r) 14) _ f in
-        let (u, h) = and-true (leb (r .«tp_user_data_raw» .length) 255) _ g in
-        (leb-true _ _ a, leb-true _ _ d, leb-true _ _ u)
+  module _ (e : lengthsFit r ≡ true) where
+    pub by-fields : submitting r ≡ withParts (textHeld to) (digitsOf stamp)
+    unfolding submitting making checked
+    by-fields = rw e
 
-    pub another-type : (r .«tp_mti» ≡ 1 → ⊥) → submitting r ≡ refused WrongMessageType
-    unfolding submitting checked
-    another-type h = rw (l, ne-eqb (r .«tp_mti») 1 h)
-
-    module _ (m : r .«tp_mti» ≡ 1) where
-      pub another-format : (r .«tp_vpf» ≡ formatOf (r .«tp_validity_period») → ⊥) → submitting r ≡ refused ValidityFormatDisagrees
-      unfolding submitting checked
-      another-format h = rw (l, eq-eqb (r .«tp_mti») 1 m, ne-eqb (r .«tp_vpf») (formatOf (r .«tp_validity_period»)) h)
-
-      module _ (f : r .«tp_vpf» ≡ formatOf (r .«tp_validity_period»)) where
-        pub no-destination : r .«has_destination_address» ≡ false → submitting r ≡ refused NoDestination
-        unfolding submitting checked
-        no-destination h = rw (l, eq-eqb (r .«tp_mti») 1 m, eq-eqb (r .«tp_vpf») (formatOf (r .«tp_validity_period»)) f, h)
-
-        module _ (t : r .«has_destination_address» ≡ true) where
-          pub to-data : submitting r ≡ checked toData (octetsOf r)
-          unfolding submitting
-          to-data =
-              check-holds l LengthTooLarge ((WrongMessageType unless eqb (r .«tp_mti») 1) ∷ toFormat) (octetsOf r) ∙ check-holds (eq-eqb (r .«tp_mti») 1 m) WrongMessageType toFormat (octetsOf r)
-              ∙ check-holds (eq-eqb (r .«tp_vpf») (formatOf (r .«tp_validity_period»)) f) ValidityFormatDisagrees toDestination (octetsOf r) ∙ check-holds t NoDestination toData (octetsOf r)
-
-          by-data : submitting r ≡ afterChecked checkedUd (checked toAddress (octetsOf r))
-          by-data = to-data ∙ data-checked (r .«tp_dcs») (r .«tp_user_data_length») (length ud) toAddress (octetsOf r)
-
-          pub data-against : {why : Refusal} → checkedUd ≡ refuses why → submitting r ≡ refused why
-          data-against e = by-data ∙ rw e
-
-          module _ (d : checkedUd ≡ fine) where
-            by-address : submitting r ≡ afterCheck checkedAddress (checked last (octetsOf r))
-            by-address = by-data ∙ rw d (address-checked _ _ _ last (octetsOf r))
-
-            pub address-against : {why : Refusal} → checkedAddress ≡ refuses why → submitting r ≡ refused why
-            address-against e = by-address ∙ rw e
-
-            module _ {n : ℕ} (a : checkedAddress ≡ gives n) where
-              pub no-time : timeHolds (r .«tp_validity_period») (digitsOf (r .«validity_period_digits»)) ≡ false → submitting r ≡ refused NotATime
-              unfolding checked
-              no-time h = by-address ∙ rw (a, h)
-
-              module _ (h : timeHolds (r .«tp_validity_period») (digitsOf (r .«validity_period_digits»)) ≡ true) where
-                pub all-made : submitting r ≡ made (octetsOf r) (gives (length (octetsOf r)))
-                unfolding checked
-                all-made = by-address ∙ rw (a, h)
-
-                pub all-size : length (r .«validity_period_octets») ≡ 7 → length (octetsOf r) ≡ 7 + (n + 1) / 2 + periodSize (formatOf (r .«tp_validity_period»)) + length ud
-                all-size seven =
-                    let size = fine-size _ _ _ n a in
-                    let v = period-size (r .«tp_validity_period») (digitsOf (r .«validity_period_digits»)) (r .«validity_period_octets») h seven in
-                    simp length-append (omega arith)
+    pub by-values : submitting r ≡ withParts (take (addressLength r) (to .address)) (take (digitsLength r) (stamp .digits))
+    by-values = by-fields ∙ sym parts-counted
 
 -- where octets are written, every check has held
 pub record Passed (r : SmsSubmit) (xs : List ℕ) : Type 0 where
-  pub fits : lengthsFit r ≡ true
+  pub fits : Fit (lengthsOf r)
   pub mti-is : r .«tp_mti» ≡ 1
   pub format-is : r .«tp_vpf» ≡ formatOf (r .«tp_validity_period»)
   pub there : r .«has_destination_address» ≡ true
-  pub size-is : length (dataOf (r .«tp_user_data_raw»)) ≡ dataOctets (codingOf (r .«tp_dcs»)) (r .«tp_user_data_length»)
-  pub few : length (dataOf (r .«tp_user_data_raw»)) ≤ 140
-  pub address : let to = r .«tp_destination_address» in found (addressChecks (to .ton) (to .npi) (textHeld to)) ≡ fine
-  pub time : timeHolds (r .«tp_validity_period») (digitsOf (r .«validity_period_digits»)) ≡ true
+  pub size-is : length (ud r) ≡ dataOctets (codingOf (r .«tp_dcs»)) (r .«tp_user_data_length»)
+  pub few : length (ud r) ≤ 140
+  pub address : found (addressChecks (to r .ton) (to r .npi) (textHeld (to r))) ≡ fine
+  pub time : timeHolds (r .«tp_validity_period») (digitsOf (stamp r)) ≡ true
   pub octets-are : octetsOf r ≡ xs
 
 pub all-passed : (r : SmsSubmit) {xs : List ℕ} {w : Said ℕ} → submitting r ≡ made xs w → Passed r xs
 unfolding submitting checkedData
 all-passed r e =
-    let (f, x) = made-told _ _ e in
-    let (l, f1) = holds LengthTooLarge (lengthsFit r) ((WrongMessageType unless eqb (r .«tp_mti») 1) ∷ toFormat r) f in
-    let (m, f2) = holds WrongMessageType (eqb (r .«tp_mti») 1) (toFormat r) f1 in
-    let (v, f3) = holds ValidityFormatDisagrees (eqb (r .«tp_vpf») (formatOf (r .«tp_validity_period»))) (toDestination r) f2 in
-    let (t, f4) = holds NoDestination (r .«has_destination_address») (toData r) f3 in
-    let (d, f5) = both-hold (dataChecks (r .«tp_dcs») (r .«tp_user_data_length») (length (ud r))) (toAddress r) f4 in
-    let to = r .«tp_destination_address» in
-    let (a, f6) = both-hold (addressChecks (to .ton) (to .npi) (textHeld to)) (last r) f5 in
+    let v = valuesOf r in
+    let text = textHeld (to r) in
+    let digits = digitsOf (stamp r) in
+    let from-destination = (NoDestination unless r .«has_destination_address») ∷ toData v text digits (ud r) in
+    let from-format = (ValidityFormatDisagrees unless eqb (r .«tp_vpf») (formatOf (r .«tp_validity_period»))) ∷ from-destination in
+    let (f0, x) = made-told _ _ e in
+    let (l, f) = holds LengthTooLarge (lengthsFit r) ((WrongMessageType unless eqb (r .«tp_mti») 1) ∷ from-format) f0 in
+    let (m, f1) = holds WrongMessageType (eqb (r .«tp_mti») 1) from-format f in
+    let (p, f2) = holds ValidityFormatDisagrees (eqb (r .«tp_vpf») (formatOf (r .«tp_validity_period»))) from-destination f1 in
+    let (t, f3) = holds NoDestination (r .«has_destination_address») (toData v text digits (ud r)) f2 in
+    let (d, f4) = both-hold (dataChecks (v .dcs) (v .udl) (length (ud r))) (toAddress v text digits) f3 in
+    let (a, f5) = both-hold (addressChecks (v .ton) (v .npi) text) (last v digits) f4 in
     let (size, few) = data-passed _ _ _ d in
-    record {
-      fits = l;
-      mti-is = eqb-true _ _ m;
-      format-is = eqb-true _ _ v;
-      there = t;
-      size-is = size;
-      few = few;
-      address = a;
-      time = holds NotATime (timeHolds (r .«tp_validity_period») (digitsOf (r .«validity_period_digits»))) [] f6 .0;
-      octets-are = x;
-    }
+    let (time, f6) = holds NotATime (timeHolds (v .period) digits) [] f5 in
+    record { fits = all-fit (lengthsOf r) l; mti-is = eqb-true _ _ m; format-is = eqb-true _ _ p; there = t; size-is = size; few = few; address = a; time = time; octets-are = x }

@@ -1,61 +1,55 @@
 -- Demand 3 of SMS-SUBMIT, and that its writer looks at nothing that is no part of a record.
 -- Assumes nothing.
-use Prim.Native.Nat.{ℕ, zero, suc, _+_, _*_, _≤_, _<_}
+use Prim.Native.Nat.{ℕ, zero, suc, _+_, _/_, _%_, _≤_, _<_}
 use mathlib.Core.Path.{_≡_, refl, sym, ap, _∙_}
 use mathlib.Core.Bool.{Bool, true, false}
 use mathlib.Core.List.{List, [], _∷_, _++_, append-nil, append-assoc}
 use native.Mathlib.Omega.{arith}
-use borrow.Author.Tests.{eqb-true, eq-eqb, le-leb, leb-true}
+use borrow.Author.Tests.{eqb-true, le-leb, leb-true}
 use lib.Dec.{eqb, ltb}
 use lib.ListN.{length, take, length-take}
 use Rattle.octets.specs.Answers.{Said, gives}
 use Rattle.octets.specs.Arrays.{pad}
 use Rattle.octets.specs.Checks.{checked}
-use Rattle.octets.specs.Choice.{if_then_else_, flag, lengthIf}
+use Rattle.octets.specs.Choice.{if_then_else_, lengthIf}
 use Rattle.octets.specs.Each.{Octets}
 use Rattle.octets.specs.Lent.{Making, refused, made}
-use Rattle.octets.specs.declared.Refusal.the-variants.{LengthTooLarge, WrongMessageType, ValidityFormatDisagrees, NoDestination, UserDataTooLong, AddressTooLong, NotATime}
+use Rattle.octets.specs.declared.Refusal.the-variants.{LengthTooLarge, UserDataTooLong, AddressTooLong, NotATime}
 use Rattle.octets.proofs.Checks.{check-holds, no-checks}
 use Rattle.octets.proofs.Laws.{cleared-pad, take-cleared}
-use Rattle.octets.proofs.Table.{below}
-use Rattle.coding.specs.Coding.{codingOf, dataOctets, dataWith, clearedData}
+use Rattle.coding.specs.Coding.{codingOf, dataOctets, dataOf, dataWith, clearedData}
 use Rattle.coding.proofs.Laws.{data-held, data-at-most, data-limit, data-cleared}
 use Rattle.coding.specs.declared.UserData.{UserData}
 use Rattle.user_data_header.specs.Header.{inCount}
 use Rattle.time.specs.Time.{isTime, timeOctets, timeIn, digitsOf, clearedTime, TypedTime}
 use Rattle.time.specs.declared.Time.{Time}
 use Rattle.time.proofs.Laws.{time-cleared}
-use Rattle.address.specs.Address.{addressIn, addressWith, canonicalAddress, clearedAddress}
+use Rattle.address.specs.Address.{addressIn, addressWith, canonicalAddress, clearedAddress, textHeld}
 use Rattle.address.specs.declared.SMSAddress.{SMSAddress}
 use Rattle.address.proofs.Laws.{address-cleared, canonical-reads, octets-again, length-short, read-checked, Field as AddressField}
 use Rattle.layout.specs.Demand.{Demand3}
-use Rattle.layout.specs.Layout.{isSet, messageType, kept, reached, read, canonicalOf, unwritable}
+use Rattle.layout.specs.Layout.{isSet, messageType, kept, firstOctet, reached, read, canonicalOf, unwritable}
 use Rattle.layout.proofs.Demand.{Answers, Writes, demand3, answers-plain, answers-two}
+use Rattle.layout.proofs.FirstOctet.{flagsIn, kept-first}
 use Rattle.layout.proofs.Makes.{Makes}
 use Rattle.validity_period.specs.Validity.{periodIn, ofFormat, formatOf, isAbsolute, periodOctets, timeHolds}
 use Rattle.validity_period.specs.declared.ValidityPeriod.{ValidityPeriod}
 use Rattle.validity_period.proofs.Period.{digitsCount, Held, period-held}
 use Rattle.submit.specs.declared.SmsSubmit.{SmsSubmit}
+use Rattle.submit.specs.declared.writing.SubmitValues.{SubmitValues}
 use Rattle.submit.specs.Layout.{Fields, formatIn, headerSize, bits, fields}
-use Rattle.submit.specs.Submit.{readable, textWith, headerIn, submitted, format, submit, lengthsFit, firstOf, octetsOf, submitting, cleared, Typed}
+use Rattle.submit.specs.Submit.{readable, textWith, headerIn, submitted, format, submit, firstOf, octetsOf, submitting, cleared, Typed}
+use Rattle.submit.specs.Internal.{making}
 use Rattle.submit.proofs.FieldByField.{kept-whole}
-use Rattle.submit.proofs.CheckByCheck.{digits-counted, toData, toAddress, last, to-data}
+use Rattle.submit.proofs.CheckByCheck.{digits-counted, last, toAddress, toData, to-data, lengthsFit, valuesOf, unsent, by-fields}
 use Rattle.submit.proofs.Text.{readable-short}
 
 -- ---- what is no part of a record is not written
 
--- the lengths that count
-destination-length : (there : Bool) (to : SMSAddress) → lengthIf there ((if there then clearedAddress to else addressWith 0 0 []) .«address_length») ≡ lengthIf there (to .«address_length»)
-destination-length true to = refl
-destination-length false to = refl
-
-digits-length : (absolute : Bool) (t : Time) → lengthIf absolute ((if absolute then clearedTime t else timeIn []) .length) ≡ lengthIf absolute (t .length)
-digits-length true t = refl
-digits-length false t = refl
-
-header-length : (headed : Bool) (d : UserData) → lengthIf headed ((if headed then clearedData d else dataWith []) .length) ≡ lengthIf headed (d .length)
-header-length true d = refl
-header-length false d = refl
+-- a length that counts
+part-length : {A : Type 0} (there : Bool) (size : A → ℕ) (x y : A) → lengthIf there (size (if there then x else y)) ≡ lengthIf there (size x)
+part-length true size x y = refl
+part-length false size x y = refl
 
 -- the period: its digits are looked at in the absolute format, its octets in the enhanced one
 period-same : (p : ValidityPeriod) (t : Time) (enhanced : List ℕ) → TypedTime t → (let digits = digitsOf (if isAbsolute p then clearedTime t else timeIn []) in
@@ -65,23 +59,17 @@ period-same (ValidityPeriod.Relative x) t enhanced n = (refl, refl)
 period-same ValidityPeriod.Absolute t enhanced n = let same = take-cleared 14 (t .length) (t .digits) n in (ap isTime same, ap timeOctets same)
 period-same ValidityPeriod.Enhanced t enhanced n = (refl, refl)
 
--- a record without destination: its lengths, type and format decide
-unsent : (r : SmsSubmit) → r .«has_destination_address» ≡ false → submitting r
-    ≡ (if lengthsFit r then if eqb (r .«tp_mti») 1 then if eqb (r .«tp_vpf») (formatOf (r .«tp_validity_period»)) then refused NoDestination else refused ValidityFormatDisagrees else refused WrongMessageType else refused LengthTooLarge)
-unfolding submitting checked
-unsent r e = rw e
-
 module _ (r : SmsSubmit) (typed : Typed r) where
   lengths-same : lengthsFit (cleared r) ≡ lengthsFit r
   lengths-same =
       rw (
-        destination-length (r .«has_destination_address») (r .«tp_destination_address»),
-        digits-length (isAbsolute (r .«tp_validity_period»)) (r .«validity_period_digits»),
-        header-length (r .«has_user_data_header») (r .«tp_user_data_header»),
+        part-length (r .«has_destination_address») (λ (a : SMSAddress). a .«address_length») (clearedAddress (r .«tp_destination_address»)) (addressWith 0 0 []),
+        part-length (isAbsolute (r .«tp_validity_period»)) (λ (t : Time). t .length) (clearedTime (r .«validity_period_digits»)) (timeIn []),
+        part-length (r .«has_user_data_header») (λ (d : UserData). d .length) (clearedData (r .«tp_user_data_header»)) (dataWith []),
       )
 
   of-cleared : submitting (cleared r) ≡ submitting r
-  unfolding submitting
+  unfolding submitting making checked
   of-cleared = by (r .«has_destination_address») refl
     where
       by : (b : Bool) → r .«has_destination_address» ≡ b → submitting (cleared r) ≡ submitting r
@@ -95,7 +83,7 @@ module _ (r : SmsSubmit) (typed : Typed r) where
             take-cleared 290 (r .«tp_destination_address» .«address_length») (r .«tp_destination_address» .address) (typed .0),
             take-cleared 255 (r .«tp_user_data_raw» .length) (r .«tp_user_data_raw» .octets) (typed .3),
           )
-      by false e = unsent (cleared r) e ∙ rw lengths-same (sym (unsent r e))
+      by false e = rw lengths-same (ap (λ (m : Making (Said ℕ)). if lengthsFit r then m else refused LengthTooLarge) (unsent (cleared r) e _ _ ∙ sym (unsent r e _ _)))
 
 -- equal records are written alike
 pub written-alike : (r q : SmsSubmit) → Typed r → Typed q → cleared r ≡ cleared q → submitting r ≡ submitting q
@@ -129,7 +117,10 @@ made-cleared x =
 first-back : (x : Fields) → x .first < 256 → messageType (x .first) ≡ 1 → firstOf (submitted x) ≡ x .first
 unfolding submitted
 first-back x h m =
-    eqb-true _ _ (rw (eq-eqb _ _ m) at (below (λ f. if eqb (messageType f) 1 then eqb (flag (isSet 7 f) 128 + flag (isSet 6 f) 64 + flag (isSet 5 f) 32 + flag (isSet 2 f) 4 + 8 * formatIn f + 1) f else true) 256 refl (x .first) h))
+    let f = x .first in
+    let high : f / 8 % 4 / 2 % 2 ≡ f / 16 % 2 = omega arith in
+    let low : f / 8 % 4 / 1 % 2 ≡ f / 8 % 2 = omega arith in
+    rw (high, low) (ap (λ (n : ℕ). firstOctet n (flagsIn bits f)) (sym m) ∙ sym (kept-first bits f) ∙ kept-whole f h)
 
 module _ (x : Fields) (small : x .first < 256) (mti : messageType (x .first) ≡ 1) (a : List ℕ) (wa : AddressField a) (da : x .da ≡ canonicalAddress a) (held : Held (formatIn (x .first)) (x .vp))
     (few : x .udl < 256) (size : dataOctets (codingOf (x .dcs)) (x .udl) ≡ length (x .ud)) (fits : headerIn x ≤ length (x .ud)) (counted : inCount (codingOf (x .dcs)) (x .udl) (headerIn x) ≡ true) where
@@ -161,9 +152,9 @@ module _ (x : Fields) (small : x .first < 256) (mti : messageType (x .first) ≡
   header-few true = rw length-take (omega (arith, at-most))
   header-few false = omega arith
 
-  all-fit : lengthsFit sent ≡ true
+  lengths-fit : lengthsFit sent ≡ true
   unfolding submitted dataWith textWith timeIn
-  all-fit =
+  lengths-fit =
       rw (
         its-address,
         le-leb _ 290 (length-short a wa),
@@ -177,15 +168,24 @@ module _ (x : Fields) (small : x .first < 256) (mti : messageType (x .first) ≡
   abbrev answered : List ℕ → Making (Said ℕ)
   answered xs = if ltb 140 (length (x .ud)) then refused UserDataTooLong else if ltb 12 (length (x .da)) then refused AddressTooLong else made xs (gives (length xs))
 
-  its-checks : (xs : List ℕ) → checked (toData sent) xs ≡ answered xs
+  abbrev values : SubmitValues
+  values = valuesOf sent
+
+  abbrev text : List ℕ
+  text = textHeld (sent .«tp_destination_address»)
+
+  abbrev digits : List ℕ
+  digits = digitsOf (sent .«validity_period_digits»)
+
+  its-checks : (xs : List ℕ) → checked (toData values text digits (dataOf (sent .«tp_user_data_raw»))) xs ≡ answered xs
   unfolding submitted
   its-checks xs =
       rw (data-held (x .ud))
-      (data-limit (x .dcs) (x .udl) (length (x .ud)) size (toAddress sent) xs ∙ rw (its-address, read-checked a wa (last sent) xs, da, check-holds (its-digits .0) NotATime [] xs, no-checks))
+      (data-limit (x .dcs) (x .udl) (length (x .ud)) size (toAddress values text digits) xs ∙ rw (its-address, read-checked a wa (last values digits) xs, da, check-holds (its-digits .0) NotATime [] xs, no-checks))
 
   its-making : submitting sent ≡ answered string
   unfolding submitted
-  its-making = to-data sent all-fit mti (sym (held .format)) refl ∙ its-checks (octetsOf sent) ∙ ap answered its-octets
+  its-making = by-fields sent lengths-fit ∙ to-data _ _ _ values text digits _ _ mti (sym (held .format)) refl ∙ its-checks (octetsOf sent) ∙ ap answered its-octets
 
 submit-makes : Makes (Writes cleared submitting octetsOf) format
 unfolding format fields

@@ -19,10 +19,11 @@ use Rattle.user_data_header.specs.Header.{inCount}
 use Rattle.time.specs.Time.{timeDigits, timeIn}
 use Rattle.address.specs.Writing.{digitCharacters, digitValue, isDigit, addressOctets}
 use Rattle.address.specs.Address.{digitCharacter, withoutF, valueText, textIn, addressWith, addressIn, canonicalAddress}
-use Rattle.layout.specs.Layout.{kept, reached, halted, after, reading, readFrom, fieldsOf, read, canonicalOf}
+use Rattle.layout.specs.Layout.{kept, firstOctet, reached, halted, after, reading, readFrom, fieldsOf, read, canonicalOf}
 use Rattle.validity_period.specs.Validity.{periodSize, periodIn}
 use Rattle.submit.specs.Layout.{Fields, headerSize, fields}
 use Rattle.submit.specs.Submit.{readable, textWith, submitted, format, submit, submitting, headerAnswer}
+use Rattle.submit.specs.Internal.{making}
 
 -- MR 07, "12" in a field with an F, PID and DCS 0
 abbrev front : List ℕ
@@ -56,7 +57,7 @@ known-canonical = refl
 
 -- the record is written as they stand
 known-written : submitting (submitted known-fields) ≡ made known-octets (gives 10)
-unfolding submitting checked submitted addressIn addressWith dataWith textWith timeIn timeDigits pad periodIn readable textOf afterEscape utf8 character septetsIn numberOf lowestDigits headerSize codingOf characterSet dataOctets codes digitCharacters digitCharacter digitValue isDigit withoutF valueText textIn addressOctets each indexOf semiOctets inPairs
+unfolding submitting making checked firstOctet submitted addressIn addressWith dataWith textWith timeIn timeDigits pad periodIn readable textOf afterEscape utf8 character septetsIn numberOf lowestDigits headerSize codingOf characterSet dataOctets codes digitCharacters digitCharacter digitValue isDigit withoutF valueText textIn addressOctets each indexOf semiOctets inPairs
 known-written = refl
 
 -- what is said of the header in a record's data: 18 and 17 as above, and nothing without UDHI

@@ -1,23 +1,24 @@
--- What only functions of this crate say to each other: the rest of the layout from a field on, fields by their places in a string, and the octets of values that were checked.
+-- What only functions of this crate say to each other: the rest of the layout from a field on, fields by their places in a string, and what is made of values that are written.
 use Prim.Native.Nat.{ℕ, _+_, _≤_}
 use mathlib.Core.Path.{_≡_}
-use mathlib.Core.Bool.{true}
+use mathlib.Core.Bool.{Bool, true}
 use mathlib.Core.List.{List, [], _∷_, _++_}
-use lib.Dec.{leb}
+use lib.Dec.{eqb, leb}
 use lib.ListN.{length, take, drop}
-use Rattle.octets.specs.declared.Refusal.the-variants.{HeaderNotWhole, HeaderPassesCount}
-use Rattle.coding.specs.Coding.{codingOf, dataOctets}
+use Rattle.octets.specs.Answers.{Said}
+use Rattle.octets.specs.Checks.{_unless_, checked}
+use Rattle.octets.specs.Lent.{Making}
+use Rattle.octets.specs.declared.Refusal.the-variants.{WrongMessageType, ValidityFormatDisagrees, NoDestination, NotATime, HeaderNotWhole, HeaderPassesCount}
+use Rattle.coding.specs.Coding.{codingOf, dataOctets, dataChecks}
 use Rattle.user_data_header.specs.Header.{inCount}
 use Rattle.address.specs.Address.{addressSize, canonicalAddress}
-use Rattle.address.specs.Writing.{addressOctets, octetsOr}
+use Rattle.address.specs.Writing.{addressOctets, octetsOr, addressChecks}
 use Rattle.layout.specs.Layout.{Format, Reached, reached, halted, field, one, require, done, address as addressKind, octets, any, userData, isSet, cut}
-use Rattle.validity_period.specs.Validity.{periodSize}
+use Rattle.validity_period.specs.Validity.{periodSize, formatOf, periodOctets, timeHolds}
 use Rattle.submit.specs.Layout.{Fields, formatIn, headerSize}
 use Rattle.submit.specs.declared.reading.SubmitFields.{SubmitFields}
 use Rattle.submit.specs.declared.reading.SubmitFound.{SubmitFound}
 use Rattle.submit.specs.declared.writing.SubmitValues.{SubmitValues}
-
--- ---- reading
 
 -- after TP-DCS
 unfoldable pub afterCoding : ℕ → ℕ → List ℕ → ℕ → ℕ → Format Fields
@@ -58,6 +59,14 @@ Inside s at (SubmitFound.Refused why) = Unit
 
 -- ---- writing
 
--- the octets of values: the text is the address's, vp the octets of the validity period
+-- the octets of values, in the layout's order: the text is the address's, vp the octets of the validity period
 abbrev pub octetsIn : SubmitValues → List ℕ → List ℕ → List ℕ → List ℕ
 octetsIn v text vp ud = v .first ∷ v .mr ∷ octetsOr [] (addressOctets (v .ton) (v .npi) text) ++ v .pid ∷ v .dcs ∷ vp ++ v .udl ∷ ud
+
+-- what a writer makes of them: MTI, VPF, whether a destination is there, values, the address's text, digits and octets of the validity period, data. Refusals 3, 5 and 6, 7 and 8 of the data, 9 to 11 of the address, and 12
+unfoldable pub making : ℕ → ℕ → Bool → SubmitValues → List ℕ → List ℕ → List ℕ → List ℕ → Making (Said ℕ)
+making mti vpf there v text digits enhanced ud =
+    checked
+    ((WrongMessageType unless eqb mti 1) ∷ (ValidityFormatDisagrees unless eqb vpf (formatOf (v .period))) ∷ (NoDestination unless there) ∷ dataChecks (v .dcs) (v .udl) (length ud) ++ addressChecks (v .ton) (v .npi) text
+    ++ (NotATime unless timeHolds (v .period) digits) ∷ [])
+    (octetsIn v text (periodOctets (v .period) digits enhanced) ud)

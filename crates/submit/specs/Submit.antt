@@ -1,14 +1,14 @@
 -- SMS-SUBMIT (TS 23.040 §9.2.2.2): the record that its fields make, what its writer makes of a record, and what is no part of one.
-use Prim.Native.Nat.{ℕ, _+_, _-_, _*_}
+use Prim.Native.Nat.{ℕ, _-_}
 use mathlib.Core.Path.{_≡_, refl}
-use mathlib.Core.Bool.{Bool, true, false, _&&_}
+use mathlib.Core.Bool.{Bool, true, false}
 use mathlib.Core.List.{List, [], _∷_, _++_}
 use lib.Dec.{eqb, leb}
 use lib.ListN.{length, take, drop}
 use Rattle.octets.specs.Answers.{Said, outcomeSays}
 use Rattle.octets.specs.Arrays.{pad, clearedArray}
-use Rattle.octets.specs.Checks.{_unless_, found, checked}
-use Rattle.octets.specs.Choice.{if_then_else_, flag, lengthIf}
+use Rattle.octets.specs.Checks.{_unless_, found, checked, allFit}
+use Rattle.octets.specs.Choice.{if_then_else_, lengthIf}
 use Rattle.octets.specs.Lent.{Making}
 use Rattle.octets.specs.declared.Refusal.the-variants.{LengthTooLarge, WrongMessageType, ValidityFormatDisagrees, NoDestination, NotATime, HeaderNotWhole, HeaderPassesCount}
 use Rattle.coding.specs.Coding.{codingOf, dataChecks, dataWith, dataOf, clearedData, TypedData}
@@ -24,7 +24,7 @@ use Rattle.time.specs.declared.Time.{Time}
 use Rattle.address.specs.Address.{addressIn, addressWith, septetsRead, textHeld, clearedAddress, TypedAddress}
 use Rattle.address.specs.Writing.{addressOctets, octetsOr, addressChecks}
 use Rattle.address.specs.declared.SMSAddress.{SMSAddress}
-use Rattle.layout.specs.Layout.{Format, Layout, plain, Reached, reached, halted, done, _then_, address as addressKind, isSet, messageType, cut}
+use Rattle.layout.specs.Layout.{Format, Layout, plain, Reached, reached, halted, done, _then_, address as addressKind, isSet, messageType, firstOctet, cut}
 use Rattle.validity_period.specs.Validity.{periodIn, ofFormat, formatOf, isAbsolute, periodOctets, timeHolds}
 use Rattle.validity_period.specs.declared.ValidityPeriod.{ValidityPeriod}
 use Rattle.submit.specs.Layout.{Fields, formatIn, headerSize, fields}
@@ -148,14 +148,13 @@ digitsLength r = lengthIf (isAbsolute (r .«tp_validity_period»)) (r .«validit
 abbrev pub headerLength : SmsSubmit → ℕ
 headerLength r = lengthIf (r .«has_user_data_header») (r .«tp_user_data_header» .length)
 
--- they pass none of the record's arrays
-abbrev pub lengthsFit : SmsSubmit → Bool
-lengthsFit r =
-    leb (addressLength r) 290 && (leb (digitsLength r) 14 && (leb (r .«tp_user_data_raw» .length) 255 && (leb (headerLength r) 255 && leb (r .«tp_user_data» .length) 510)))
+-- each with the size of its array
+abbrev pub lengthsOf : SmsSubmit → List (ℕ × ℕ)
+lengthsOf r = (addressLength r, 290) ∷ (digitsLength r, 14) ∷ (r .«tp_user_data_raw» .length, 255) ∷ (headerLength r, 255) ∷ (r .«tp_user_data» .length, 510) ∷ []
 
 -- the first octet: MTI 1, RP bit 7, UDHI 6, SRR 5, VPF 4 and 3, RD 2
 abbrev pub firstOf : SmsSubmit → ℕ
-firstOf r = flag (r .«tp_rp») 128 + flag (r .«tp_udhi») 64 + flag (r .«tp_srr») 32 + flag (r .«tp_rd») 4 + 8 * r .«tp_vpf» + 1
+firstOf r = firstOctet 1 ((7, r .«tp_rp») ∷ (6, r .«tp_udhi») ∷ (5, r .«tp_srr») ∷ (4, isSet 1 (r .«tp_vpf»)) ∷ (3, isSet 0 (r .«tp_vpf»)) ∷ (2, r .«tp_rd») ∷ [])
 
 -- the octets of a record, in the layout's order: header and text are not written
 abbrev pub octetsOf : SmsSubmit → List ℕ
@@ -169,8 +168,8 @@ unfoldable pub submitting : SmsSubmit → Making (Said ℕ)
 submitting r =
     let to = r .«tp_destination_address» in
     checked
-    ((LengthTooLarge unless lengthsFit r) ∷ (WrongMessageType unless eqb (r .«tp_mti») 1) ∷ (ValidityFormatDisagrees unless eqb (r .«tp_vpf») (formatOf (r .«tp_validity_period»))) ∷ (NoDestination unless r .«has_destination_address»)
-    ∷ dataChecks (r .«tp_dcs») (r .«tp_user_data_length») (length (dataOf (r .«tp_user_data_raw»))) ++ addressChecks (to .ton) (to .npi) (textHeld to)
+    ((LengthTooLarge unless allFit (lengthsOf r)) ∷ (WrongMessageType unless eqb (r .«tp_mti») 1) ∷ (ValidityFormatDisagrees unless eqb (r .«tp_vpf») (formatOf (r .«tp_validity_period»)))
+    ∷ (NoDestination unless r .«has_destination_address») ∷ dataChecks (r .«tp_dcs») (r .«tp_user_data_length») (length (dataOf (r .«tp_user_data_raw»))) ++ addressChecks (to .ton) (to .npi) (textHeld to)
     ++ (NotATime unless timeHolds (r .«tp_validity_period») (digitsOf (r .«validity_period_digits»))) ∷ [])
     (octetsOf r)
 

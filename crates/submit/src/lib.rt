@@ -17,16 +17,14 @@ ghost use Rattle.user_data_header.specs.Header.{inCount};
 ghost use Rattle.layout.specs.Layout.{read, answer, replacedOf};
 ghost use Rattle.submit.specs.Internal.{fieldsAt, Inside};
 ghost use Rattle.submit.specs.Submit.{submit, submitted, blank as blankMessage, octetsTaken, submitReadSays, textsRead, readable, dataSeptets, textWith, submitting};
-use crate::reading::MTI_SUBMIT;
 use crate::reading::SubmitFields;
 use crate::reading::SubmitFound;
 use crate::writing::SubmitValues;
 use address::SMSAddress;
-use address::writing::AddressCheck;
 use coding::UserData;
 use coding::UserDataCoding;
 use gsm7::decode::TextPut;
-use octets::Checked;
+use layout::MTI_SUBMIT;
 use octets::Outcome;
 use octets::Refusal;
 use octets::Written;
@@ -228,20 +226,18 @@ fn length_if(there: bool, length: usize) -> usize
 }
 
 impl SmsSubmit {
-    // Writes the message to the start of a lent output: checks in order, then the size, then the octets.
+    // Writes the message to the start of a lent output.
     pub fn encode(self, out: &mut [u8]) -> Written
         ensures { λ r. ⌜ (writtenSays r, now (out .exit)) ≡ lend refuses (submitting self) (now (out .entry)) ⌝ }
     {
         let period = self.tp_validity_period;
-        let vpf = period.format();
+        let vpf = self.tp_vpf;
         let n = length_if(
             self.has_destination_address,
             self.tp_destination_address.address_length,
         );
-        let m = length_if(
-            vpf == VALIDITY_PERIOD_FORMAT_ABSOLUTE,
-            self.validity_period_digits.length,
-        );
+        let absolute = period.format() == VALIDITY_PERIOD_FORMAT_ABSOLUTE;
+        let m = length_if(absolute, self.validity_period_digits.length);
         let k = self.tp_user_data_raw.length;
         let h = length_if(self.has_user_data_header, self.tp_user_data_header.length);
         let t = self.tp_user_data.length;
@@ -249,61 +245,38 @@ impl SmsSubmit {
         if !fit {
             return Written::Refused(Refusal::LengthTooLarge);
         }
-        let address = self.tp_destination_address.address;
-        let time = self.validity_period_digits.digits;
+        let values = SubmitValues {
+            first: layout::first_octet(
+                MTI_SUBMIT,
+                self.tp_rp,
+                self.tp_udhi,
+                self.tp_srr,
+                vpf / 2 % 2 == 1,
+                vpf % 2 == 1,
+                self.tp_rd,
+            ),
+            mr: self.tp_mr,
+            ton: self.tp_destination_address.ton,
+            npi: self.tp_destination_address.npi,
+            pid: self.tp_pid,
+            dcs: self.tp_dcs,
+            period,
+            udl: self.tp_user_data_length,
+        };
+        let text = self.tp_destination_address.address;
+        let digits = self.validity_period_digits.digits;
         let enhanced = self.validity_period_octets;
-        let raw = self.tp_user_data_raw.octets;
-        let text = &address[..n];
-        let digits = &time[..m];
-        let data = &raw[..k];
-        if self.tp_mti != MTI_SUBMIT {
-            return Written::Refused(Refusal::WrongMessageType);
-        }
-        if self.tp_vpf != vpf {
-            return Written::Refused(Refusal::ValidityFormatDisagrees);
-        }
-        if !self.has_destination_address {
-            return Written::Refused(Refusal::NoDestination);
-        }
-        if let Checked::Against(r) = coding::check_user_data(
-            self.tp_dcs,
-            self.tp_user_data_length,
-            k,
-        ) {
-            return Written::Refused(r);
-        }
-        let ton = self.tp_destination_address.ton;
-        let npi = self.tp_destination_address.npi;
-        match address::writing::check_address(ton, npi, text) {
-            AddressCheck::Refused(r) => Written::Refused(r),
-            AddressCheck::Fine(count) => {
-                if !validity_period::check_period(period, digits) {
-                    return Written::Refused(Refusal::NotATime);
-                }
-                if out.len() < 7 + (count + 1) / 2 + validity_period::validity_octets(vpf) + k {
-                    return Written::Refused(Refusal::OutputTooShort);
-                }
-                let flags = writing::flags(self.tp_rp, self.tp_udhi, self.tp_srr, self.tp_rd);
-                let values = SubmitValues {
-                    first: flags + 8 * vpf + MTI_SUBMIT,
-                    mr: self.tp_mr,
-                    ton,
-                    npi,
-                    pid: self.tp_pid,
-                    dcs: self.tp_dcs,
-                    period,
-                    udl: self.tp_user_data_length,
-                };
-                Written::Done(writing::put_fields(
-                    values,
-                    text,
-                    count,
-                    digits,
-                    &enhanced,
-                    data,
-                    out,
-                ))
-            }
-        }
+        let data = self.tp_user_data_raw.octets;
+        writing::encode_fields(
+            self.tp_mti,
+            vpf,
+            self.has_destination_address,
+            values,
+            &text[..n],
+            &digits[..m],
+            enhanced,
+            &data[..k],
+            out,
+        )
     }
 }

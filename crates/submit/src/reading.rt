@@ -6,12 +6,11 @@ ghost use Rattle.layout.specs.Layout.{readFrom, cut, address as addressKind};
 ghost use Rattle.address.specs.Address.{addressSize, canonicalAddress};
 ghost use Rattle.submit.specs.Layout.{headerSize, fields};
 ghost use Rattle.submit.specs.Internal.{afterCoding, foundSays, Inside};
+use layout::MTI_SUBMIT;
 use octets::Octet;
 use octets::Place;
 use octets::Refusal;
 use octets::Span;
-
-pub const MTI_SUBMIT: u8 = 1;
 
 // The fields of one octet, and where the others start: the address, so many octets of validity, and so many octets of user data, the first `header` of them the header.
 pub struct SubmitFields {

@@ -3,13 +3,17 @@ ghost use mathlib.Core.Path.{_≡_};
 ghost use mathlib.Core.Bool.{true};
 ghost use Prim.Native.Nat.{_+_, _/_, _≤_};
 ghost use lib.ListN.{length};
-ghost use Rattle.octets.specs.Answers.{gives};
-ghost use Rattle.octets.specs.Choice.{flag};
-ghost use Rattle.octets.specs.Lent.{Wrote};
+ghost use Rattle.octets.specs.Answers.{gives, refuses, writtenSays};
+ghost use Rattle.octets.specs.Lent.{Wrote, lend};
 ghost use Rattle.address.specs.Writing.{addressMaking};
 ghost use Rattle.address.specs.Internal.{checkOf};
 ghost use Rattle.validity_period.specs.Validity.{formatOf, periodSize, periodOctets, timeHolds};
-ghost use Rattle.submit.specs.Internal.{octetsIn};
+ghost use Rattle.submit.specs.Internal.{octetsIn, making};
+use address::writing::AddressCheck;
+use layout::MTI_SUBMIT;
+use octets::Checked;
+use octets::Refusal;
+use octets::Written;
 use validity_period::ValidityPeriod;
 
 // The fields of one octet, type and plan of the address, and the validity period.
@@ -24,15 +28,8 @@ pub struct SubmitValues {
     pub udl: u8,
 }
 
-// The flags of the first octet.
-pub fn flags(rp: bool, udhi: bool, srr: bool, rd: bool) -> u8
-    ensures { λ r. ⌜ (r ≡ flag rp 128 + flag udhi 64 + flag srr 32 + flag rd 4) × (r ≤ 228) ⌝ }
-{
-    octets::flag(rp, 128) + octets::flag(udhi, 64) + octets::flag(srr, 32) + octets::flag(rd, 4)
-}
-
 // Writes values that were checked, with the address's text, the digits or octets of the validity period and the user data; how many octets they take.
-pub fn put_fields(
+fn put_fields(
     v: SubmitValues,
     text: &[u8],
     count: usize,
@@ -53,4 +50,47 @@ pub fn put_fields(
     let p6 = validity_period::put_period(period, digits, enhanced, out, p5);
     let p7 = octets::put_octet(out, p6, v.udl);
     octets::put_octets(out, p7, data)
+}
+
+// Writes the values to the start of a lent output: checks in order, then the size, then the octets.
+pub fn encode_fields(
+    mti: u8,
+    vpf: u8,
+    there: bool,
+    v: SubmitValues,
+    text: &[u8],
+    digits: &[u8],
+    enhanced: [u8; 7],
+    data: &[u8],
+    out: &mut [u8],
+) -> Written
+    ensures { λ r. ⌜ (writtenSays r, now (out .exit)) ≡ lend refuses (making mti vpf there v (now (text .entry)) (now (digits .entry)) enhanced (now («data» .entry))) (now (out .entry)) ⌝ }
+{
+    let period = v.period;
+    if mti != MTI_SUBMIT {
+        return Written::Refused(Refusal::WrongMessageType);
+    }
+    if vpf != period.format() {
+        return Written::Refused(Refusal::ValidityFormatDisagrees);
+    }
+    if !there {
+        return Written::Refused(Refusal::NoDestination);
+    }
+    if let Checked::Against(r) = coding::check_user_data(v.dcs, v.udl, data.len()) {
+        return Written::Refused(r);
+    }
+    match address::writing::check_address(v.ton, v.npi, text) {
+        AddressCheck::Refused(r) => Written::Refused(r),
+        AddressCheck::Fine(count) => {
+            if !validity_period::check_period(period, digits) {
+                return Written::Refused(Refusal::NotATime);
+            }
+            if out.len()
+                < 7 + (count + 1) / 2 + validity_period::validity_octets(vpf) + data.len()
+            {
+                return Written::Refused(Refusal::OutputTooShort);
+            }
+            Written::Done(put_fields(v, text, count, digits, &enhanced, data, out))
+        }
+    }
 }

@@ -1,62 +1,62 @@
 -- SMS-SUBMIT-REPORT (TS 23.040 §9.2.2.2a): its two layouts, what its writers make of a record, and what is no part of one.
 use Prim.Native.Nat.{ℕ}
 use mathlib.Core.Path.{_≡_, refl}
-use mathlib.Core.Bool.{Bool, true, false, _||_}
+use mathlib.Core.Bool.{Bool, true, false}
 use mathlib.Core.List.{List, [], _∷_}
-use lib.Dec.{ltb}
+use lib.Dec.{leb, eqb}
 use Rattle.octets.specs.Answers.{Said, outcomeSays, refuses, fine}
-use Rattle.octets.specs.Checks.{_unless_, found, checked}
-use Rattle.octets.specs.Choice.{if_then_else_}
-use Rattle.octets.specs.Lent.{Making, refused}
-use Rattle.octets.specs.declared.Refusal.the-variants.{LengthTooLarge, OctetsEnd, WrongMessageType, UserDataTooLong, OutcomeDisagrees}
-use Rattle.coding.specs.Coding.{codingOf, characterSet, dataOctets, dataOf, clearedData, TypedData}
+use Rattle.octets.specs.Checks.{_unless_, found, checked, allFit}
+use Rattle.octets.specs.Choice.{flag}
+use Rattle.octets.specs.Lent.{Making}
+use Rattle.octets.specs.declared.Refusal.the-variants.{LengthTooLarge, OctetsEnd, WrongMessageType, UdhiTooLarge, UserDataTooLong, OutcomeDisagrees}
+use Rattle.coding.specs.Coding.{codingOf, characterSet, dataOctets, dataWith, dataOf, clearedData, TypedData}
 use Rattle.coding.specs.declared.UserData.{UserData}
-use Rattle.time.specs.Time.{digitsOf, clearedTime, capitalTime, TypedTime}
+use Rattle.time.specs.Time.{isTime, timeIn, timeOctets, digitsOf, clearedTime, capitalTime, TypedTime}
 use Rattle.time.specs.declared.Time.{Time}
-use Rattle.layout.specs.Layout.{indicatorSize, kept, Layout, plain, stopping, stops, reached, halted, after, reading, readFrom, read, fieldsOf, canonicalOf}
+use Rattle.layout.specs.Layout.{indicatorSize, kept, Layout, records, stops, reached, halted, after, reading, readFrom, read, fieldsOf, canonicalOf}
 use Rattle.parameters.specs.Checking.{dataWithin}
 use Rattle.parameters.specs.Layout.{parameters}
 use Rattle.parameters.specs.Outcome.{outcomeAgrees}
-use Rattle.parameters.specs.Parameters.{Parameters, noParameters}
+use Rattle.parameters.specs.Parameters.{noParameters}
 use Rattle.parameters.specs.declared.OptionalOctet.{OptionalOctet}
 use Rattle.parameters.specs.declared.OptionalOctet.the-variants.{Absent, Present}
 use Rattle.parameters.specs.declared.RpOutcome.{RpOutcome}
 use Rattle.parameters.specs.declared.RpOutcome.the-variants.{RpAck, RpError}
-use Rattle.submit_report.specs.Layout.{submitReported, format}
-use Rattle.submit_report.specs.Writing.{octetsIn, checksWithin}
+use Rattle.report.specs.Report.{Fields, format, blank as blankFields, stopped as stoppedFields, layoutOf as reportLayout, octetsOf, checksWithin}
 use Rattle.submit_report.specs.declared.SmsSubmitReport.{SmsSubmitReport}
 use Rattle.submit_report.specs.declared.SubmitReportRead.{SubmitReportRead}
 
 -- ---- reading
 
--- an outcome, a cause or none, and nothing else: every number 0, no time, no parameters
-abbrev pub causeAlone : RpOutcome → OptionalOctet → SmsSubmitReport
-causeAlone outcome cause = submitReported outcome 0 cause 0 [] noParameters
+-- the record of a report's fields: its UDHI is a number
+unfoldable pub submitReported : Fields → SmsSubmitReport
+submitReported x = record {
+  «tp_udhi» = flag (x .udhi) 1;
+  «tp_failure_cause» = x .cause;
+  «tp_parameter_indicator» = x .indicator;
+  «tp_service_centre_timestamp» = timeIn (x .scts);
+  «tp_pid» = x .parameters .pid;
+  «tp_dcs» = x .parameters .dcs;
+  «tp_user_data_length» = x .parameters .udl;
+  «tp_user_data» = dataWith (x .parameters .ud);
+  «rp_outcome» = x .outcome;
+}
 
--- the blank record, whatever the entry point: RP-ACK, and no cause either
+-- the blank record, whatever the entry point; and the stopped RP-ERROR
 abbrev pub blank : SmsSubmitReport
-blank = causeAlone RpAck Absent
+blank = submitReported blankFields
 
--- the stopped RP-ERROR: UDHI 0, cause FF, indicator 0, nothing else
 abbrev pub stopped : SmsSubmitReport
-stopped = causeAlone RpError (Present 0xff)
+stopped = submitReported stoppedFields
 
--- the layouts in an RP-ACK and in an RP-ERROR
-abbrev pub ack : Layout SmsSubmitReport
-ack = plain (format RpAck)
-
-abbrev pub error : Layout SmsSubmitReport
-error = stopping 1 (0x01 ∷ 0xff ∷ 0x00 ∷ []) stopped (format RpError)
-
--- the layout of an outcome
+-- the layout of an outcome (TS 23.040 §9.2.2.2a): MTI 1, and a time
 abbrev pub layoutOf : RpOutcome → Layout SmsSubmitReport
-layoutOf RpAck = ack
-layoutOf RpError = error
+layoutOf outcome = records submitReported (reportLayout 1 true outcome)
 
 -- 05 is stopped, and stands as octets that are no report, since they have no time; an RP-ERROR with UDHI, cause 80, an extended indicator 81, a time and PID 11
-known-reports : (read error (0x05 ∷ []) ≡ reached stopped 1) × (canonicalOf error (0x05 ∷ []) ≡ 0x01 ∷ 0xff ∷ 0x00 ∷ []) × (read error (0x01 ∷ 0xff ∷ 0x00 ∷ []) ≡ halted OctetsEnd) × (read ack (0x00 ∷ []) ≡ halted WrongMessageType)
-    × (read error (0x41 ∷ 0x80 ∷ 0x81 ∷ 0x00 ∷ 0x42 ∷ 0x20 ∷ 0x51 ∷ 0x21 ∷ 0x03 ∷ 0x54 ∷ 0x00 ∷ 0x11 ∷ [])
-    ≡ reached (submitReported RpError 1 (Present 0x80) 0x81 (0x42 ∷ 0x20 ∷ 0x51 ∷ 0x21 ∷ 0x03 ∷ 0x54 ∷ 0x00 ∷ []) (record { pid = Present 0x11; dcs = Absent; udl = Absent; ud = [] })) 12)
+known-reports : (read (layoutOf RpError) (0x05 ∷ []) ≡ reached stopped 1) × (canonicalOf (layoutOf RpError) (0x05 ∷ []) ≡ 0x01 ∷ 0xff ∷ 0x00 ∷ []) × (read (layoutOf RpError) (0x01 ∷ 0xff ∷ 0x00 ∷ []) ≡ halted OctetsEnd) × (read (layoutOf RpAck) (0x00 ∷ []) ≡ halted WrongMessageType)
+    × (read (layoutOf RpError) (0x41 ∷ 0x80 ∷ 0x81 ∷ 0x00 ∷ 0x42 ∷ 0x20 ∷ 0x51 ∷ 0x21 ∷ 0x03 ∷ 0x54 ∷ 0x00 ∷ 0x11 ∷ [])
+    ≡ reached (submitReported (record { outcome = RpError; udhi = true; cause = Present 0x80; indicator = 0x81; scts = 0x42 ∷ 0x20 ∷ 0x51 ∷ 0x21 ∷ 0x03 ∷ 0x54 ∷ 0x00 ∷ []; parameters = record { pid = Present 0x11; dcs = Absent; udl = Absent; ud = [] } })) 12)
 unfolding format read readFrom reading after stops canonicalOf fieldsOf parameters kept indicatorSize
 known-reports = (refl, refl, refl, refl, refl)
 
@@ -64,29 +64,30 @@ known-reports = (refl, refl, refl, refl, refl)
 abbrev pub submitReportReadSays : SubmitReportRead → (Said Unit × SmsSubmitReport) × ℕ
 submitReportReadSays r = ((outcomeSays (r .outcome), r .message), r .«replaced_escapes»)
 
--- what is read as text in a string: nothing. User data stay octets
-abbrev pub textsRead : List ℕ → SmsSubmitReport → List (List ℕ)
-textsRead s r = []
-
 -- ---- writing
 
--- the parameters of a record
-abbrev pub parametersOf : SmsSubmitReport → Parameters
-parametersOf r = record { pid = r .«tp_pid»; dcs = r .«tp_dcs»; udl = r .«tp_user_data_length»; ud = dataOf (r .«tp_user_data») }
+-- the fields of a record
+abbrev pub fieldsIn : SmsSubmitReport → Fields
+fieldsIn r = record {
+  outcome = r .«rp_outcome»;
+  udhi = eqb (r .«tp_udhi») 1;
+  cause = r .«tp_failure_cause»;
+  indicator = r .«tp_parameter_indicator»;
+  scts = timeOctets (digitsOf (r .«tp_service_centre_timestamp»));
+  parameters = record { pid = r .«tp_pid»; dcs = r .«tp_dcs»; udl = r .«tp_user_data_length»; ud = dataOf (r .«tp_user_data») };
+}
 
--- a length of the record passes its array
-abbrev pub tooLong : SmsSubmitReport → Bool
-tooLong r = ltb 14 (r .«tp_service_centre_timestamp» .length) || ltb 255 (r .«tp_user_data» .length)
+-- its lengths, each with the size of its array
+abbrev pub lengthsOf : SmsSubmitReport → List (ℕ × ℕ)
+lengthsOf r = (r .«tp_service_centre_timestamp» .length, 14) ∷ (r .«tp_user_data» .length, 255) ∷ []
 
--- what a writer makes of a record within a limit of user data: 1; 29; then the checks of its fields
+-- what a writer makes of a record within a limit of user data: 1; 29; 4; 13 and 14; 12; 7, 8 and 15
 unfoldable pub submitReportingWithin : ℕ → SmsSubmitReport → Making (Said ℕ)
 submitReportingWithin limit r =
-    if tooLong r then refused LengthTooLarge
-    else
     checked
-    ((OutcomeDisagrees unless outcomeAgrees (r .«rp_outcome») (r .«tp_failure_cause»))
-    ∷ checksWithin limit (r .«tp_udhi») (r .«tp_parameter_indicator») (digitsOf (r .«tp_service_centre_timestamp»)) (parametersOf r))
-    (octetsIn (r .«tp_udhi») (r .«tp_failure_cause») (r .«tp_parameter_indicator») (digitsOf (r .«tp_service_centre_timestamp»)) (parametersOf r))
+    ((LengthTooLarge unless allFit (lengthsOf r)) ∷ (OutcomeDisagrees unless outcomeAgrees (r .«rp_outcome») (r .«tp_failure_cause»)) ∷ (UdhiTooLarge unless leb (r .«tp_udhi») 1)
+    ∷ checksWithin limit (isTime (digitsOf (r .«tp_service_centre_timestamp»))) (fieldsIn r))
+    (octetsOf 1 (fieldsIn r))
 
 -- the ported writer: within 140
 abbrev pub submitReporting : SmsSubmitReport → Making (Said ℕ)
@@ -109,9 +110,9 @@ known-limits = (refl, refl, refl, refl)
 
 -- ---- what is no part of a record
 
--- the same record with time and user data changed
-abbrev pub changed : (Time → Time) → (UserData → UserData) → SmsSubmitReport → SmsSubmitReport
-changed time userData r = record {
+-- the same record with time and user data changed, and with an outcome
+abbrev pub changed : (Time → Time) → (UserData → UserData) → RpOutcome → SmsSubmitReport → SmsSubmitReport
+changed time userData outcome r = record {
   «tp_udhi» = r .«tp_udhi»;
   «tp_failure_cause» = r .«tp_failure_cause»;
   «tp_parameter_indicator» = r .«tp_parameter_indicator»;
@@ -120,30 +121,20 @@ changed time userData r = record {
   «tp_dcs» = r .«tp_dcs»;
   «tp_user_data_length» = r .«tp_user_data_length»;
   «tp_user_data» = userData (r .«tp_user_data»);
-  «rp_outcome» = r .«rp_outcome»;
-}
-
--- the same record with an outcome: two records are equal without theirs where these are
-abbrev pub withOutcome : RpOutcome → SmsSubmitReport → SmsSubmitReport
-withOutcome outcome r = record {
-  «tp_udhi» = r .«tp_udhi»;
-  «tp_failure_cause» = r .«tp_failure_cause»;
-  «tp_parameter_indicator» = r .«tp_parameter_indicator»;
-  «tp_service_centre_timestamp» = r .«tp_service_centre_timestamp»;
-  «tp_pid» = r .«tp_pid»;
-  «tp_dcs» = r .«tp_dcs»;
-  «tp_user_data_length» = r .«tp_user_data_length»;
-  «tp_user_data» = r .«tp_user_data»;
   «rp_outcome» = outcome;
 }
 
 -- what lies after a length set to zero: records are equal where these are
 abbrev pub cleared : SmsSubmitReport → SmsSubmitReport
-cleared = changed clearedTime clearedData
+cleared r = changed clearedTime clearedData (r .«rp_outcome») r
+
+-- two records are equal without their outcomes where they are with another's
+abbrev pub withOutcome : RpOutcome → SmsSubmitReport → SmsSubmitReport
+withOutcome = changed (λ t. t) (λ d. d)
 
 -- the time's letters capital
 abbrev pub capitalised : SmsSubmitReport → SmsSubmitReport
-capitalised = changed capitalTime (λ d. d)
+capitalised r = changed capitalTime (λ d. d) (r .«rp_outcome») r
 
 -- the arrays have the lengths of their types
 abbrev pub Typed : SmsSubmitReport → Type 0

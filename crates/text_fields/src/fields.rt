@@ -2,22 +2,38 @@
 use crate::slices::between;
 use crate::slices::find;
 
-// Where field n of a line begins, counted from 0; the end of the line if there are fewer.
-pub fn field_start(line: &[u8], n: usize) -> usize {
-    let mut before = n;
+// How many fields were gone over, and the place that was come to.
+struct GoneOver {
+    count: usize,
+    place: usize,
+}
+
+// Goes over n fields of a line to where the next begins; to the end of the line if there are no more.
+fn go_over(line: &[u8], n: usize) -> GoneOver {
+    let mut count = 0;
     let mut last = b' ';
     let mut i = 0;
     while i < line.len() {
         if last == b' ' && line[i] != b' ' {
-            if before == 0 {
-                return i;
+            if count == n {
+                return GoneOver { count, place: i };
             }
-            before -= 1;
+            count += 1;
         }
         last = line[i];
         i += 1;
     }
-    i
+    GoneOver { count, place: i }
+}
+
+// Where field n of a line begins, counted from 0; the end of the line if there are fewer.
+pub fn field_start(line: &[u8], n: usize) -> usize {
+    go_over(line, n).place
+}
+
+// How many fields a line has.
+pub fn field_count(line: &[u8]) -> usize {
+    go_over(line, line.len()).count
 }
 
 // The field that begins at a place.
@@ -28,21 +44,6 @@ pub fn field_from(line: &[u8], start: usize) -> &[u8] {
 // Field n of a line, counted from 0; no octets if there are fewer.
 pub fn field(line: &[u8], n: usize) -> &[u8] {
     field_from(line, field_start(line, n))
-}
-
-// How many fields a line has.
-pub fn field_count(line: &[u8]) -> usize {
-    let mut n = 0;
-    let mut last = b' ';
-    let mut i = 0;
-    while i < line.len() {
-        if last == b' ' && line[i] != b' ' {
-            n += 1;
-        }
-        last = line[i];
-        i += 1;
-    }
-    n
 }
 
 // The last field of a line; no octets if it has none.

@@ -1,22 +1,23 @@
 // Lists of texts, each a byte string whose entries end with a line feed: `b"deliver\nsubmit\n"` has two.
+use crate::slices::after;
 use crate::slices::between;
 use crate::slices::find;
+use crate::slices::find_text;
 use crate::slices::same;
 
 // Where entry n of a list begins, counted from 0; the end of the list if there are fewer.
 fn entry_start(list: &[u8], n: usize) -> usize {
     let mut before = n;
-    let mut i = 0;
-    while i < list.len() {
-        if before == 0 {
-            return i;
+    let mut start = 0;
+    while 0 < before {
+        let end = find(list, start, b'\n');
+        if list.len() <= end {
+            return list.len();
         }
-        if list[i] == b'\n' {
-            before -= 1;
-        }
-        i += 1;
+        start = end + 1;
+        before -= 1;
     }
-    i
+    start
 }
 
 // The rest of an entry, from a place in it.
@@ -49,23 +50,7 @@ pub fn entry_number(list: &[u8], text: &[u8]) -> usize {
 
 // ---- lists of meanings: an entry is an octet, and in words what it means
 
-// Where the meaning of an octet begins; the end of the list if it has none.
-fn meaning_start(list: &[u8], octet: u8) -> usize {
-    let mut i = 0;
-    while i < list.len() {
-        if list[i] == octet {
-            return i + 1;
-        }
-        let end = find(list, i, b'\n');
-        if list.len() <= end {
-            return end;
-        }
-        i = end + 1;
-    }
-    i
-}
-
 // The meaning of an octet; no octets if it has none.
 pub fn meaning(list: &[u8], octet: u8) -> &[u8] {
-    entry_from(list, meaning_start(list, octet))
+    after(entry_from(list, find_text(list, b'\n', &[octet])), 1)
 }

@@ -57,3 +57,15 @@ pub fn find(octets: &[u8], from: usize, octet: u8) -> usize
     }
     i
 }
+
+// The first place that holds a text, of the start and the places after a separator; the end if none does.
+pub fn find_text(octets: &[u8], separator: u8, text: &[u8]) -> usize {
+    let mut start = 0;
+    while start < octets.len() {
+        if begins(after(octets, start), text) {
+            return start;
+        }
+        start = find(octets, start, separator) + 1;
+    }
+    octets.len()
+}

@@ -82,17 +82,11 @@ returns c =
 
 pub address-at-spec : {M : Type 1} → statement M
 address-at-spec =
-    tie.close
-    (tie.spec
-    (λ c. omega arith)
+    tie.close (tie.spec (λ c. omega arith)
     (λ c. omega (arith, c .shared-slice-known2 .given (c .before .before .args .at)))
-    (λ c. omega arith)
-    (λ c. omega arith)
-    (λ c. omega arith)
+    (λ c. omega arith) (λ c. omega arith) (λ c. omega arith)
     (λ c. omega (arith, c .before .shared-slice-known2 .given (c .before .before .before .args .at)))
     (λ c. omega (arith, at-zero (now (c .before .before .before .args .«data»)) (c .before .before .before .args .at)))
-    (λ c. search needs)
-    (λ c. search needs)
+    (λ c. search needs) (λ c. search needs)
     (λ c. omega (arith, at-zero (now (c .before .before .before .args .«data»)) (c .before .before .before .args .at)))
-    value-text-requires
-    returns)
+    value-text-requires returns)

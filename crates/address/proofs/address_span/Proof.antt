@@ -34,14 +34,5 @@ returns-2 c =
 
 pub address-span-spec : {M : Type 1} → statement M
 address-span-spec =
-    tie.close
-    (tie.spec
-    (λ c κs. tt)
-    (λ c. search needs)
-    (λ c. search needs)
-    returns
-    (λ c. search needs)
-    (λ c. search needs)
-    (λ c. search needs)
-    (λ c κs. tt)
-    returns-2)
+    tie.close (tie.spec (λ c κs. tt) (λ c. search needs) (λ c. search needs) returns
+    (λ c. search needs) (λ c. search needs) (λ c. search needs) (λ c κs. tt) returns-2)

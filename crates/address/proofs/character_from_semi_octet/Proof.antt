@@ -20,12 +20,7 @@ letter c =
 
 pub character-from-semi-octet-spec : {M : Type 1} → statement M
 character-from-semi-octet-spec =
-    tie.close
-    (tie.spec
-    (λ c. search needs)
-    (λ c. search needs)
-    (λ c. search needs)
+    tie.close (tie.spec (λ c. search needs) (λ c. search needs) (λ c. search needs)
     (λ c. rw (c .match .keys1) (sym (character-by-range 10 (omega arith))))
     (λ c. rw (c .match .keys2) (sym (character-by-range 11 (omega arith))))
-    number
-    letter)
+    number letter)

@@ -84,19 +84,7 @@ returns c =
 
 pub digits-text-spec : {M : Type 1} → statement M
 digits-text-spec =
-    tie.close
-    (tie.spec
-    Inv-loop
-    μ-loop
-    (λ c. (omega arith, omega arith, refl, left-start _ _ _))
-    (λ c κs. omega arith)
-    (λ c. omega arith)
-    (λ c. omega arith)
-    loop-again
+    tie.close (tie.spec Inv-loop μ-loop (λ c. (omega arith, omega arith, refl, left-start _ _ _)) (λ c κs. omega arith) (λ c. omega arith) (λ c. omega arith) loop-again
     (λ c κs. let s = c .before .semi-octet .ensures .1 in omega (arith, c .if1 .left))
-    (λ c. omega arith)
-    (λ c. omega arith)
-    (λ c. omega arith)
-    loop-again-2
-    (λ c. c .before .loop .inv .2)
-    returns)
+    (λ c. omega arith) (λ c. omega arith) (λ c. omega arith) loop-again-2
+    (λ c. c .before .loop .inv .2) returns)

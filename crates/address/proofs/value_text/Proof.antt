@@ -46,10 +46,5 @@ returns-2 c =
 
 pub value-text-spec : {M : Type 1} → statement M
 value-text-spec =
-    tie.close
-    (tie.spec
-    (λ c. search needs)
-    unpack-septets-requires
-    returns
-    (λ c κs. search needs)
-    returns-2)
+    tie.close (tie.spec (λ c. search needs) unpack-septets-requires returns
+    (λ c κs. search needs) returns-2)

@@ -23,10 +23,6 @@ returns-2 c =
 
 pub alphabet-lines-spec : {M : Type 1} → statement M
 alphabet-lines-spec =
-    tie.close
-    (tie.spec
+    tie.close (tie.spec
     (λ c. lent-short refuses _ refl (omega (arith, length-all, c .if1 .taken)))
-    (λ c κs. search needs)
-    put-escapes-requires
-    (λ c. search needs)
-    returns-2)
+    (λ c κs. search needs) put-escapes-requires (λ c. search needs) returns-2)

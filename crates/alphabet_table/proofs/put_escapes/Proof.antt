@@ -53,17 +53,6 @@ returns c =
 
 pub put-escapes-spec : {M : Type 1} → statement M
 put-escapes-spec =
-    tie.close
-    (tie.spec
-    Inv-loop
-    μ-loop
-    (λ c. (omega arith, omega arith, refl, left-start _ _ _))
-    (λ c κs. omega arith)
-    (λ c. search needs)
-    put-octets-requires
-    put-line-requires
-    (λ c. omega arith)
-    (λ c. omega arith)
-    loop-again
-    (λ c. c .before .loop .inv .2)
-    returns)
+    tie.close (tie.spec Inv-loop μ-loop (λ c. (omega arith, omega arith, refl, left-start _ _ _)) (λ c κs. omega arith) (λ c. search needs) put-octets-requires
+    put-line-requires (λ c. omega arith) (λ c. omega arith) loop-again
+    (λ c. c .before .loop .inv .2) returns)

@@ -15,19 +15,6 @@ returns c =
 
 pub put-line-spec : {M : Type 1} → statement M
 put-line-spec =
-    tie.close
-    (tie.spec
-    (λ c κs. omega arith)
-    (λ c κs. omega arith)
-    (λ c. omega arith)
-    (λ c κs. omega arith)
-    (λ c. omega arith)
-    (λ c κs. omega arith)
-    (λ c. omega arith)
-    (λ c κs. omega arith)
-    (λ c. omega arith)
-    (λ c κs. omega arith)
-    (λ c. search needs)
-    (λ c κs. search needs)
-    (λ c. kept-by (c .before .before .put-octets .ensures))
+    tie.close (tie.spec (λ c κs. omega arith) (λ c κs. omega arith) (λ c. omega arith) (λ c κs. omega arith) (λ c. omega arith) (λ c κs. omega arith) (λ c. omega arith)
+    (λ c κs. omega arith) (λ c. omega arith) (λ c κs. omega arith) (λ c. search needs) (λ c κs. search needs) (λ c. kept-by (c .before .before .put-octets .ensures))
     returns)

@@ -43,17 +43,7 @@ returns c =
 
 pub put-septets-spec : {M : Type 1} → statement M
 put-septets-spec =
-    tie.close
-    (tie.spec
-    Inv-loop
-    μ-loop
+    tie.close (tie.spec Inv-loop μ-loop
     (λ c. (ap length (c .before .pre .0), refl, omega arith, refl, left-start _ _ _))
-    (λ c. omega arith)
-    (λ c. search needs)
-    (λ c. omega arith)
-    put-line-requires
-    (λ c. omega arith)
-    (λ c. omega arith)
-    loop-again
-    (λ c. c .before .loop .inv .1)
-    returns)
+    (λ c. omega arith) (λ c. search needs) (λ c. omega arith) put-line-requires (λ c. omega arith) (λ c. omega arith) loop-again
+    (λ c. c .before .loop .inv .1) returns)

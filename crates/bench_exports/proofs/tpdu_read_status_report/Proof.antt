@@ -7,7 +7,7 @@ use Rattle.bench_exports.proofs.tpdu_read_status_report.Statement.{stat
 use Rattle.bench_exports.proofs.tpdu_read_status_report.Tie as tie
 
 returns : tie.Need-returns
-returns c = c .taken .ensures ∙ ap (λ z. numbered (z .0 .0) (z .0 .1 .«tp_user_data» .length)) (c .before .before .before .decode .ensures)
+returns c = c .taken .ensures ∙ ap (λ z. numbered (z .0 .0) (z .0 .1 .«tp_user_data» .length)) (c .before .decode .ensures)
 
 pub tpdu-read-status-report-spec : {M : Type 1} → statement M
 tpdu-read-status-report-spec = tie.close (tie.spec (λ c κs. search needs) (λ c κs. search needs) returns)

@@ -29,10 +29,7 @@ module _ (limit dcs udl n : ℕ) {coding : UserDataCoding} {octets : ℕ} (e : o
 
 pub check-user-data-within-spec : {M : Type 1} → statement M
 check-user-data-within-spec =
-    tie.close
-    (tie.spec
-    (λ c κs. tt)
-    (λ c κs. tt)
+    tie.close (tie.spec (λ c κs. tt) (λ c κs. tt)
     (λ c. disagrees _ _ _ _ (c .before .user-data-octets .ensures) (c .before .before .user-data-coding .ensures) (c .if1 .taken))
     (λ c. too-long _ _ _ _ (c .before .before .user-data-octets .ensures) (c .before .before .before .user-data-coding .ensures) (c .before .if1 .left) (c .if2 .taken))
     (λ c. all-fine _ _ _ _ (c .before .before .user-data-octets .ensures) (c .before .before .before .user-data-coding .ensures) (c .before .if1 .left) (c .if2 .left)))

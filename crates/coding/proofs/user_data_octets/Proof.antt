@@ -8,15 +8,5 @@ use Rattle.coding.proofs.user_data_octets.Tie as tie
 pub user-data-octets-spec : {M : Type 1} → statement M
 unfolding dataOctets
 user-data-octets-spec =
-    tie.close
-    (tie.spec
-    (λ c. omega arith)
-    (λ c. omega arith)
-    (λ c. omega arith)
-    (λ c. omega arith)
-    (λ c. omega arith)
-    (λ c. omega arith)
-    (λ c. rw (c .enum-told .given .1))
-    (λ c. rw (c .enum-told2 .given .1))
-    (λ c. rw (c .enum-told3 .given .1))
-    (λ c. rw (c .enum-told4 .given .1)))
+    tie.close (tie.spec (λ c. omega arith) (λ c. omega arith) (λ c. omega arith) (λ c. omega arith) (λ c. omega arith) (λ c. omega arith)
+    (λ c. rw (c .enum-told .given .1)) (λ c. rw (c .enum-told2 .given .1)) (λ c. rw (c .enum-told3 .given .1)) (λ c. rw (c .enum-told4 .given .1)))

@@ -43,15 +43,5 @@ returns c =
 
 pub count-octets-spec : {M : Type 1} → statement M
 count-octets-spec =
-    tie.close
-    (tie.spec
-    Inv-loop
-    μ-loop
-    loop-holds
-    (λ c. omega arith)
-    (λ c. omega arith)
-    raise-requires
-    (λ c. omega arith)
-    (λ c. omega arith)
-    loop-again
+    tie.close (tie.spec Inv-loop μ-loop loop-holds (λ c. omega arith) (λ c. omega arith) raise-requires (λ c. omega arith) (λ c. omega arith) loop-again
     returns)

@@ -1,7 +1,7 @@
 -- `columns::from_columns` meets its contract: the number of strings, their lengths, their octets; then 23.
 -- Assumes nothing.
 use Prim.Native.Nat.{ℕ, _+_, _-_, _≤_}
-use mathlib.Core.Path.{_≡_, sym, _∙_, ap, subst}
+use mathlib.Core.Path.{_≡_, refl, sym, _∙_, ap, subst}
 use mathlib.Core.Bool.{true}
 use mathlib.Core.List.{List}
 use mathlib.Core.Option.{some}
@@ -23,7 +23,6 @@ use Rattle.columns.proofs.from_columns.Statement.{statement}
 use Rattle.columns.proofs.from_columns.Tie as tie
 use Rattle.columns.proofs.from_columns.Reads as reads
 use Rattle.columns.proofs.from_columns.Lts as lts
-use Rattle.columns.proofs.done.Reads as done-reads
 use Rattle.columns.proofs.measure.Reads as measure-reads
 use Rattle.columns.proofs.number_at.Reads as number-at-reads
 use Rattle.columns.proofs.put_lengths.Reads as put-lengths-reads
@@ -33,7 +32,7 @@ use Rattle.columns.proofs.take_strings.Reads as take-strings-reads
 -- what the functions called ask and tell
 abbrev claims : lts.Claims
 claims =
-    (number-at-reads.Asked, number-at-reads.Learnt, refused-reads.Asked, refused-reads.Learnt, measure-reads.Asked, measure-reads.Learnt, put-lengths-reads.Asked, put-lengths-reads.Learnt, take-strings-reads.Asked, take-strings-reads.Learnt, done-reads.Asked, done-reads.Learnt)
+    (number-at-reads.Asked, number-at-reads.Learnt, refused-reads.Asked, refused-reads.Learnt, measure-reads.Asked, measure-reads.Learnt, put-lengths-reads.Asked, put-lengths-reads.Learnt, take-strings-reads.Asked, take-strings-reads.Learnt)
 
 -- ---- the number of strings
 
@@ -183,39 +182,22 @@ take-strings-requires c κs =
 
 returns-7 : tie.Need-returns-7
 returns-7 c =
-    let p = c .before .before .before .before .before .before .before .before in
+    let p = c .before .before .before .before .before .before .before in
     let m = measured-at p in
-    let octets : c .before .before .before .take-strings .last .1 .1 .1 .0 ≡ sets (octets-of p) 0 (joined (dealt 255 (known m .ns) (rest m (all-there p)))) = rw (first p) at (c .before .before .before .take-strings .ensures .list) in
-    both-done (octets-of p) (list-of p) (read m (all-there p)) (omega (arith, octets-size m (all-there p), octets-fit p)) (list-fits p) (c .done .ensures) (known m .size) (octets-size m (all-there p)) octets (stored p)
+    let octets : c .before .before .take-strings .last .1 .1 .1 .0 ≡ sets (octets-of p) 0 (joined (dealt 255 (known m .ns) (rest m (all-there p)))) = rw (first p) at (c .before .before .take-strings .ensures .list) in
+    both-done (octets-of p) (list-of p) (read m (all-there p)) (omega (arith, octets-size m (all-there p), octets-fit p)) (list-fits p) refl (known m .size) (octets-size m (all-there p)) octets (stored p)
 
 pub from-columns-spec : {M : Type 1} → statement M
 from-columns-spec =
-    tie.close
-    (tie.spec
-    (λ c κs. tt)
-    (λ c. omega arith)
-    (λ c. omega arith)
-    (λ c κs. tt)
-    returns
-    (λ c κs. tt)
-    returns-2
-    (λ c κs. (c .if1 .left, counted (c .before) .3))
-    (λ c. omega arith)
-    (λ c. omega arith)
-    (λ c κs. tt)
-    returns-3
-    (λ c. known c .inside)
-    (λ c κs. tt)
-    returns-4
-    (λ c κs. tt)
-    returns-5
-    (λ c κs. tt)
-    returns-6
+    tie.close (tie.spec (λ c κs. tt) (λ c. omega arith) (λ c. omega arith) (λ c κs. tt) returns
+    (λ c κs. tt) returns-2
+    (λ c κs. (c .if1 .left, counted (c .before) .3)) (λ c. omega arith) (λ c. omega arith) (λ c κs. tt) returns-3
+    (λ c. known c .inside) (λ c κs. tt) returns-4
+    (λ c κs. tt) returns-5
+    (λ c κs. tt) returns-6
     (λ c κs. omega arith)
     (λ c. omega (arith, kept (c .before .before), list-fits (c .before .before), known (measured-at (c .before .before)) .size))
     (λ c. sym (ap length (first (c .before .before .before)) ∙ known (measured-at (c .before .before .before)) .size))
-    take-strings-requires
-    (λ c κs. tt)
-    (λ c. kept-by (c .before .before .before .take-strings .ensures))
-    (λ c. kept (c .before .before .before .before .before .before .before .before))
+    take-strings-requires (λ c. kept-by (c .before .before .take-strings .ensures))
+    (λ c. kept (c .before .before .before .before .before .before .before))
     returns-7)

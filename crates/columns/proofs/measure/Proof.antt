@@ -45,18 +45,8 @@ loop-again c =
 
 pub measure-spec : {M : Type 1} → statement M
 measure-spec =
-    tie.close
-    (tie.spec
-    Inv-loop
-    μ-loop
-    (λ c. (c .before .pre .0, measuring-start _ _ _ (c .before .pre .1)))
-    (λ c κs. tt)
-    (λ c. omega arith)
-    (λ c. omega arith)
-    returns
+    tie.close (tie.spec Inv-loop μ-loop (λ c. (c .before .pre .0, measuring-start _ _ _ (c .before .pre .1))) (λ c κs. tt) (λ c. omega arith) (λ c. omega arith) returns
     returns-2
     (λ c. omega (arith, c .before .before .before .before .before .before .loop .inv .1 .small))
-    (λ c. omega arith)
-    (λ c. omega arith)
-    loop-again
+    (λ c. omega arith) (λ c. omega arith) loop-again
     (λ c. measuring-end (c .before .loop .inv .1) (c .loop-test .left)))

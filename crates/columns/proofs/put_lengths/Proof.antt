@@ -31,20 +31,7 @@ loop-again c =
 
 pub put-lengths-spec : {M : Type 1} → statement M
 put-lengths-spec =
-    tie.close
-    (tie.spec
-    Inv-loop
-    μ-loop
-    (λ c. (refl, storing-start _ _ _ _))
-    (λ c κs. tt)
-    (λ c. omega arith)
-    (λ c. omega arith)
-    (λ c. c .before .before .before .before .loop .inv .0)
-    returns
-    (λ c. omega arith)
-    (λ c. omega arith)
-    (λ c. omega arith)
-    (λ c. omega arith)
-    loop-again
-    (λ c. c .before .loop .inv .0)
-    (λ c. storing-end (c .before .loop .inv .1) (c .loop-test .left)))
+    tie.close (tie.spec Inv-loop μ-loop (λ c. (refl, storing-start _ _ _ _)) (λ c κs. tt) (λ c. omega arith) (λ c. omega arith)
+    (λ c. c .before .before .before .before .loop .inv .0) returns
+    (λ c. omega arith) (λ c. omega arith) (λ c. omega arith) (λ c. omega arith) loop-again
+    (λ c. c .before .loop .inv .0) (λ c. storing-end (c .before .loop .inv .1) (c .loop-test .left)))

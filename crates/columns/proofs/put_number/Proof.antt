@@ -31,16 +31,5 @@ returns-2 c =
 
 pub put-number-spec : {M : Type 1} → statement M
 put-number-spec =
-    tie.close
-    (tie.spec
-    (λ c. omega arith)
-    put-octet-requires
-    (λ c. search needs)
-    returns
-    (λ c. omega arith)
-    (λ c. omega arith)
-    put-octet-requires-2
-    (λ c. omega arith)
-    put-octet-requires-3
-    (λ c. search needs)
-    returns-2)
+    tie.close (tie.spec (λ c. omega arith) put-octet-requires (λ c. search needs) returns
+    (λ c. omega arith) (λ c. omega arith) put-octet-requires-2 (λ c. omega arith) put-octet-requires-3 (λ c. search needs) returns-2)

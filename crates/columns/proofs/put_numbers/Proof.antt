@@ -44,16 +44,6 @@ returns c =
 
 pub put-numbers-spec : {M : Type 1} → statement M
 put-numbers-spec =
-    tie.close
-    (tie.spec
-    Inv-loop
-    μ-loop
-    (λ c. (omega arith, refl, left-start _ _ _))
-    (λ c. omega arith)
-    (λ c. omega arith)
-    put-number-requires
-    (λ c. omega arith)
-    (λ c. omega arith)
-    loop-again
-    (λ c. c .before .loop .inv .1)
-    returns)
+    tie.close (tie.spec Inv-loop μ-loop (λ c. (omega arith, refl, left-start _ _ _)) (λ c. omega arith) (λ c. omega arith) put-number-requires (λ c. omega arith)
+    (λ c. omega arith) loop-again
+    (λ c. c .before .loop .inv .1) returns)

@@ -41,18 +41,6 @@ returns c =
 
 pub put-string-spec : {M : Type 1} → statement M
 put-string-spec =
-    tie.close
-    (tie.spec
-    Inv-loop
-    μ-loop
-    loop-holds
-    (λ c. omega arith)
-    (λ c. omega arith)
-    (λ c. omega arith)
-    (λ c. omega arith)
-    slice-write-out
-    (λ c. omega arith)
-    (λ c. omega arith)
-    loop-again
-    (λ c. c .before .loop .inv .1)
-    returns)
+    tie.close (tie.spec Inv-loop μ-loop loop-holds (λ c. omega arith) (λ c. omega arith) (λ c. omega arith) (λ c. omega arith) slice-write-out (λ c. omega arith)
+    (λ c. omega arith) loop-again
+    (λ c. c .before .loop .inv .1) returns)

@@ -6,7 +6,7 @@ use denote.Ref.{now}
 use lib.ListN.{length}
 use Rattle.columns.proofs.Laws.{allowed-means}
 use Rattle.columns.proofs.Places.{at-most-at}
-use Rattle.columns.proofs.StringByString.{Putting, putting-start, putting-kept, putting-next, putting-end, string-inside, places-inside}
+use Rattle.columns.proofs.StringByString.{Putting, putting-start, putting-kept, putting-next, putting-end, string-inside, places-inside, places-raised}
 use Rattle.columns.proofs.put_strings.Statement.{statement}
 use Rattle.columns.proofs.put_strings.Tie as tie
 
@@ -29,11 +29,7 @@ put-string-requires c κs =
     (t .starts .size, at-most-at 255 ns (t .few) (l .i), omega (arith, t .here, t .enough, string-inside ns (l .i)), λ k h. omega (arith, t .room, putting-kept t, places-inside ns (l .i) (t .starts) (t .few) (c .before .before .before .loop-test .taken) k h))
 
 raise-requires : tie.Need-raise-requires Inv-loop μ-loop
-raise-requires c κs =
-    let l = c .before .before .before .before .before .before .before .before .loop in
-    let t = l .inv in
-    let ns = now (c .before .before .before .before .before .before .before .before .before .before .before .before .before .args .lengths) in
-    (t .starts .size, at-most-at 255 ns (t .few) (l .i), λ k h. omega (arith, t .room, places-inside ns (l .i) (t .starts) (t .few) (c .before .before .before .before .before .before .before .loop-test .taken) k h))
+raise-requires c κs = let l = c .before .before .before .before .before .before .before .before .loop in places-raised _ (l .i) (l .inv .starts) (l .inv .few) (c .before .before .before .before .before .before .before .loop-test .taken) (omega (arith, l .inv .room))
 
 loop-again : tie.Need-loop-again Inv-loop μ-loop
 loop-again c =
@@ -54,20 +50,7 @@ add-result c =
 
 pub put-strings-spec : {M : Type 1} → statement M
 put-strings-spec =
-    tie.close
-    (tie.spec
-    Inv-loop
-    μ-loop
+    tie.close (tie.spec Inv-loop μ-loop
     (λ c κs. (c .before .before .before .pre .0, omega (arith, c .before .before .before .pre .2)))
-    loop-holds
-    (λ c. omega arith)
-    (λ c. omega arith)
-    put-string-requires
-    raise-requires
-    add-at
-    (λ c. omega arith)
-    (λ c. omega arith)
-    loop-again
-    add-result
-    (λ c. putting-kept (c .before .loop .inv))
-    (λ c. putting-end (c .before .loop .inv) (c .loop-test .left)))
+    loop-holds (λ c. omega arith) (λ c. omega arith) put-string-requires raise-requires add-at (λ c. omega arith) (λ c. omega arith) loop-again
+    add-result (λ c. putting-kept (c .before .loop .inv)) (λ c. putting-end (c .before .loop .inv) (c .loop-test .left)))

@@ -30,16 +30,7 @@ returns c =
 
 pub raise-spec : {M : Type 1} → statement M
 raise-spec =
-    tie.close
-    (tie.spec
-    Inv-loop
-    μ-loop
-    (λ c. (omega arith, raised-start _ (c .pre .0)))
-    (λ c. omega arith)
-    (λ c. omega arith)
-    add-places
-    (λ c. omega arith)
-    (λ c. omega arith)
-    (λ c. omega arith)
+    tie.close (tie.spec Inv-loop μ-loop (λ c. (omega arith, raised-start _ (c .pre .0))) (λ c. omega arith) (λ c. omega arith) add-places (λ c. omega arith)
+    (λ c. omega arith) (λ c. omega arith)
     (λ c. (omega arith, raised-next (c .before .before .loop .inv .1) (omega arith)))
     returns)

@@ -31,19 +31,6 @@ loop-again c = sizing-next (c .before .before .before .before .loop .inv) (c .be
 
 pub sizes-of-spec : {M : Type 1} → statement M
 sizes-of-spec =
-    tie.close
-    (tie.spec
-    Inv-loop
-    μ-loop
-    (λ c. too-many-strings _ (c .if1 .taken))
-    (λ c. sizing-start _ (omega arith))
-    (λ c. omega arith)
-    (λ c. omega arith)
-    returns-2
-    add-octets
-    (λ c κs. omega arith)
-    add-taken
-    (λ c. omega arith)
-    (λ c. omega arith)
-    loop-again
+    tie.close (tie.spec Inv-loop μ-loop (λ c. too-many-strings _ (c .if1 .taken)) (λ c. sizing-start _ (omega arith)) (λ c. omega arith) (λ c. omega arith) returns-2
+    add-octets (λ c κs. omega arith) add-taken (λ c. omega arith) (λ c. omega arith) loop-again
     (λ c. sizing-end (c .before .loop .inv) (c .loop-test .left)))

@@ -19,17 +19,9 @@ returns c =
 
 pub sum-up-spec : {M : Type 1} → statement M
 sum-up-spec =
-    tie.close
-    (tie.spec
-    Inv-loop
-    μ-loop
-    (λ c. (omega arith, summing-start _ _ (c .pre .0)))
-    (λ c. omega arith)
-    (λ c. omega (arith, c .before .loop .inv .1 .size))
-    (λ c. omega arith)
-    (λ c. omega (arith, c .before .before .loop .inv .1 .size))
+    tie.close (tie.spec Inv-loop μ-loop (λ c. (omega arith, summing-start _ _ (c .pre .0))) (λ c. omega arith) (λ c. omega (arith, c .before .loop .inv .1 .size))
+    (λ c. omega arith) (λ c. omega (arith, c .before .before .loop .inv .1 .size))
     (λ c. omega (arith, summing-within (c .before .before .loop .inv .1), c .before .before .before .pre .1))
-    (λ c. omega arith)
-    (λ c. omega arith)
+    (λ c. omega arith) (λ c. omega arith)
     (λ c. (omega arith, summing-next (c .before .before .loop .inv .1) (c .before .loop-test .taken)))
     returns)

@@ -42,19 +42,6 @@ returns c =
 
 pub take-string-spec : {M : Type 1} → statement M
 take-string-spec =
-    tie.close
-    (tie.spec
-    Inv-loop
-    μ-loop
-    loop-holds
-    (λ c. omega arith)
-    (λ c. omega arith)
-    shared-slice-read-octets
-    (λ c. omega arith)
-    (λ c. omega arith)
-    (λ c. omega arith)
-    (λ c. omega arith)
-    loop-again
-    (λ c. omega arith)
-    (λ c. c .before .loop .inv .1)
-    returns)
+    tie.close (tie.spec Inv-loop μ-loop loop-holds (λ c. omega arith) (λ c. omega arith) shared-slice-read-octets (λ c. omega arith) (λ c. omega arith) (λ c. omega arith)
+    (λ c. omega arith) loop-again
+    (λ c. omega arith) (λ c. c .before .loop .inv .1) returns)

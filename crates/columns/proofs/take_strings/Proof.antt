@@ -6,7 +6,7 @@ use denote.Ref.{now}
 use lib.ListN.{length}
 use Rattle.columns.proofs.Laws.{allowed-means}
 use Rattle.columns.proofs.Places.{at-most-at}
-use Rattle.columns.proofs.StringByString.{Taking, taking-start, taking-next, taking-end, string-inside, places-inside}
+use Rattle.columns.proofs.StringByString.{Taking, taking-start, taking-next, taking-end, string-inside, places-inside, places-raised}
 use Rattle.columns.proofs.take_strings.Statement.{statement}
 use Rattle.columns.proofs.take_strings.Tie as tie
 
@@ -16,11 +16,6 @@ Inv-loop block body lengths octets₀ places₀ at₀ i₀ octets places at i = 
 abbrev μ-loop : tie.MeasureT-loop
 μ-loop block body lengths octets₀ places₀ at₀ i₀ octets places at i = length lengths - i
 
-loop-holds : tie.Need-loop-holds Inv-loop μ-loop
-loop-holds c =
-    let p = c .before .before .before .before .pre in
-    taking-start (allowed-means _ .0 (p .0) .1) (p .1) (p .2) (c .column-starts .ensures)
-
 take-string-requires : tie.Need-take-string-requires Inv-loop μ-loop
 take-string-requires c κs =
     let l = c .before .before .before .before .loop in
@@ -29,11 +24,7 @@ take-string-requires c κs =
     (t .starts .size, at-most-at 255 ns (t .few) (l .i), omega (arith, t .here, t .kept, t .room, string-inside ns (l .i)), λ k h. omega (arith, t .whole, places-inside ns (l .i) (t .starts) (t .few) (c .before .before .before .loop-test .taken) k h))
 
 raise-requires : tie.Need-raise-requires Inv-loop μ-loop
-raise-requires c κs =
-    let l = c .before .before .before .before .before .before .before .before .loop in
-    let t = l .inv in
-    let ns = now (c .before .before .before .before .before .before .before .before .before .before .before .before .before .args .lengths) in
-    (t .starts .size, at-most-at 255 ns (t .few) (l .i), λ k h. omega (arith, t .whole, places-inside ns (l .i) (t .starts) (t .few) (c .before .before .before .before .before .before .before .loop-test .taken) k h))
+raise-requires c κs = let l = c .before .before .before .before .before .before .before .before .loop in places-raised _ (l .i) (l .inv .starts) (l .inv .few) (c .before .before .before .before .before .before .before .loop-test .taken) (omega (arith, l .inv .whole))
 
 loop-again : tie.Need-loop-again Inv-loop μ-loop
 loop-again c =
@@ -42,18 +33,8 @@ loop-again c =
 
 pub take-strings-spec : {M : Type 1} → statement M
 take-strings-spec =
-    tie.close
-    (tie.spec
-    Inv-loop
-    μ-loop
+    tie.close (tie.spec Inv-loop μ-loop
     (λ c κs. (c .before .before .before .pre .0, omega (arith, c .before .before .before .pre .1)))
-    loop-holds
-    (λ c. omega arith)
-    (λ c. omega arith)
-    take-string-requires
-    raise-requires
-    (λ c. omega arith)
-    (λ c. omega arith)
-    loop-again
-    (λ c. c .before .loop .inv .kept)
-    (λ c. taking-end (c .before .loop .inv) (c .loop-test .left)))
+    (λ c. let p = c .before .before .before .before .pre in taking-start (allowed-means _ .0 (p .0) .1) (p .1) (p .2) (c .column-starts .ensures))
+    (λ c. omega arith) (λ c. omega arith) take-string-requires raise-requires (λ c. omega arith) (λ c. omega arith) loop-again
+    (λ c. c .before .loop .inv .kept) (λ c. taking-end (c .before .loop .inv) (c .loop-test .left)))

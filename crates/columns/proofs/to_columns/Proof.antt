@@ -128,19 +128,10 @@ returns-4 c =
 
 pub to-columns-spec : {M : Type 1} → statement M
 to-columns-spec =
-    tie.close
-    (tie.spec
-    (λ c κs. tt)
-    (λ c. omega arith)
-    (λ c. omega arith)
-    returns
+    tie.close (tie.spec (λ c κs. tt) (λ c. omega arith) (λ c. omega arith) returns
     returns-2
     (λ c κs. omega (arith, few (c .before)))
     (λ c. omega (arith, small (c .before .before) .1, c .groups-of .ensures, groups-few (length (ns (c .before .before))) (omega (arith, few (c .before .before)))))
     (λ c. omega (arith, small (c .before .before), c .groups-of .ensures, groups-few (length (ns (c .before .before))) (omega (arith, few (c .before .before)))))
     returns-3
-    put-number-requires
-    put-numbers-requires
-    put-strings-requires
-    (λ c. kept-by (written c))
-    returns-4)
+    put-number-requires put-numbers-requires put-strings-requires (λ c. kept-by (written c)) returns-4)

@@ -59,17 +59,8 @@ returns-2 c = let l = c .before .loop in counted-end _ (l .from) (l .septets) (l
 
 pub count-parts-spec : {M : Type 1} → statement M
 count-parts-spec =
-    tie.close
-    (tie.spec
-    Inv-loop
-    μ-loop
+    tie.close (tie.spec Inv-loop μ-loop
     (λ c. (refl, omega arith, omega arith, omega arith, counted-start (septetsOf (now (c .before .args .text)))))
-    store-part-requires
-    (λ c. omega arith)
-    (λ c. omega arith)
-    returns
-    (λ c. omega (arith, part c .0 .few, part c .1))
-    (λ c. omega arith)
-    (λ c. omega (arith, part c .0 .on))
-    loop-again
+    store-part-requires (λ c. omega arith) (λ c. omega arith) returns
+    (λ c. omega (arith, part c .0 .few, part c .1)) (λ c. omega arith) (λ c. omega (arith, part c .0 .on)) loop-again
     returns-2)

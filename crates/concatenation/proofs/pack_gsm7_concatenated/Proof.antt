@@ -126,35 +126,11 @@ returns-6 c =
 
 pub pack-gsm7-concatenated-spec : {M : Type 1} → statement M
 pack-gsm7-concatenated-spec =
-    tie.close
-    (tie.spec
-    (λ c κs. codes-right)
-    (λ c. omega arith)
-    (λ c. omega arith)
-    (λ c κs. tt)
-    returns
-    (λ c. omega arith)
-    (λ c. omega arith)
-    (λ c. omega arith)
-    (λ c κs. tt)
-    returns-2
-    put-one-requires
-    (λ c κs. tt)
-    (λ c. omega arith)
-    returns-3
-    (λ c κs. tt)
-    returns-4
+    tie.close (tie.spec (λ c κs. codes-right) (λ c. omega arith) (λ c. omega arith) (λ c κs. tt) returns
+    (λ c. omega arith) (λ c. omega arith) (λ c. omega arith) (λ c κs. tt) returns-2
+    put-one-requires (λ c κs. tt) (λ c. omega arith) returns-3
+    (λ c κs. tt) returns-4
     (λ c. omega (arith, some-part (c .before .before) (c .before .if1 .left)))
-    (λ c. omega arith)
-    (λ c. omega arith)
-    (λ c. omega (arith, last-fits (c .before .before)))
-    (λ c. omega (arith, last-fits (c .before .before)))
-    (λ c. omega (arith, last-fits (c .before .before)))
-    (λ c. omega (arith, last-fits (c .before .before)))
-    (λ c κs. tt)
-    returns-5
-    (λ c. omega arith)
-    put-parts-requires
-    (λ c κs. tt)
-    (λ c. omega arith)
-    returns-6)
+    (λ c. omega arith) (λ c. omega arith) (λ c. omega (arith, last-fits (c .before .before))) (λ c. omega (arith, last-fits (c .before .before)))
+    (λ c. omega (arith, last-fits (c .before .before))) (λ c. omega (arith, last-fits (c .before .before))) (λ c κs. tt) returns-5
+    (λ c. omega arith) put-parts-requires (λ c κs. tt) (λ c. omega arith) returns-6)

@@ -43,16 +43,9 @@ returns c =
 
 pub put-message-spec : {M : Type 1} → statement M
 put-message-spec =
-    tie.close
-    (tie.spec
-    (λ c κs. omega arith)
-    (λ c. omega (arith, c .before .header-septets .ensures))
-    (λ c. omega (arith, c .before .header-septets .ensures))
-    (λ c κs. omega arith)
-    put-octets-requires
+    tie.close (tie.spec (λ c κs. omega arith) (λ c. omega (arith, c .before .header-septets .ensures)) (λ c. omega (arith, c .before .header-septets .ensures))
+    (λ c κs. omega arith) put-octets-requires
     (λ c. omega (arith, c .before .before .before .before .before .before .before .before .header-septets .ensures))
     (λ c. omega arith)
     (λ c. omega (arith, c .before .before .before .before .before .before .before .before .header-septets .ensures))
-    pack-octets-requires
-    (λ c. omega arith)
-    returns)
+    pack-octets-requires (λ c. omega arith) returns)

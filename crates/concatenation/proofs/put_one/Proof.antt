@@ -64,15 +64,7 @@ returns-2 c = rw (front (c .before .before .before .before .before)) at (c .befo
 
 pub put-one-spec : {M : Type 1} → statement M
 put-one-spec =
-    tie.close
-    (tie.spec
-    (λ c κs. omega arith)
-    (λ c. omega arith)
-    (λ c. omega arith)
-    returns
-    (λ c. omega arith)
-    (λ c. omega (arith, few c, codes-long c))
+    tie.close (tie.spec (λ c κs. omega arith) (λ c. omega arith) (λ c. omega arith) returns
+    (λ c. omega arith) (λ c. omega (arith, few c, codes-long c))
     (λ c. sym (length-take-le _ _ (omega (arith, few (c .before), codes-long (c .before)))))
-    put-message-requires
-    (λ c. omega arith)
-    returns-2)
+    put-message-requires (λ c. omega arith) returns-2)

@@ -72,22 +72,11 @@ returns-2 c = let e = putting-end (c .before .loop .inv .2) (c .loop-test .left)
 
 pub put-parts-spec : {M : Type 1} → statement M
 put-parts-spec =
-    tie.close
-    (tie.spec
-    Inv-loop
-    μ-loop
-    loop-holds
+    tie.close (tie.spec Inv-loop μ-loop loop-holds
     (λ c κs. (c .before .before .before .before .before .pre .0, omega arith, c .before .before .loop .inv .0))
-    (λ c. omega arith)
-    (λ c. omega arith)
-    (λ c. c .before .before .before .before .before .loop .inv .1)
-    returns
+    (λ c. omega arith) (λ c. omega arith) (λ c. c .before .before .before .before .before .loop .inv .1) returns
     (λ c. omega (arith, putting-more (c .before .before .before .before .before .before .loop .inv .2) (part c .0)))
-    (λ c. omega arith)
-    (λ c. omega (arith, part (c .before)))
-    (λ c. sym (part (c .before .before) .1))
-    put-message-requires
+    (λ c. omega arith) (λ c. omega (arith, part (c .before))) (λ c. sym (part (c .before .before) .1)) put-message-requires
     (λ c. omega (arith, part (c .before .before .before .before .before .before) .0 .on))
     loop-again
-    (λ c. c .before .loop .inv .1)
-    returns-2)
+    (λ c. c .before .loop .inv .1) returns-2)

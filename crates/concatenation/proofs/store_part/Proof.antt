@@ -91,28 +91,13 @@ returns-3 c = stores-end (c .before .loop .inv) (c .before .before .before .pre 
 
 pub store-part-spec : {M : Type 1} → statement M
 store-part-spec =
-    tie.close
-    (tie.spec
-    Inv-loop
-    μ-loop
+    tie.close (tie.spec Inv-loop μ-loop
     (λ c. record { array = c .before .pre .2; room = omega arith; is = storing-start _ _ (c .before .pre .1) })
-    (λ c. omega arith)
-    (λ c. omega arith)
-    (λ c. omega arith)
-    (λ c. omega arith)
-    (λ c. omega arith)
-    (λ c. omega arith)
-    (λ c. omega arith)
-    loop-again
-    (λ c κs. omega arith)
-    (λ c. omega arith)
-    (λ c. omega arith)
-    returns
+    (λ c. omega arith) (λ c. omega arith) (λ c. omega arith) (λ c. omega arith) (λ c. omega arith) (λ c. omega arith) (λ c. omega arith) loop-again
+    (λ c κs. omega arith) (λ c. omega arith) (λ c. omega arith) returns
     (λ c κs. (c .before .before .before .before .before .before .before .before .before .before .pre .0, omega arith, c .before .before .before .before .before .before .before .before .loop .inv .array))
     returns-2
-    (λ c. omega (arith, wide (c .before .before)))
-    (λ c. omega (arith, wide (c .before .before)))
-    loop-again-2
+    (λ c. omega (arith, wide (c .before .before))) (λ c. omega (arith, wide (c .before .before))) loop-again-2
     returns-3
     returns-4
     returns-5)

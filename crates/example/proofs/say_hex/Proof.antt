@@ -15,17 +15,7 @@ abbrev μ-loop : tie.MeasureT-loop
 
 pub say-hex-spec : {M : Type 1} → statement M
 say-hex-spec =
-    tie.close
-    (tie.spec
-    Inv-loop
-    μ-loop
-    (λ c. tt)
-    (λ c. omega arith)
+    tie.close (tie.spec Inv-loop μ-loop
+    (λ c. tt) (λ c. omega arith)
     (λ c. omega (arith, c .shared-slice-known2 .given (c .before .before .loop .i)))
-    (λ c κs. tt)
-    (λ c. omega arith)
-    (λ c. omega arith)
-    (λ c. tt)
-    (λ c. search needs)
-    (λ c κs. tt)
-    (λ c. tt))
+    (λ c κs. tt) (λ c. omega arith) (λ c. omega arith) (λ c. tt) (λ c. search needs) (λ c κs. tt) (λ c. tt))

@@ -41,19 +41,11 @@ returns c =
 
 pub chain-spec : {M : Type 1} → statement M
 chain-spec =
-    tie.close
-    (tie.spec
-    Inv-loop
-    μ-loop
-    loop-holds
-    (λ c. omega arith)
-    (λ c. omega arith)
-    (λ c. omega arith)
+    tie.close (tie.spec Inv-loop μ-loop loop-holds (λ c. omega arith) (λ c. omega arith) (λ c. omega arith)
     (λ c. omega (arith, c .shared-slice-known .given (length (now (c .before .before .before .args .identifiers)) - (c .before .before .loop .chained + 1))))
     (λ c. omega (arith, c .shared-slice-known .given (length (now (c .before .before .before .args .identifiers)) - (c .before .before .loop .chained + 1)), c .before .before .loop .inv .1 .all-firsts))
     (λ c. omega (arith, c .before .before .before .before .pre .0, c .before .before .loop-test .taken, c .before .before .before .loop .inv .2 .all-nexts))
     (λ c. omega (arith, c .before .before .before .before .pre .0, c .before .before .loop-test .taken))
     (λ c. omega (arith, c .before .shared-slice-known .given (length (now (c .before .before .before .before .args .identifiers)) - (c .before .before .before .loop .chained + 1)), c .before .before .before .loop .inv .1 .all-firsts))
-    (λ c. omega (arith, c .before .before .loop-test .taken))
-    loop-again
+    (λ c. omega (arith, c .before .before .loop-test .taken)) loop-again
     returns)

@@ -39,17 +39,10 @@ returns c =
 
 pub find-starts-spec : {M : Type 1} → statement M
 find-starts-spec =
-    tie.close
-    (tie.spec
-    Inv-loop
-    μ-loop
-    loop-holds
-    cast-starts
+    tie.close (tie.spec Inv-loop μ-loop loop-holds cast-starts
     (λ c. omega (arith, c .loop-test .taken, c .before .before .pre .0, c .before .loop .inv .2 .all-starts))
     (λ c. omega arith)
     (λ c. omega (arith, c .shared-slice-known .given (c .before .before .loop .i)))
     (λ c. omega (arith, c .shared-slice-known .given (c .before .before .loop .i), c .before .before .loop .inv .1, total-inside (now (c .before .before .before .args .lengths)) (c .before .before .loop .i) (c .before .loop-test .taken), c .before .before .before .pre .1))
-    (λ c. omega arith)
-    (λ c. omega arith)
-    loop-again
+    (λ c. omega arith) (λ c. omega arith) loop-again
     returns)

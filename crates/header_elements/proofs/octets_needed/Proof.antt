@@ -23,16 +23,8 @@ loop-again c =
 
 pub octets-needed-spec : {M : Type 1} → statement M
 octets-needed-spec =
-    tie.close
-    (tie.spec
-    Inv-loop
-    μ-loop
-    (λ c. omega (arith, c .pre))
-    (λ c. (omega arith, omega arith, refl))
-    (λ c. omega arith)
+    tie.close (tie.spec Inv-loop μ-loop (λ c. omega (arith, c .pre)) (λ c. (omega arith, omega arith, refl)) (λ c. omega arith)
     (λ c. omega (arith, c .shared-slice-known .given (c .before .before .loop .i)))
     (λ c. omega (arith, c .before .before .before .pre, c .shared-slice-known .given (c .before .before .loop .i)))
-    (λ c. omega arith)
-    (λ c. omega arith)
-    loop-again
+    (λ c. omega arith) (λ c. omega arith) loop-again
     (λ c. omega (arith, total-done (now (c .before .before .args .lengths)) (c .before .loop .i) (c .loop-test .left))))

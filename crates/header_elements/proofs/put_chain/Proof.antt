@@ -36,19 +36,14 @@ loop-again c =
 
 pub put-chain-spec : {M : Type 1} → statement M
 put-chain-spec =
-    tie.close
-    (tie.spec
-    Inv-loop
-    μ-loop
+    tie.close (tie.spec Inv-loop μ-loop
     (λ c. putting-start _ _ _ _ _ _ (c .before .before .before .before .before .before .pre .0) (c .before .before .before .before .before .before .pre .2))
     (λ c. omega (arith, c .before .loop-test .taken, c .before .before .before .before .before .before .before .before .before .pre .1, c .before .before .before .before .before .before .before .before .before .pre .3 .all-starts))
     (λ c. omega (arith, c .shared-slice-known6 .given (c .before .before .loop .i)))
     (λ c. omega (arith, c .before .before .before .loop .inv .same))
     (λ c. omega (arith, c .shared-slice-known7 .given (c .before .before .before .loop .i)))
     (λ c. omega (arith, ends-inside _ _ _ _ _ _ (c .before .before .before .loop .inv) (c .before .before .loop-test .taken) (c .before .before .before .before .before .before .before .before .before .before .pre .3)))
-    (λ c. omega arith)
-    (λ c. omega arith)
-    (λ c. omega arith)
+    (λ c. omega arith) (λ c. omega arith) (λ c. omega arith)
     (λ c. omega (arith, ends-inside _ _ _ _ _ _ (c .before .before .before .before .before .loop .inv) (c .before .before .before .before .loop-test .taken) (c .before .before .before .before .before .before .before .before .before .before .before .before .pre .3)))
     put-element-requires
     (λ c. omega (arith, c .before .before .before .before .before .before .before .before .before .loop-test .taken, c .before .before .before .before .before .before .before .before .before .before .before .before .before .before .before .before .before .pre .1, c .before .before .before .before .before .before .before .before .before .before .before .before .before .before .before .before .before .pre .4 .all-nexts))

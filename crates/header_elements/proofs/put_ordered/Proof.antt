@@ -60,20 +60,11 @@ returns c =
 
 pub put-ordered-spec : {M : Type 1} → statement M
 put-ordered-spec =
-    tie.close
-    (tie.spec
-    Inv-loop
-    μ-loop
+    tie.close (tie.spec Inv-loop μ-loop
     (λ c κs. let (same, few, small, inside, room) = c .before .before .before .before .before .pre in (omega (arith, same, few), small, refl))
     (λ c κs. (c .before .before .before .before .before .before .before .before .pre .1, refl, refl))
-    (λ c. (omega arith, none-below _ _ _))
-    (λ c. omega (arith, c .before .loop .inv .0))
-    (λ c. omega (arith, c .before .loop-test .taken))
+    (λ c. (omega arith, none-below _ _ _)) (λ c. omega (arith, c .before .loop .inv .0)) (λ c. omega (arith, c .before .loop-test .taken))
     (λ c. sym (c .before .before .before .before .before .before .before .find-starts .ensures .all-starts))
     (λ c. sym (c .before .before .before .before .before .chain .ensures .1 .all-nexts))
-    put-chain-requires
-    (λ c. omega arith)
-    (λ c. omega arith)
-    loop-again
-    (λ c. kept-by (c .before .loop .inv .1))
-    returns)
+    put-chain-requires (λ c. omega arith) (λ c. omega arith) loop-again
+    (λ c. kept-by (c .before .loop .inv .1)) returns)

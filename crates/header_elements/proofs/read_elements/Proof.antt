@@ -1,7 +1,7 @@
 -- `header_elements::read_elements` meets its contract: the elements that are left, stored after those that are read already, make the answer.
 -- Assumes nothing.
 use Prim.Native.Nat.{_+_, _-_}
-use mathlib.Core.Path.{_≡_, sym, _∙_}
+use mathlib.Core.Path.{sym, _∙_}
 use native.Mathlib.Omega.{arith}
 use denote.Ref.{now}
 use lib.ListN.{length, getD, drop, length-take}
@@ -31,14 +31,7 @@ loop-again c =
 
 pub read-elements-spec : {M : Type 1} → statement M
 read-elements-spec =
-    tie.close
-    (tie.spec
-    Inv-loop
-    μ-loop
-    (λ c. so-far-start _ (c .before .pre))
-    (λ c. omega (arith, c .loop .inv .few))
-    (λ c. omega arith)
-    (λ c. omega arith)
+    tie.close (tie.spec Inv-loop μ-loop (λ c. so-far-start _ (c .before .pre)) (λ c. omega (arith, c .loop .inv .few)) (λ c. omega arith) (λ c. omega arith)
     (λ c. omega arith)
     (λ c. omega (arith, c .shared-slice-known2 .given (c .before .before .loop .at + 1)))
     (λ c. omega (arith, c .shared-slice-known2 .given (c .before .before .loop .at + 1)))
@@ -48,13 +41,9 @@ read-elements-spec =
     (λ c. omega (arith, c .before .before .before .before .loop .inv .place))
     (λ c. omega (arith, c .before .before .before .before .loop .inv .place))
     (λ c. sym (c .before .before .before .before .before .loop .inv .room))
-    (λ c. omega arith)
-    (λ c. omega arith)
-    (λ c. omega arith)
-    put-octets-requires
+    (λ c. omega arith) (λ c. omega arith) (λ c. omega arith) put-octets-requires
     (λ c. omega (arith, c .before .before .before .before .before .before .before .before .loop .inv .place))
-    (λ c. omega arith)
-    loop-again
+    (λ c. omega arith) loop-again
     (λ c κs. tt)
     (λ c. c .refused2 .ensures ∙ so-far-lone (c .before .before .before .loop .inv) (c .before .if2 .taken) (c .before .before .loop-test .left))
     (λ c. so-far-done (c .before .before .loop .inv) (c .if2 .left)))

@@ -1,12 +1,12 @@
 -- `header_elements::read_header_elements` meets its contract: 17, or the elements of the octets after the first.
 -- Assumes nothing.
-use Prim.Native.Nat.{_+_, _-_}
+use Prim.Native.Nat.{_-_}
 use mathlib.Core.Path.{_≡_, _∙_}
 use native.Mathlib.Omega.{arith}
 use borrow.Author.Needs.{needs}
 use borrow.Author.Tests.{lt-ltb, le-ltb}
 use denote.Ref.{now}
-use lib.ListN.{length, getD, drop, length-take}
+use lib.ListN.{getD}
 use Rattle.header_elements.specs.Elements.{elementsIn}
 use Rattle.header_elements.specs.Record.{elementsRead}
 use Rattle.header_elements.proofs.read_header_elements.Statement.{statement}
@@ -25,13 +25,5 @@ returns-2 c =
 
 pub read-header-elements-spec : {M : Type 1} → statement M
 read-header-elements-spec =
-    tie.close
-    (tie.spec
-    (λ c κs. search needs)
-    (λ c κs. search needs)
-    returns
-    (λ c. search needs)
-    (λ c. search needs)
-    (λ c. search needs)
-    (λ c κs. search needs)
-    returns-2)
+    tie.close (tie.spec (λ c κs. search needs) (λ c κs. search needs) returns
+    (λ c. search needs) (λ c. search needs) (λ c. search needs) (λ c κs. search needs) returns-2)

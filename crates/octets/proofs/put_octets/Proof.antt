@@ -1,11 +1,10 @@
 -- `octets::put_octets` meets its contract: what is left of the octets is stored one by one.
 -- Assumes nothing.
 use Prim.Native.Nat.{_+_, _-_, _≤_}
-use mathlib.Core.Path.{_≡_, refl, sym}
+use mathlib.Core.Path.{_≡_, refl}
 use native.Mathlib.Omega.{arith}
 use native.Mathlib.Nat.{add-zero, add-assoc}
 use native.Mathlib.Numerals.{add-one}
-use denote.Ref.{now}
 use lib.ListN.{length, drop, length-set, drop-of-length-le}
 use lib.Seq.{sets, drop-cons}
 use Rattle.octets.proofs.Laws.{Left, left-start, left-step, left-end, wrote-one}
@@ -29,17 +28,6 @@ returns c = record { place = refl; list = left-end (c .before .loop .inv .2) (dr
 
 pub put-octets-spec : {M : Type 1} → statement M
 put-octets-spec =
-    tie.close
-    (tie.spec
-    Inv-loop
-    μ-loop
-    (λ c. (omega arith, refl, rw add-zero (left-start _ _ _)))
-    (λ c. omega arith)
-    (λ c. omega arith)
-    (λ c. omega arith)
-    (λ c. omega arith)
-    (λ c. omega arith)
-    loop-again
-    (λ c. omega arith)
-    (λ c. c .before .loop .inv .1)
-    returns)
+    tie.close (tie.spec Inv-loop μ-loop (λ c. (omega arith, refl, rw add-zero (left-start _ _ _))) (λ c. omega arith) (λ c. omega arith) (λ c. omega arith)
+    (λ c. omega arith) (λ c. omega arith) loop-again
+    (λ c. omega arith) (λ c. c .before .loop .inv .1) returns)

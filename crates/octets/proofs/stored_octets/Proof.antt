@@ -8,8 +8,5 @@ use Rattle.octets.proofs.stored_octets.Tie as tie
 
 pub stored-octets-spec : {M : Type 1} → statement M
 stored-octets-spec =
-    tie.close
-    (tie.spec
-    (λ c. search needs)
-    (λ c κs. search needs)
+    tie.close (tie.spec (λ c. search needs) (λ c κs. search needs)
     (λ c. c .before .put-octets .ensures .list ∙ sets-zeros 255 _ (c .before .before .before .before .pre)))

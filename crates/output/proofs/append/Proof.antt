@@ -8,11 +8,6 @@ use Rattle.output.proofs.append.Tie as tie
 
 pub append-spec : {M : Type 1} → statement M
 append-spec =
-    tie.close
-    (tie.spec
-    (λ c. left-out _ _ _ (omega arith))
-    (λ c. omega arith)
-    (λ c. left-out _ _ _ (omega arith))
-    (λ c κs. omega arith)
-    (λ c. search needs)
+    tie.close (tie.spec
+    (λ c. left-out _ _ _ (omega arith)) (λ c. omega arith) (λ c. left-out _ _ _ (omega arith)) (λ c κs. omega arith) (λ c. search needs)
     (λ c. fits _ _ _ (omega arith) (c .before .before .put-octets .ensures)))

@@ -42,22 +42,6 @@ returns c =
 
 pub put-decimal-spec : {M : Type 1} → statement M
 put-decimal-spec =
-    tie.close
-    (tie.spec
-    Inv-loop
-    μ-loop
-    (λ c. omega arith)
-    (λ c. omega arith)
-    (λ c. search needs)
-    loop-holds
-    (λ c. turn c .0)
-    (λ c. omega arith)
-    (λ c. omega arith)
-    (λ c. omega arith)
-    (λ c. omega (arith, turn c .0))
-    loop-again
-    (λ c. omega arith)
-    (λ c. omega arith)
-    (λ c. search needs)
-    (λ c κs. tt)
-    returns)
+    tie.close (tie.spec Inv-loop μ-loop
+    (λ c. omega arith) (λ c. omega arith) (λ c. search needs) loop-holds (λ c. turn c .0) (λ c. omega arith) (λ c. omega arith) (λ c. omega arith)
+    (λ c. omega (arith, turn c .0)) loop-again (λ c. omega arith) (λ c. omega arith) (λ c. search needs) (λ c κs. tt) returns)

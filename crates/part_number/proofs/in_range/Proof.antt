@@ -29,10 +29,7 @@ out-of-range s ne e = rw (ne-eqb (s .width) 0 ne) (by-eight (eqb (s .width) 8))
 pub in-range-spec : {M : Type 1} → statement M
 unfolding inRange
 in-range-spec =
-    tie.close
-    (tie.spec
-    (λ c. rw (eq-eqb _ _ (c .if1 .taken)))
-    (λ c. search needs)
+    tie.close (tie.spec (λ c. rw (eq-eqb _ _ (c .if1 .taken))) (λ c. search needs)
     (λ c. rw (ne-eqb _ _ (c .before .before .before .if1 .left), eq-eqb _ _ (c .before .if3 .taken), c .before .before .if2 .taken))
     (λ c. rw (ne-eqb _ _ (c .before .before .if1 .left), ne-eqb _ _ (c .if3 .left), c .before .if2 .taken))
     (λ c. out-of-range (c .before .before .args .seen) (c .before .if1 .left) (c .if2 .left)))

@@ -44,25 +44,10 @@ returns-3 c =
 
 pub number-in-spec : {M : Type 1} → statement M
 number-in-spec =
-    tie.close
-    (tie.spec
-    Inv-loop
-    μ-loop
-    (λ c. (omega arith, c .before .pre, resumed-start _))
-    (λ c. omega arith)
-    (λ c. omega arith)
-    (λ c. omega arith)
-    (λ c. omega arith)
+    tie.close (tie.spec Inv-loop μ-loop (λ c. (omega arith, c .before .pre, resumed-start _)) (λ c. omega arith) (λ c. omega arith) (λ c. omega arith) (λ c. omega arith)
     (λ c. omega (arith, c .shared-slice-known2 .given (c .before .before .loop .at + 1)))
     (λ c. omega (arith, c .shared-slice-known2 .given (c .before .before .loop .at + 1)))
     returns
-    (λ c. omega arith)
-    (λ c. omega arith)
-    (λ c. omega arith)
-    (λ c. omega arith)
-    (λ c κs. tt)
-    (λ c. omega arith)
-    loop-again
+    (λ c. omega arith) (λ c. omega arith) (λ c. omega arith) (λ c. omega arith) (λ c κs. tt) (λ c. omega arith) loop-again
     returns-2
-    (λ c κs. tt)
-    returns-3)
+    (λ c κs. tt) returns-3)

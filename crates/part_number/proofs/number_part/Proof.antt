@@ -1,7 +1,6 @@
 -- `part_number::number_part` meets its contract, case by case.
 -- Assumes nothing.
-use mathlib.Core.Path.{_≡_, sym, _∙_}
-use native.Mathlib.Omega.{arith}
+use mathlib.Core.Path.{sym, _∙_}
 use borrow.Author.Needs.{needs}
 use borrow.Author.Tests.{not-true, not-false}
 use Rattle.part_number.proofs.Walk.{numbers-none, numbers-short, numbers-over, numbers-in}
@@ -22,16 +21,7 @@ returns-4 c =
 
 pub number-part-spec : {M : Type 1} → statement M
 number-part-spec =
-    tie.close
-    (tie.spec
-    (λ c. numbers-none _ _ _ _ (not-true _ (c .if1 .taken)))
-    (λ c κs. search needs)
+    tie.close (tie.spec (λ c. numbers-none _ _ _ _ (not-true _ (c .if1 .taken))) (λ c κs. search needs)
     (λ c. numbers-short _ _ _ _ (not-false _ (c .before .before .if1 .left)) _ (c .before .header-octets .ensures .0) (c .if2 .taken))
-    (λ c κs. search needs)
-    (λ c κs. search needs)
-    returns-3
-    (λ c. search needs)
-    (λ c. search needs)
-    (λ c. search needs)
-    (λ c κs. search needs)
-    returns-4)
+    (λ c κs. search needs) (λ c κs. search needs) returns-3
+    (λ c. search needs) (λ c. search needs) (λ c. search needs) (λ c κs. search needs) returns-4)

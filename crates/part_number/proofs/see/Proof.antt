@@ -2,7 +2,7 @@
 -- Assumes nothing.
 use Prim.Native.Nat.{ℕ, _%_}
 use mathlib.Core.Path.{_≡_}
-use mathlib.Core.Bool.{Bool, true, _&&_}
+use mathlib.Core.Bool.{true, _&&_}
 use native.Mathlib.Omega.{arith}
 use borrow.Author.Tests.{eqb-true}
 use denote.Ref.{now}
@@ -21,9 +21,6 @@ two-tests identifier i value k e = eqb-true (length value) k (and-true (eqb iden
 shared-slice-read-t9 : tie.Need-shared-slice-read-t9
 shared-slice-read-t9 c = omega (arith, two-tests (c .before .before .args .identifier) 0 (now (c .before .before .args .value)) 3 (c .before .if1 .taken))
 
-cast-t10 : tie.Need-cast-t10
-cast-t10 c = omega (arith, c .shared-slice-known .given 0)
-
 shared-slice-read-t12 : tie.Need-shared-slice-read-t12
 shared-slice-read-t12 c = omega (arith, two-tests (c .before .before .before .args .identifier) 0 (now (c .before .before .before .args .value)) 3 (c .before .before .if1 .taken))
 
@@ -37,17 +34,8 @@ returns c = let small : getD (now (c .before .before .before .before .args .valu
 shared-slice-read-t16 : tie.Need-shared-slice-read-t16
 shared-slice-read-t16 c = omega (arith, two-tests (c .before .before .before .args .identifier) 8 (now (c .before .before .before .args .value)) 4 (c .before .if2 .taken))
 
-cast-t17 : tie.Need-cast-t17
-cast-t17 c = omega (arith, c .shared-slice-known4 .given 0)
-
-mul-t18 : tie.Need-mul-t18
-mul-t18 c = omega (arith, c .shared-slice-known4 .given 0)
-
 shared-slice-read-t20 : tie.Need-shared-slice-read-t20
 shared-slice-read-t20 c = omega (arith, two-tests (c .before .before .before .before .args .identifier) 8 (now (c .before .before .before .before .args .value)) 4 (c .before .before .if2 .taken))
-
-cast-t21 : tie.Need-cast-t21
-cast-t21 c = omega (arith, c .shared-slice-known5 .given 1)
 
 add-t22 : tie.Need-add-t22
 add-t22 c = omega (arith, c .shared-slice-known5 .given 0, c .shared-slice-known5 .given 1)
@@ -68,20 +56,7 @@ returns-3 c = rw (c .before .if1 .left, c .if2 .left)
 
 pub see-spec : {M : Type 1} → statement M
 see-spec =
-    tie.close
-    (tie.spec
-    shared-slice-read-t9
-    cast-t10
-    shared-slice-read-t12
-    shared-slice-read-t14
-    returns
-    shared-slice-read-t16
-    cast-t17
-    mul-t18
-    shared-slice-read-t20
-    cast-t21
-    add-t22
-    shared-slice-read-t24
-    shared-slice-read-t26
-    returns-2
+    tie.close (tie.spec shared-slice-read-t9 (λ c. omega (arith, c .shared-slice-known .given 0)) shared-slice-read-t12 shared-slice-read-t14 returns
+    shared-slice-read-t16 (λ c. omega (arith, c .shared-slice-known4 .given 0)) (λ c. omega (arith, c .shared-slice-known4 .given 0)) shared-slice-read-t20
+    (λ c. omega (arith, c .shared-slice-known5 .given 1)) add-t22 shared-slice-read-t24 shared-slice-read-t26 returns-2
     returns-3)

@@ -1,22 +1,22 @@
 -- `reassembly::accept_fields` meets its contract: what user data say, the key, and where the part goes.
 -- Assumes nothing.
-use Prim.Native.Nat.{_+_, _-_, _≤_}
+use Prim.Native.Nat.{_-_, _≤_}
 use mathlib.Core.Path.{_≡_, sym, ap, _∙_}
 use native.Mathlib.Omega.{arith}
 use borrow.Author.Needs.{needs}
 use denote.Ref.{now}
-use lib.ListN.{length, take, drop}
+use lib.ListN.{length, take}
 use lib.Seq.{length-take-le}
-use Rattle.octets.specs.Answers.{gives, refuses}
+use Rattle.octets.specs.Answers.{gives}
 use Rattle.octets.specs.Each.{Octets}
 use Rattle.octets.proofs.Laws.{part-is, part-size}
 use Rattle.address.specs.declared.SMSAddress.{SMSAddress}
 use Rattle.deliver.specs.declared.SmsDeliver.{SmsDeliver}
 use Rattle.part_number.specs.Numbering.{numbered, numberSays}
-use Rattle.reassembly.specs.Part.{Key, keyOf}
-use Rattle.reassembly.specs.Store.{keyOctets}
+use Rattle.message_store.specs.Part.{Key, keyOf}
+use Rattle.message_store.specs.Store.{keyOctets}
 use Rattle.reassembly.proofs.Accepting.{saysOf, message, message-fits, sender-is, data-cut, says-is, fields-arrive, arrives-not, numbers-few}
-use Rattle.reassembly.proofs.Keys.{key-cut}
+use Rattle.message_store.proofs.Keys.{key-cut}
 use Rattle.reassembly.proofs.accept_fields.Statement.{statement}
 use Rattle.reassembly.proofs.accept_fields.Tie as tie
 
@@ -72,27 +72,15 @@ returns-2 c =
 
 pub accept-fields-spec : {M : Type 1} → statement M
 accept-fields-spec =
-    tie.close
-    (tie.spec
-    (λ c. omega (arith, c .before .before .before .pre .2 .2))
-    (λ c. omega arith)
-    (λ c. omega (arith, c .before .before .before .before .pre .2 .2))
-    (λ c. omega (arith, c .before .before .before .before .pre .2 .2))
-    (λ c κs. tt)
-    (λ c. search needs)
-    (λ c κs. tt)
-    (λ c. search needs)
+    tie.close (tie.spec (λ c. omega (arith, c .before .before .before .pre .2 .2)) (λ c. omega arith) (λ c. omega (arith, c .before .before .before .before .pre .2 .2))
+    (λ c. omega (arith, c .before .before .before .before .pre .2 .2)) (λ c κs. tt) (λ c. search needs) (λ c κs. tt) (λ c. search needs)
     (λ c κs. c .before .before .before .before .before .before .before .before .before .pre .2 .0)
-    (λ c. search needs)
-    (λ c. text-fits (c .before .before))
+    (λ c. search needs) (λ c. text-fits (c .before .before))
     (λ c. sym (length-take-le _ _ (text-fits (c .before .before .before))))
-    (λ c κs. (omega arith, text-short (c .before .before .before)))
-    (λ c. cut (c .before .before) .0)
-    (λ c. sym (length-take-le _ _ (cut (c .before .before .before) .0)))
+    (λ c κs. (omega arith, text-short (c .before .before .before))) (λ c. cut (c .before .before) .0) (λ c. sym (length-take-le _ _ (cut (c .before .before .before) .0)))
     (λ c. omega arith)
     (λ c. omega (arith, c .before .before .before .before .before .before .before .before .before .before .before .before .before .before .before .before .before .pre .2 .2))
     (λ c. omega (arith, c .before .before .before .before .before .before .before .before .before .before .before .before .before .before .before .before .before .pre .2 .2))
     place-part-requires
     (λ c. let start = c .before .before .before .before .before .before .before .before .before .before in rw (c .refused .ensures) (arrives-not (read start) (now (start .args .store)) _ (sym (says-is (now (start .args .«data»)) (start .args .f) (start .pre .1)) ∙ sym (c .before .before .before .before .number-part .ensures) ∙ ap numberSays (c .before .before .r .given .1))))
-    (λ c. search needs)
-    returns-2)
+    (λ c. search needs) returns-2)

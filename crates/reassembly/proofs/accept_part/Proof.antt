@@ -9,7 +9,7 @@ use Rattle.deliver.specs.Layout.{fields}
 use Rattle.deliver.specs.Internal.{foundSays, Inside}
 use Rattle.deliver.specs.declared.reading.DeliverFound.{DeliverFound}
 use Rattle.reassembly.proofs.Accepting.{fields-refused, accepts-unfit, accepts-on}
-use Rattle.reassembly.proofs.Slots.{fits-room}
+use Rattle.message_store.proofs.Slots.{fits-room}
 use Rattle.reassembly.proofs.accept_part.Statement.{statement}
 use Rattle.reassembly.proofs.accept_part.Tie as tie
 
@@ -28,17 +28,7 @@ returns-3 c = c .before .before .accept-fields .ensures ∙ accepts-on _ _ (foun
 
 pub accept-part-spec : {M : Type 1} → statement M
 accept-part-spec =
-    tie.close
-    (tie.spec
-    (λ c κs. tt)
-    (λ c. search needs)
-    (λ c κs. tt)
-    (λ c. search needs)
-    (λ c κs. tt)
-    (λ c κs. tt)
-    (λ c. search needs)
-    returns
+    tie.close (tie.spec (λ c κs. tt) (λ c. search needs) (λ c κs. tt) (λ c. search needs) (λ c κs. tt) (λ c κs. tt) (λ c. search needs) returns
     accept-fields-requires
     (λ c. rw (c .refused .ensures) (fields-refused _ _ (rw (c .before .before .r .given .1) at (c .before .before .before .before .fields-of .ensures .0)) _))
-    (λ c. search needs)
-    returns-3)
+    (λ c. search needs) returns-3)

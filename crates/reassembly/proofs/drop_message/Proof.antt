@@ -17,16 +17,10 @@ found c = sym (ap foundSays (c .k .given .1)) ∙ c .before .before .find-by .en
 
 pub drop-message-spec : {M : Type 1} → statement M
 drop-message-spec =
-    tie.close
-    (tie.spec
-    (λ c κs. search needs)
-    (λ c. search needs)
-    (λ c. search needs)
-    (λ c. omega arith)
+    tie.close (tie.spec (λ c κs. search needs) (λ c. search needs) (λ c. search needs) (λ c. omega arith)
     (λ c. omega (arith, room _ _ _ _ _ (found (c .before .before)), c .if1 .taken))
     (λ c. search needs)
     (λ c. drops-open _ _ _ _ _ (found (c .before .before)) (c .if1 .taken))
     (λ c. search needs)
     (λ c. drops-refused _ _ _ _ _ (sym (ap foundSays (c .before .why .given .1)) ∙ c .before .before .before .find-by .ensures))
-    (λ c. search needs)
-    (λ c. drops-none _ _ _ _ _ (found (c .before .before)) (c .if1 .left)))
+    (λ c. search needs) (λ c. drops-none _ _ _ _ _ (found (c .before .before)) (c .if1 .left)))

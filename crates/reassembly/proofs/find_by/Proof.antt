@@ -10,10 +10,10 @@ use lib.ListN.{length, take}
 use lib.Seq.{length-take-le}
 use Rattle.octets.specs.Answers.{gives}
 use Rattle.address.specs.declared.SMSAddress.{SMSAddress}
-use Rattle.reassembly.specs.Part.{Key, Named, keyOf}
-use Rattle.reassembly.specs.Store.{keyOctets}
-use Rattle.reassembly.proofs.Keys.{key-cut}
-use Rattle.reassembly.proofs.Slots.{fits-room}
+use Rattle.message_store.specs.Part.{Key, keyOf}
+use Rattle.message_store.specs.Store.{keyOctets}
+use Rattle.message_store.proofs.Keys.{key-cut}
+use Rattle.message_store.proofs.Slots.{fits-room}
 use Rattle.reassembly.proofs.Taking.{finds-long, finds-unfit, finds}
 use Rattle.reassembly.proofs.find_by.Statement.{statement}
 use Rattle.reassembly.proofs.find_by.Tie as tie
@@ -44,16 +44,11 @@ returns-3 c =
 
 pub find-by-spec : {M : Type 1} → statement M
 find-by-spec =
-    tie.close
-    (tie.spec
-    (λ c. finds-long _ _ _ _ (c .if1 .taken))
-    (λ c κs. search needs)
+    tie.close (tie.spec (λ c. finds-long _ _ _ _ (c .if1 .taken)) (λ c κs. search needs)
     (λ c. finds-unfit _ _ _ _ (c .before .before .if1 .left) (sym (c .before .fits-store .ensures) ∙ not-true _ (c .if2 .taken)))
-    (λ c. search needs)
-    (λ c. text-fits (c .before .before .before .before))
+    (λ c. search needs) (λ c. text-fits (c .before .before .before .before))
     (λ c. sym (length-take-le _ _ (text-fits (c .before .before .before .before .before))))
     (λ c κs. (omega arith, text-short (c .before .before .before .before .before)))
-    (λ c. cut (c .before) .0)
-    (λ c. sym (length-take-le _ _ (cut (c .before .before) .0)))
+    (λ c. cut (c .before) .0) (λ c. sym (length-take-le _ _ (cut (c .before .before) .0)))
     (λ c κs. fits-room _ (sym (c .before .before .before .before .before .before .before .fits-store .ensures) ∙ not-false _ (c .before .before .before .before .before .before .if2 .left)))
     returns-3)

@@ -1,6 +1,6 @@
 -- `reassembly::hand_over` meets its contract, case by case.
 -- Assumes nothing.
-use mathlib.Core.Path.{_≡_, sym}
+use mathlib.Core.Path.{sym}
 use native.Mathlib.Omega.{arith}
 use borrow.Author.Needs.{needs}
 use denote.Ref.{now}
@@ -27,20 +27,9 @@ returns-3 c =
 
 pub hand-over-spec : {M : Type 1} → statement M
 hand-over-spec =
-    tie.close
-    (tie.spec
-    (λ c κs. search needs)
-    (λ c. search needs)
+    tie.close (tie.spec (λ c κs. search needs) (λ c. search needs)
     (λ c. hands-not _ _ _ _ (c .before .missing-in .ensures .1) (c .if1 .taken))
-    (λ c. search needs)
-    put-parts-requires
-    (λ c. search needs)
+    (λ c. search needs) put-parts-requires (λ c. search needs)
     (λ c. let written = c .before .before .put-parts .ensures in hands-short _ _ _ _ (c .before .before .before .before .before .before .missing-in .ensures .1) (c .before .before .before .before .before .if1 .left) _ _ (written .0) (written .1) (c .if2 .taken))
-    within
-    (λ c. sym (length-take-le _ _ (within (c .before))))
-    put-octets-requires
-    (λ c. search needs)
-    (λ c. search needs)
-    (λ c. search needs)
-    (λ c. search needs)
+    within (λ c. sym (length-take-le _ _ (within (c .before)))) put-octets-requires (λ c. search needs) (λ c. search needs) (λ c. search needs) (λ c. search needs)
     returns-3)

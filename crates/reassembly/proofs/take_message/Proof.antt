@@ -7,7 +7,7 @@ use denote.Ref.{now}
 use Rattle.octets.specs.Answers.{gives}
 use Rattle.reassembly.specs.Calls.{findingBy, takenSays}
 use Rattle.reassembly.specs.Internal.{foundSays}
-use Rattle.reassembly.proofs.Slots.{cut-size}
+use Rattle.message_store.proofs.Slots.{cut-size}
 use Rattle.reassembly.proofs.Taking.{room, total-few, takes-none, takes-open, takes-refused}
 use Rattle.reassembly.proofs.take_message.Statement.{statement}
 use Rattle.reassembly.proofs.take_message.Tie as tie
@@ -24,20 +24,10 @@ returns c =
 
 pub take-message-spec : {M : Type 1} → statement M
 take-message-spec =
-    tie.close
-    (tie.spec
-    (λ c κs. search needs)
-    (λ c. search needs)
-    (λ c. search needs)
-    (λ c. omega arith)
-    (λ c. omega arith)
-    (λ c. omega arith)
-    (λ c. omega arith)
+    tie.close (tie.spec (λ c κs. search needs) (λ c. search needs) (λ c. search needs) (λ c. omega arith) (λ c. omega arith) (λ c. omega arith) (λ c. omega arith)
     (λ c. omega (arith, room _ _ _ _ _ (found (c .before .before)), c .if1 .taken))
     (λ c κs. let k = c .before .before .before .before in let below = c .before .before .if1 .taken in (cut-size _ (room _ _ _ _ _ (found k)) _ below, total-few _ _ _ _ _ (found k) below))
-    (λ c. search needs)
-    (λ c. search needs)
-    returns
+    (λ c. search needs) (λ c. search needs) returns
     (λ c. search needs)
     (λ c. takes-refused _ _ _ _ _ (sym (ap foundSays (c .before .why .given .1)) ∙ c .before .before .before .find-by .ensures) _)
     (λ c. search needs)

@@ -8,9 +8,7 @@ use Rattle.relay_address.proofs.check_digits.Tie as tie
 
 pub check-digits-spec : {M : Type 1} → statement M
 check-digits-spec =
-    tie.close
-    (tie.spec
-    (λ c. sym (wrong-type _ _ _ (not-true _ (c .if1 .taken))))
+    tie.close (tie.spec (λ c. sym (wrong-type _ _ _ (not-true _ (c .if1 .taken))))
     (λ c. sym (alphanumeric _ _ _ (not-false _ (c .before .if1 .left)) (c .if2 .taken)))
     (λ c κs. tt)
     (λ c. sym (no-digits _ _ _ (not-false _ (c .before .before .before .if1 .left)) (c .before .before .if2 .left) (sym (c .before .all-digits .ensures) ∙ not-true _ (c .if3 .taken))))

@@ -48,14 +48,9 @@ module _ (c : Passed) where
 
 pub encode-digits-spec : {M : Type 1} → statement M
 encode-digits-spec =
-    tie.close
-    (tie.spec
-    (λ c κs. tt)
-    (λ c. c .match .keys1)
+    tie.close (tie.spec (λ c κs. tt) (λ c. c .match .keys1)
     (λ c. lent-refused refuses _ _ (one-against _ _ (sym (c .before .before .before .check-digits .ensures) ∙ ap checkedSays (c .before .r .given .1))))
-    (λ c. c .match .keys2)
-    (λ c. omega (arith, writable c .short))
-    (λ c. omega (arith, writable c .short))
+    (λ c. c .match .keys2) (λ c. omega (arith, writable c .short)) (λ c. omega (arith, writable c .short))
     (λ c. lent-short refuses _ (makes (c .before)) (omega (arith, size (c .before), c .if1 .taken)))
     (λ c κs. let w = writable (c .before .before) in (w .type, w .plan, w .short, c .before .if1 .left))
     (λ c. kept-by (c .before .before .put-address .ensures))

@@ -16,16 +16,7 @@ returns c = rw (digits-size _) (wrote-field 0 _ _ _ _ (c .before .before .put-di
 
 pub put-address-spec : {M : Type 1} → statement M
 put-address-spec =
-    tie.close
-    (tie.spec
-    (λ c. omega arith)
-    (λ c. omega arith)
-    (λ c. omega arith)
-    (λ c. omega arith)
-    (λ c. omega arith)
-    (λ c. omega arith)
-    (λ c. omega arith)
-    (λ c. simp length-set (omega arith))
-    (λ c κs. simp length-set (omega arith))
+    tie.close (tie.spec (λ c. omega arith) (λ c. omega arith) (λ c. omega arith) (λ c. omega arith) (λ c. omega arith) (λ c. omega arith) (λ c. omega arith)
+    (λ c. simp length-set (omega arith)) (λ c κs. simp length-set (omega arith))
     (λ c. kept-by (c .before .before .put-digits .ensures) ∙ simp length-set)
     returns)

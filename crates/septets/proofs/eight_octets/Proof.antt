@@ -28,12 +28,5 @@ returns-3 c =
 
 pub eight-octets-spec : {M : Type 1} → statement M
 eight-octets-spec =
-    tie.close
-    (tie.spec
-    (λ c. omega arith)
-    (λ c κs. omega arith)
-    (λ c. c .number-from .ensures)
-    (λ c. omega arith)
-    (λ c κs. omega (arith, c .before .if1 .left))
-    returns-2
+    tie.close (tie.spec (λ c. omega arith) (λ c κs. omega arith) (λ c. c .number-from .ensures) (λ c. omega arith) (λ c κs. omega (arith, c .before .if1 .left)) returns-2
     returns-3)

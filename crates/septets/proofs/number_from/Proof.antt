@@ -62,17 +62,8 @@ returns c =
 
 pub number-from-spec : {M : Type 1} → statement M
 number-from-spec =
-    tie.close
-    (tie.spec
-    Inv-loop
-    μ-loop
-    loop-holds
-    (λ c. omega arith)
-    (λ c. omega (arith, room c))
-    (λ c. omega arith)
-    (λ c. omega arith)
+    tie.close (tie.spec Inv-loop μ-loop loop-holds (λ c. omega arith) (λ c. omega (arith, room c)) (λ c. omega arith) (λ c. omega arith)
     (λ c. omega (arith, c .shared-slice-known .given (c .before .before .before .args .at + (c .before .before .loop .i - 1)) .fits))
     (λ c. omega (arith, room (c .before), c .shared-slice-known .given (c .before .before .before .args .at + (c .before .before .loop .i - 1)) .fits))
-    (λ c. omega arith)
-    loop-again
+    (λ c. omega arith) loop-again
     returns)

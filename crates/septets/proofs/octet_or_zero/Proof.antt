@@ -7,17 +7,11 @@ use lib.ListN.{List·getD-eq-default}
 use Rattle.septets.proofs.octet_or_zero.Statement.{statement}
 use Rattle.septets.proofs.octet_or_zero.Tie as tie
 
-shared-slice-read-result : tie.Need-shared-slice-read-result
-shared-slice-read-result c = omega arith
-
 cast-result : tie.Need-cast-result
 cast-result c = omega (arith, c .shared-slice-known .given (c .before .before .args .at))
-
-returns : tie.Need-returns
-returns c = omega arith
 
 returns-2 : tie.Need-returns-2
 returns-2 c = sym (List·getD-eq-default (now (c .before .args .octets)) 0 (c .if1 .left))
 
 pub octet-or-zero-spec : {M : Type 1} → statement M
-octet-or-zero-spec = tie.close (tie.spec shared-slice-read-result cast-result returns returns-2)
+octet-or-zero-spec = tie.close (tie.spec (λ c. omega arith) cast-result (λ c. omega arith) returns-2)

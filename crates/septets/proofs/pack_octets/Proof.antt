@@ -89,31 +89,8 @@ holds c =
 
 pub pack-octets-spec : {M : Type 1} → statement M
 pack-octets-spec =
-    tie.close
-    (tie.spec
-    Inv-loop
-    μ-loop
-    (λ c. omega arith)
-    (λ c. omega arith)
-    (λ c. omega arith)
-    (λ c. omega arith)
-    (λ c. omega arith)
-    (λ c κs. tt)
-    holds
-    (λ c. omega arith)
-    (λ c κs. tt)
-    eight-bits-requires
-    (λ c. omega arith)
-    (λ c. omega arith)
-    (λ c. omega arith)
-    (λ c. omega arith)
-    (λ c. omega arith)
-    (λ c. omega arith)
+    tie.close (tie.spec Inv-loop μ-loop (λ c. omega arith) (λ c. omega arith) (λ c. omega arith) (λ c. omega arith) (λ c. omega arith) (λ c κs. tt) holds
+    (λ c. omega arith) (λ c κs. tt) eight-bits-requires (λ c. omega arith) (λ c. omega arith) (λ c. omega arith) (λ c. omega arith) (λ c. omega arith) (λ c. omega arith)
     loop-again
-    (λ c. omega arith)
-    (λ c κs. tt)
-    (λ c. omega arith)
-    loop-again-2
-    (λ c. omega arith)
-    (λ c. c .before .loop .inv .1)
-    returns)
+    (λ c. omega arith) (λ c κs. tt) (λ c. omega arith) loop-again-2
+    (λ c. omega arith) (λ c. c .before .loop .inv .1) returns)

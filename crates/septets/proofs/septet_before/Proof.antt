@@ -6,18 +6,9 @@ use borrow.Author.Needs.{needs}
 use Rattle.septets.proofs.septet_before.Statement.{statement}
 use Rattle.septets.proofs.septet_before.Tie as tie
 
-sub-octet-or-zero : tie.Need-sub-octet-or-zero
-sub-octet-or-zero c = omega arith
-
-octet-or-zero-requires : tie.Need-octet-or-zero-requires
-octet-or-zero-requires c κs = omega arith
-
-returns : tie.Need-returns
-returns c = search needs
-
 returns-2 : tie.Need-returns-2
 returns-2 c = c .octet-or-zero .ensures ∙ sym (getD-before (now (c .before .before .before .args .septets)) _ (c .before .if1 .left))
 
 pub septet-before-spec : {M : Type 1} → statement M
 septet-before-spec =
-    tie.close (tie.spec sub-octet-or-zero octet-or-zero-requires returns returns-2)
+    tie.close (tie.spec (λ c. omega arith) (λ c κs. omega arith) (λ c. search needs) returns-2)

@@ -37,18 +37,6 @@ returns-2 c = let l = c .before .loop in sym (l .inv .1 ∙ reports-end _ _ (l .
 
 pub check-reports-spec : {M : Type 1} → statement M
 check-reports-spec =
-    tie.close
-    (tie.spec
-    Inv-loop
-    μ-loop
-    loop-holds
-    (λ c. search needs)
-    (λ c. omega arith)
-    (λ c κs. tt)
-    (λ c. search needs)
-    returns
-    (λ c. search needs)
-    (λ c. omega arith)
-    (λ c. omega arith)
-    loop-again
+    tie.close (tie.spec Inv-loop μ-loop loop-holds (λ c. search needs) (λ c. omega arith) (λ c κs. tt) (λ c. search needs) returns
+    (λ c. search needs) (λ c. omega arith) (λ c. omega arith) loop-again
     returns-2)

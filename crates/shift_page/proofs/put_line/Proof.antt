@@ -3,7 +3,6 @@
 use native.Mathlib.Omega.{arith}
 use borrow.Author.Needs.{needs}
 use denote.Ref.{now}
-use lib.ListN.{length, length-append}
 use Rattle.octets.proofs.Laws.{wrote-then, kept-by}
 use Rattle.shift_page.proofs.Lines.{left-spaces, length-left, line-is}
 use Rattle.shift_page.proofs.put_line.Statement.{statement}
@@ -35,16 +34,5 @@ returns c =
 
 pub put-line-spec : {M : Type 1} → statement M
 put-line-spec =
-    tie.close
-    (tie.spec
-    (λ c. search needs)
-    (λ c. search needs)
-    (λ c. search needs)
-    (λ c κs. search needs)
-    (λ c κs. omega arith)
-    (λ c κs. omega arith)
-    (λ c. search needs)
-    put-both-requires-2
-    put-octet-requires
-    (λ c. search needs)
-    returns)
+    tie.close (tie.spec (λ c. search needs) (λ c. search needs) (λ c. search needs) (λ c κs. search needs) (λ c κs. omega arith) (λ c κs. omega arith) (λ c. search needs)
+    put-both-requires-2 put-octet-requires (λ c. search needs) returns)

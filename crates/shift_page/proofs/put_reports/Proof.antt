@@ -1,7 +1,7 @@
 -- `shift_page::put_reports` meets its contract: the lines of the records that are left are stored one by one.
 -- Assumes nothing.
 use Prim.Native.Nat.{_+_, _*_, _-_, _≤_}
-use mathlib.Core.Path.{_≡_, refl, sym, _∙_}
+use mathlib.Core.Path.{_≡_, refl, _∙_}
 use mathlib.Core.List.{map}
 use native.Mathlib.Omega.{arith}
 use borrow.Author.Needs.{needs}
@@ -59,16 +59,5 @@ returns c =
 
 pub put-reports-spec : {M : Type 1} → statement M
 put-reports-spec =
-    tie.close
-    (tie.spec
-    Inv-loop
-    μ-loop
-    loop-holds
-    (λ c. search needs)
-    (λ c. omega arith)
-    put-report-requires
-    (λ c. omega arith)
-    (λ c. omega arith)
-    loop-again
-    (λ c. c .before .loop .inv .1)
-    returns)
+    tie.close (tie.spec Inv-loop μ-loop loop-holds (λ c. search needs) (λ c. omega arith) put-report-requires (λ c. omega arith) (λ c. omega arith) loop-again
+    (λ c. c .before .loop .inv .1) returns)

@@ -5,7 +5,7 @@ use mathlib.Core.Logic.{⊎-elim}
 use native.Mathlib.Omega.{arith}
 use borrow.Author.Needs.{needs}
 use Rattle.octets.specs.Texts.{codes}
-use Rattle.shift_page.specs.ShiftPage.{totalLine, ended}
+use Rattle.shift_page.specs.ShiftPage.{ended}
 use Rattle.shift_page.proofs.Lines.{total-one, total-two}
 use Rattle.shift_page.proofs.put_total.Statement.{statement}
 use Rattle.shift_page.proofs.put_total.Tie as tie
@@ -21,14 +21,5 @@ returns c =
 
 pub put-total-spec : {M : Type 1} → statement M
 put-total-spec =
-    tie.close
-    (tie.spec
-    (λ c. search needs)
-    (λ c. search needs)
-    (λ c. search needs)
-    (λ c. search needs)
-    (λ c. search needs)
-    (λ c. search needs)
-    (λ c κs. search needs)
-    (λ c. search needs)
-    returns)
+    tie.close (tie.spec (λ c. search needs) (λ c. search needs) (λ c. search needs) (λ c. search needs) (λ c. search needs) (λ c. search needs) (λ c κs. search needs)
+    (λ c. search needs) returns)

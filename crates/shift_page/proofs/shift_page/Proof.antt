@@ -2,7 +2,7 @@
 -- Assumes nothing.
 use Prim.Native.Nat.{_+_, _*_, _≤_}
 use mathlib.Core.Path.{_≡_, sym, ap, _∙_}
-use mathlib.Core.List.{[], _∷_, map}
+use mathlib.Core.List.{map}
 use native.Mathlib.Omega.{arith}
 use borrow.Author.Needs.{needs}
 use lib.ListN.{length, take}
@@ -10,7 +10,7 @@ use lib.Seq.{length-take-le}
 use Rattle.octets.specs.Answers.{refuses, fine, checkedSays}
 use Rattle.octets.specs.Checks.{found}
 use Rattle.octets.proofs.Laws.{wrote-then, kept-by, lent-refused, lent-short, lent-written}
-use Rattle.shift_page.specs.ShiftPage.{heading, reportLine, ended, shiftPage, reportsChecks}
+use Rattle.shift_page.specs.ShiftPage.{reportLine, ended, shiftPage, reportsChecks}
 use Rattle.shift_page.proofs.Page.{too-many, one-refuses, page-made, page-is, page-size, reports-size, heading-size}
 use Rattle.shift_page.proofs.shift_page.Statement.{statement}
 use Rattle.shift_page.proofs.shift_page.Tie as tie
@@ -61,18 +61,6 @@ returns-4 c =
 
 pub shift-page-spec : {M : Type 1} → statement M
 shift-page-spec =
-    tie.close
-    (tie.spec
-    (λ c. lent-refused refuses _ _ (too-many _ _ (c .if1 .taken)))
-    (λ c κs. search needs)
-    (λ c. search needs)
-    returns-2
-    (λ c. search needs)
-    (λ c. search needs)
-    (λ c. search needs)
-    returns-3
-    (λ c κs. search needs)
-    put-reports-requires
-    put-total-requires
-    (λ c. search needs)
-    returns-4)
+    tie.close (tie.spec (λ c. lent-refused refuses _ _ (too-many _ _ (c .if1 .taken))) (λ c κs. search needs) (λ c. search needs) returns-2
+    (λ c. search needs) (λ c. search needs) (λ c. search needs) returns-3
+    (λ c κs. search needs) put-reports-requires put-total-requires (λ c. search needs) returns-4)

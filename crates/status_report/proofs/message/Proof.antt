@@ -1,5 +1,6 @@
 -- `status_report::message` meets its contract.
 -- Assumes nothing.
+use native.Mathlib.Omega.{arith}
 use borrow.Author.Needs.{needs}
 use denote.Ref.{now}
 use Rattle.status_report.proofs.RecordRead.{message-is}
@@ -18,12 +19,5 @@ pub message-spec : {M : Type 1} → statement M
 message-spec =
     tie.close
     (tie.spec
-    (λ c. search needs)
-    (λ c κs. search needs)
-    (λ c κs. search needs)
-    (λ c κs. search needs)
-    (λ c. search needs)
-    (λ c. search needs)
-    (λ c. search needs)
-    (λ c κs. search needs)
-    returns)
+    (λ c. search needs) (λ c κs. c .before .before .pre .0) (λ c κs. c .before .before .before .before .pre .1) (λ c κs. c .before .before .before .before .before .pre .2)
+    (λ c. omega arith) (λ c. omega arith) (λ c. c .before .before .before .before .before .before .pre .3) (λ c κs. search needs) returns)

@@ -17,11 +17,7 @@ returns-2 c = answer-done _ _ _ (rw (c .before .before .f .given .1) at (c .befo
 pub decode-sms-submit-tpdu-spec : {M : Type 1} → statement M
 decode-sms-submit-tpdu-spec =
     tie.close
-    (tie.spec
-    (λ c κs. tt)
-    (λ c. search needs)
-    (λ c κs. tt)
-    (λ c. search needs)
+    (tie.spec (λ c κs. tt) (λ c. search needs) (λ c κs. tt) (λ c. search needs)
     message-requires
     returns
     returns-2)

@@ -79,22 +79,10 @@ returns c =
 pub message-spec : {M : Type 1} → statement M
 message-spec =
     tie.close
-    (tie.spec
-    (λ c. search needs)
-    (λ c. search needs)
-    (λ c. search needs)
-    (λ c. search needs)
-    (λ c. search needs)
-    (λ c. search needs)
-    (λ c. search needs)
-    (λ c. search needs)
-    (λ c κs. search needs)
-    (λ c κs. tt)
+    (tie.spec (λ c. search needs) (λ c. search needs) (λ c. search needs) (λ c. search needs) (λ c. search needs) (λ c. search needs) (λ c. search needs) (λ c. search needs) (λ c κs. search needs) (λ c κs. tt)
     (λ c κs. let (whole, counted, size) = fits c in (whole, counted, size, refl))
     add-replaced-escapes
-    (λ c κs. search needs)
-    (λ c κs. search needs)
-    (λ c κs. search needs)
+    (λ c κs. search needs) (λ c κs. search needs) (λ c κs. search needs)
     (λ c κs. let e = entry (c .before .before .before .before) in data-room (now (e .args .«data»)) (e .args .f) (e .pre) .1)
     slice-aggregate-data-with
     data-with-requires-2

@@ -21,8 +21,7 @@ pub put-readable-spec : {M : Type 1} → statement M
 unfolding readable dataSeptets replacedIn
 put-readable-spec =
     tie.close
-    (tie.spec
-    (λ c. search needs)
+    (tie.spec (λ c. search needs)
     seven-bit
     (λ c. search needs)
     (λ c κs. let s = c .before .before .before .before in omega (arith, s .pre .2, s .pre .3, data-at-most (s .args .coding) (s .args .udl)))

@@ -23,16 +23,9 @@ returns c =
 pub put-with-header-spec : {M : Type 1} → statement M
 put-with-header-spec =
     tie.close
-    (tie.spec
-    (λ c κs. search needs)
+    (tie.spec (λ c κs. search needs)
     (λ c. sym (length-take-le _ _ (c .before .before .before .before .pre .0)))
     (λ c κs. let s = c .before .before .before .before in rw (length-take-le _ _ (s .pre .0)) (omega (arith, s .pre)))
-    (λ c. search needs)
-    (λ c. search needs)
-    (λ c. search needs)
-    (λ c. search needs)
-    (λ c. search needs)
-    (λ c. search needs)
-    (λ c. search needs)
+    (λ c. search needs) (λ c. search needs) (λ c. search needs) (λ c. search needs) (λ c. search needs) (λ c. search needs) (λ c. search needs)
     unpack-septets-requires
     returns)

@@ -40,21 +40,9 @@ returns c =
 
 pub decode-time-spec : {M : Type 1} → statement M
 decode-time-spec =
-    tie.close
-    (tie.spec
-    Inv-loop
-    μ-loop
+    tie.close (tie.spec Inv-loop μ-loop
     (λ c. (length-take-le 7 (drop (c .before .args .at) (now (c .before .args .«data»))) (simp length-drop (omega arith)), left-start _ _ _))
-    (λ c. omega arith)
-    (λ c. omega arith)
-    (λ c κs. omega arith)
-    (λ c. omega arith)
-    (λ c. omega arith)
+    (λ c. omega arith) (λ c. omega arith) (λ c κs. omega arith) (λ c. omega arith) (λ c. omega arith)
     (λ c κs. omega (arith, c .before .shared-slice-known2 .given (c .before .before .before .before .before .args .at + c .before .before .before .loop .i)))
-    (λ c. omega arith)
-    (λ c. omega arith)
-    (λ c. omega arith)
-    (λ c. omega arith)
-    (λ c. omega arith)
-    loop-again
+    (λ c. omega arith) (λ c. omega arith) (λ c. omega arith) (λ c. omega arith) (λ c. omega arith) loop-again
     returns)

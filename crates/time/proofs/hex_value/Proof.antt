@@ -7,8 +7,4 @@ use Rattle.time.proofs.hex_value.Tie as tie
 
 pub hex-value-spec : {M : Type 1} → statement M
 hex-value-spec =
-    tie.close
-    (tie.spec
-    (λ c. omega arith)
-    (λ c. omega arith)
-    (λ c. let v = hex-value (c .args .c) (c .pre) in (v .1, omega arith)))
+    tie.close (tie.spec (λ c. omega arith) (λ c. omega arith) (λ c. let v = hex-value (c .args .c) (c .pre) in (v .1, omega arith)))

@@ -38,16 +38,7 @@ returns-3 c =
 pub is-time-spec : {M : Type 1} → statement M
 unfolding isTime
 is-time-spec =
-    tie.close
-    (tie.spec
-    Inv-loop
-    μ-loop
-    (λ c. rw (ne-eqb _ _ (c .if1 .taken)))
-    (λ c. (c .if1 .left, rw (eq-eqb _ _ (c .if1 .left))))
-    (λ c. omega arith)
-    (λ c κs. tt)
+    tie.close (tie.spec Inv-loop μ-loop (λ c. rw (ne-eqb _ _ (c .if1 .taken))) (λ c. (c .if1 .left, rw (eq-eqb _ _ (c .if1 .left)))) (λ c. omega arith) (λ c κs. tt)
     returns-2
-    (λ c. omega arith)
-    (λ c. omega arith)
-    loop-again
+    (λ c. omega arith) (λ c. omega arith) loop-again
     returns-3)

@@ -54,16 +54,10 @@ within-array c = let w = c .put-characters .ensures in omega (arith, w .place, k
 
 pub gsm7-to-ucs2-spec : {M : Type 1} → statement M
 gsm7-to-ucs2-spec =
-    tie.close
-    (tie.spec
-    (λ c. lent-refused refuses _ _ (ucs2-long _ _ (c .if1 .taken)))
-    (λ c. omega arith)
-    (λ c. omega arith)
+    tie.close (tie.spec (λ c. lent-refused refuses _ _ (ucs2-long _ _ (c .if1 .taken))) (λ c. omega arith) (λ c. omega arith)
     (λ c. lent-refused refuses _ _ (ucs2-few _ _ (c .before .if1 .left) (omega (arith, c .if2 .taken))))
     (λ c κs. c .before .before .if1 .left)
     (λ c. lent-short refuses _ (makes (c .before)) (omega (arith, c .if3 .taken, c .before .put-characters .ensures .place)))
     (λ c. within-array (c .before .before))
     (λ c. sym (length-take-le _ _ (within-array (c .before .before .before))))
-    put-octets-requires
-    (λ c. omega arith)
-    returns-4)
+    put-octets-requires (λ c. omega arith) returns-4)

@@ -133,35 +133,19 @@ returns-2 c =
 
 pub put-characters-spec : {M : Type 1} → statement M
 put-characters-spec =
-    tie.close
-    (tie.spec
-    Inv-loop
-    μ-loop
+    tie.close (tie.spec Inv-loop μ-loop
     (λ c. (omega arith, omega arith, rw rest-start (left-start _ _ _), refl))
-    (λ c κs. here-small c)
-    (λ c κs. omega arith)
-    (λ c. omega arith)
-    (λ c κs. omega arith)
-    (λ c κs. omega arith)
-    (λ c κs. (small _ _ (second (c .before)), refl))
+    (λ c κs. here-small c) (λ c κs. omega arith) (λ c. omega arith) (λ c κs. omega arith) (λ c κs. omega arith) (λ c κs. (small _ _ (second (c .before)), refl))
     (λ c κs. omega arith)
     (λ c κs. here-small (c .before .before .before .before .before .before .before .before .before))
-    next-requires-2
-    (λ c. omega arith)
-    (λ c. omega arith)
-    loop-again
-    (λ c. omega arith)
-    (λ c κs. refl)
+    next-requires-2 (λ c. omega arith) (λ c. omega arith) loop-again
+    (λ c. omega arith) (λ c κs. refl)
     (λ c κs. let t = c .before .before in (refl, omega (arith, tested t .0)))
     (λ c κs. here-small (c .before .before .before .before .before .before .before .before .before))
-    (λ c. omega arith)
-    (λ c. omega (arith, tested (c .before .before .before .before) .0))
-    loop-again-2
+    (λ c. omega arith) (λ c. omega (arith, tested (c .before .before .before .before) .0)) loop-again-2
     (λ c κs. (small _ _ (first (c .before .before .before .before .before .before)), refl))
     (λ c κs. omega arith)
     (λ c κs. here-small (c .before .before .before .before .before .before .before .before .before .before))
-    (λ c. omega arith)
-    (λ c. omega arith)
-    loop-again-3
+    (λ c. omega arith) (λ c. omega arith) loop-again-3
     returns
     returns-2)

@@ -18,14 +18,9 @@ returns c =
 
 pub put-four-spec : {M : Type 1} → statement M
 put-four-spec =
-    tie.close
-    (tie.spec
-    (λ c κs. (omega arith, c .before .pre .0))
-    (λ c κs. omega arith)
-    (λ c κs. (omega arith, c .before .before .before .before .pre .0))
+    tie.close (tie.spec (λ c κs. (omega arith, c .before .pre .0)) (λ c κs. omega arith) (λ c κs. (omega arith, c .before .before .before .before .pre .0))
     (λ c κs. omega arith)
     (λ c κs. (omega arith, c .before .before .before .before .before .before .before .pre .0))
     (λ c κs. omega arith)
     (λ c κs. (omega arith, c .before .before .before .before .before .before .before .before .before .before .pre .0))
-    (λ c κs. omega arith)
-    returns)
+    (λ c κs. omega arith) returns)

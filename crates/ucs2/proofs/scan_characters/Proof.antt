@@ -68,28 +68,12 @@ loop-again-2 c =
 
 pub scan-characters-spec : {M : Type 1} → statement M
 scan-characters-spec =
-    tie.close
-    (tie.spec
-    Inv-loop
-    μ-loop
-    (λ c. (omega arith, omega arith, c .before .pre .1, refl))
-    (λ c. omega arith)
-    (λ c. omega arith)
-    (λ c. omega arith)
-    (λ c. omega arith)
-    (λ c. omega (arith, small (c .before)))
-    (λ c. omega (arith, small (c .before)))
+    tie.close (tie.spec Inv-loop μ-loop (λ c. (omega arith, omega arith, c .before .pre .1, refl)) (λ c. omega arith) (λ c. omega arith) (λ c. omega arith)
+    (λ c. omega arith) (λ c. omega (arith, small (c .before))) (λ c. omega (arith, small (c .before)))
     (λ c κs. (omega arith, at-loop (c .before .before .before .before) .loop .inv .2))
-    (λ c. omega arith)
-    (λ c. omega arith)
-    loop-again
-    (λ c. omega (arith, small (c .before)))
-    (λ c. omega (arith, small (c .before)))
-    (λ c. omega (arith, small (c .before)))
-    (λ c. omega (arith, small (c .before)))
+    (λ c. omega arith) (λ c. omega arith) loop-again
+    (λ c. omega (arith, small (c .before))) (λ c. omega (arith, small (c .before))) (λ c. omega (arith, small (c .before))) (λ c. omega (arith, small (c .before)))
     (λ c κs. (at-loop (c .before .before) .before .before .pre .0, omega arith, at-loop (c .before .before) .loop .inv .2))
     returns
-    (λ c. omega arith)
-    (λ c. omega arith)
-    loop-again-2
+    (λ c. omega arith) (λ c. omega arith) loop-again-2
     (λ c. scanned-done _ (c .before .loop .codes) _ (c .before .loop .count) _ (codes-end _ (c .before .loop .i) (c .loop-test .left)) (c .before .loop .inv .3)))

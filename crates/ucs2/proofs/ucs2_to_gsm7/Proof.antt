@@ -74,20 +74,10 @@ returns-4 c =
 
 pub ucs2-to-gsm7-spec : {M : Type 1} → statement M
 ucs2-to-gsm7-spec =
-    tie.close
-    (tie.spec
-    (λ c κs. tt)
+    tie.close (tie.spec (λ c κs. tt)
     (λ c. rw (c .not-packed .ensures) (lent-refused notPacked _ _ (gsm7-odd _ (c .before .if1 .taken))))
-    (λ c κs. (codes-right, refl))
-    (λ c. omega arith)
-    (λ c. omega arith)
-    (λ c κs. tt)
-    returns-2
-    (λ c κs. tt)
-    returns-3
-    (λ c. omega arith)
-    (λ c. omega (arith, codes-long (c .before .before)))
+    (λ c κs. (codes-right, refl)) (λ c. omega arith) (λ c. omega arith) (λ c κs. tt) returns-2
+    (λ c κs. tt) returns-3
+    (λ c. omega arith) (λ c. omega (arith, codes-long (c .before .before)))
     (λ c. sym (length-take-le _ _ (omega (arith, codes-long (c .before .before .before)))))
-    pack-codes-requires
-    (λ c. omega arith)
-    returns-4)
+    pack-codes-requires (λ c. omega arith) returns-4)

@@ -44,17 +44,6 @@ returns-6 c =
 
 pub character-of-spec : {M : Type 1} → statement M
 character-of-spec =
-    tie.close
-    (tie.spec
-    returns
-    returns-2
-    (λ c κs. tt)
-    returns-3
-    (λ c κs. tt)
-    returns-4
-    (λ c κs. tt)
-    returns-5
-    (λ c. omega arith)
-    (λ c. omega arith)
-    (λ c. omega arith)
+    tie.close (tie.spec
+    returns returns-2 (λ c κs. tt) returns-3 (λ c κs. tt) returns-4 (λ c κs. tt) returns-5 (λ c. omega arith) (λ c. omega arith) (λ c. omega arith)
     returns-6)

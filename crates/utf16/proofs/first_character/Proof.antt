@@ -35,17 +35,6 @@ returns-3 c =
 
 pub first-character-spec : {M : Type 1} → statement M
 first-character-spec =
-    tie.close
-    (tie.spec
-    (λ c κs. tt)
-    returns
-    (λ c. omega arith)
-    (λ c. omega arith)
-    (λ c κs. tt)
-    (λ c κs. (omega arith, omega arith))
-    returns-2
-    (λ c. omega arith)
-    (λ c. omega arith)
-    (λ c κs. tt)
-    (λ c κs. (omega arith, omega arith))
-    returns-3)
+    tie.close (tie.spec
+    (λ c κs. tt) returns (λ c. omega arith) (λ c. omega arith) (λ c κs. tt) (λ c κs. (omega arith, omega arith)) returns-2 (λ c. omega arith)
+    (λ c. omega arith) (λ c κs. tt) (λ c κs. (omega arith, omega arith)) returns-3)

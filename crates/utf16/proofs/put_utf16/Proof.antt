@@ -15,17 +15,6 @@ abbrev μ-loop : tie.MeasureT-loop
 
 pub put-utf16-spec : {M : Type 1} → statement M
 put-utf16-spec =
-    tie.close
-    (tie.spec
-    Inv-loop
-    μ-loop
-    (λ c. tt)
-    (λ c. omega arith)
-    (λ c. omega arith)
-    (λ c. search needs)
-    (λ c κs. tt)
-    (λ c κs. omega arith)
-    (λ c. omega arith)
-    (λ c. omega arith)
-    (λ c. tt)
+    tie.close (tie.spec Inv-loop μ-loop
+    (λ c. tt) (λ c. omega arith) (λ c. omega arith) (λ c. search needs) (λ c κs. tt) (λ c κs. omega arith) (λ c. omega arith) (λ c. omega arith) (λ c. tt)
     (λ c. tt))

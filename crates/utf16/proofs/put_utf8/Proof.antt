@@ -14,14 +14,5 @@ abbrev μ-loop : tie.MeasureT-loop
 
 pub put-utf8-spec : {M : Type 1} → statement M
 put-utf8-spec =
-    tie.close
-    (tie.spec
-    Inv-loop
-    μ-loop
-    (λ c. tt)
-    (λ c. omega arith)
-    (λ c κs. tt)
-    (λ c. omega arith)
-    (λ c. omega arith)
-    (λ c. tt)
-    (λ c. tt))
+    tie.close (tie.spec Inv-loop μ-loop
+    (λ c. tt) (λ c. omega arith) (λ c κs. tt) (λ c. omega arith) (λ c. omega arith) (λ c. tt) (λ c. tt))

@@ -37,15 +37,6 @@ loop-again c =
 
 pub all-digits-spec : {M : Type 1} → statement M
 all-digits-spec =
-    tie.close
-    (tie.spec
-    Inv-loop
-    μ-loop
-    (λ c. (omega arith, refl))
-    (λ c. c .before .loop-test .taken)
-    (λ c κs. tt)
-    returns
-    (λ c. omega arith)
-    (λ c. omega arith)
-    loop-again
+    tie.close (tie.spec Inv-loop μ-loop (λ c. (omega arith, refl)) (λ c. c .before .loop-test .taken) (λ c κs. tt) returns
+    (λ c. omega arith) (λ c. omega arith) loop-again
     (λ c. sym (c .before .loop .inv .1 ∙ each-end isDigit _ (c .before .loop .i) (c .loop-test .left))))

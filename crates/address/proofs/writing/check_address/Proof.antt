@@ -24,13 +24,6 @@ digits c =
 
 pub check-address-spec : {M : Type 1} → statement M
 check-address-spec =
-    tie.close
-    (tie.spec
-    (λ c. sym (ap checkOf (wrong-type _ _ _ (c .if1 .taken))))
+    tie.close (tie.spec (λ c. sym (ap checkOf (wrong-type _ _ _ (c .if1 .taken))))
     (λ c. sym (ap checkOf (wrong-plan _ _ _ (c .before .if1 .left) (c .if2 .taken))))
-    (λ c κs. tt)
-    in-septets
-    (λ c κs. tt)
-    no-digits
-    many-digits
-    digits)
+    (λ c κs. tt) in-septets (λ c κs. tt) no-digits many-digits digits)

@@ -36,13 +36,6 @@ returns-3 c = let s = scanned (c .before) in rw (s .2) (sym (text-fine 5 _ (s .0
 
 pub check-text-spec : {M : Type 1} → statement M
 check-text-spec =
-    tie.close
-    (tie.spec
-    (λ c κs. refl)
-    (λ c. c .match .keys1)
-    (λ c. c .match .keys2)
-    returns
+    tie.close (tie.spec (λ c κs. refl) (λ c. c .match .keys1) (λ c. c .match .keys2) returns
     returns-2
-    (λ c. omega arith)
-    (λ c. omega arith)
-    returns-3)
+    (λ c. omega arith) (λ c. omega arith) returns-3)

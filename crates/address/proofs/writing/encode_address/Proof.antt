@@ -35,15 +35,7 @@ written c =
 
 pub encode-address-spec : {M : Type 1} → statement M
 encode-address-spec =
-    tie.close
-    (tie.spec
-    (λ c κs. tt)
-    (λ c. c .match .keys1)
-    (λ c. c .match .keys2)
-    (λ c. omega (arith, fine-small _ _ _ _ (passed c)))
-    (λ c. omega (arith, fine-small _ _ _ _ (passed c)))
-    too-short
-    (λ c κs. (passed (c .before .before), omega arith))
+    tie.close (tie.spec (λ c κs. tt) (λ c. c .match .keys1) (λ c. c .match .keys2) (λ c. omega (arith, fine-small _ _ _ _ (passed c)))
+    (λ c. omega (arith, fine-small _ _ _ _ (passed c))) too-short (λ c κs. (passed (c .before .before), omega arith))
     (λ c. lent-refused refuses _ _ (refused-made (sym (c .before .before .before .check-address .ensures) ∙ ap addressCheckSays (c .before .r .given .1))))
-    (λ c. kept-by (c .before .before .put-address .ensures))
-    written)
+    (λ c. kept-by (c .before .before .put-address .ensures)) written)

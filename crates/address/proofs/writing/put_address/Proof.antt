@@ -45,20 +45,14 @@ put-digits-requires c κs =
 
 pub put-address-spec : {M : Type 1} → statement M
 put-address-spec =
-    tie.close
-    (tie.spec
+    tie.close (tie.spec
     (λ c. let p = c .before .before .pre .0 in omega (arith, fine-small _ _ _ _ p))
     (λ c. omega arith)
     (λ c. let p = c .before .before .pre .0 in omega (arith, fine-range _ _ _ _ p))
     (λ c. let p = c .before .before .pre .0 in omega (arith, fine-range _ _ _ _ p))
     (λ c. let p = c .before .before .pre .0 in omega (arith, fine-range _ _ _ _ p))
-    (λ c. omega arith)
-    (λ c. simp length-set (omega arith))
-    (λ c. omega arith)
-    put-septets-requires
+    (λ c. omega arith) (λ c. simp length-set (omega arith)) (λ c. omega arith) put-septets-requires
     (λ c. kept-by (c .before .before .put-septets .ensures) ∙ simp length-set)
-    in-septets
-    (λ c. omega arith)
-    put-digits-requires
+    in-septets (λ c. omega arith) put-digits-requires
     (λ c. kept-by (c .before .before .put-digits .ensures) ∙ simp length-set)
     in-digits)

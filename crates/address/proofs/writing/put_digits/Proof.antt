@@ -46,24 +46,8 @@ returns c =
 
 pub put-digits-spec : {M : Type 1} → statement M
 put-digits-spec =
-    tie.close
-    (tie.spec
-    Inv-loop
-    μ-loop
-    (λ c. omega arith)
+    tie.close (tie.spec Inv-loop μ-loop (λ c. omega arith)
     (λ c. (omega arith, omega arith, refl, rw add-zero (left-start _ _ _)))
-    (λ c. omega arith)
-    (λ c κs. tt)
-    (λ c. omega arith)
-    (λ c. omega arith)
-    (λ c κs. tt)
-    (λ c. omega arith)
-    (λ c. omega arith)
-    (λ c. omega arith)
-    (λ c. omega arith)
-    (λ c. omega arith)
-    (λ c. omega arith)
-    loop-again
-    (λ c. omega arith)
-    (λ c. c .before .loop .inv .2)
-    returns)
+    (λ c. omega arith) (λ c κs. tt) (λ c. omega arith) (λ c. omega arith) (λ c κs. tt) (λ c. omega arith) (λ c. omega arith) (λ c. omega arith) (λ c. omega arith)
+    (λ c. omega arith) (λ c. omega arith) loop-again
+    (λ c. omega arith) (λ c. c .before .loop .inv .2) returns)

@@ -61,14 +61,8 @@ pack-octets-requires c κs =
 
 pub put-septets-spec : {M : Type 1} → statement M
 put-septets-spec =
-    tie.close
-    (tie.spec
-    (λ c κs. refl)
-    (λ c. c .match .keys1)
-    (λ c. c .match .keys2)
-    returns
+    tie.close (tie.spec (λ c κs. refl) (λ c. c .match .keys1) (λ c. c .match .keys2) returns
     (λ c. let s = scanned c in let f = few _ (s .0) (s .1) (c .before .before .before .before .before .before .before .pre .0) in omega (arith, s .2, codes-long c))
     (λ c. let s = scanned (c .before) in let f = few _ (s .0) (s .1) (c .before .before .before .before .before .before .before .before .pre .0) in sym (length-take-le (c .before .before .count .given .0 .0) (c .before .before .before .before .scan-text .last .1 .0) (omega (arith, s .2, codes-long (c .before)))))
-    pack-octets-requires
-    (λ c. kept-by (c .before .before .pack-octets .ensures))
+    pack-octets-requires (λ c. kept-by (c .before .before .pack-octets .ensures))
     (λ c. let k = c .before .before .before .before .before in let s = scanned k in rw (septets-are _ (s .0) (s .1), ← codes-septets k) (c .before .before .pack-octets .ensures)))

@@ -7,12 +7,6 @@ use Rattle.address.proofs.DigitCharacters.{value-by-range}
 use Rattle.address.proofs.writing.semi_octet_from_character.Statement.{statement}
 use Rattle.address.proofs.writing.semi_octet_from_character.Tie as tie
 
-star : tie.Need-returns
-star c = rw (c .match .keys1) (sym (value-by-range 42 (omega arith)))
-
-hash : tie.Need-returns-2
-hash c = rw (c .match .keys2) (sym (value-by-range 35 (omega arith)))
-
 number : tie.Need-returns-3
 number c =
     let d = c .before .before .before .args .character in
@@ -39,4 +33,4 @@ behind-letters c =
     rw (value-by-range d (omega arith), le-leb 48 d (omega arith), lt-leb d 57 (omega arith), le-leb 97 d (omega arith), lt-leb d 99 (omega arith), ne-eqb d 42 (c .before .before .before .before .match .rest .0 .1), ne-eqb d 35 (c .before .before .before .before .match .rest .1))
 
 pub semi-octet-from-character-spec : {M : Type 1} → statement M
-semi-octet-from-character-spec = tie.close (tie.spec (λ c. omega arith) star hash number letter before-numbers before-letters behind-letters)
+semi-octet-from-character-spec = tie.close (tie.spec (λ c. omega arith) (λ c. rw (c .match .keys1) (sym (value-by-range 42 (omega arith)))) (λ c. rw (c .match .keys2) (sym (value-by-range 35 (omega arith)))) number letter before-numbers before-letters behind-letters)

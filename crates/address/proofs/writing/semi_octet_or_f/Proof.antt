@@ -25,9 +25,4 @@ outside c =
 
 pub semi-octet-or-f-spec : {M : Type 1} → statement M
 semi-octet-or-f-spec =
-    tie.close
-    (tie.spec
-    (λ c. c .before .if1 .taken)
-    (λ c κs. tt)
-    inside
-    outside)
+    tie.close (tie.spec (λ c. c .before .if1 .taken) (λ c κs. tt) inside outside)

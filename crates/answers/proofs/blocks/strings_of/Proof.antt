@@ -20,28 +20,9 @@ loop-again c = (omega arith, search needs, simp length-set (search needs))
 
 pub strings-of-spec : {M : Type 1} → statement M
 strings-of-spec =
-    tie.close
-    (tie.spec
-    Inv-loop
-    μ-loop
-    (λ c κs. tt)
-    (λ c. (omega arith, refl, refl))
-    (λ c κs. tt)
-    (λ c κs. tt)
+    tie.close (tie.spec Inv-loop μ-loop
+    (λ c κs. tt) (λ c. (omega arith, refl, refl)) (λ c κs. tt) (λ c κs. tt)
     (λ c. omega (arith, c .before .find .ensures .1 (omega (arith, c .before .before .loop-test .taken))))
-    (λ c κs. tt)
-    (λ c. omega arith)
-    (λ c κs. tt)
-    (λ c. omega arith)
-    (λ c. omega arith)
-    (λ c. omega arith)
-    (λ c. omega arith)
-    (λ c. omega arith)
-    loop-again
-    (λ c. omega arith)
-    (λ c. (search needs, search needs, search needs))
-    (λ c. omega arith)
-    (λ c. (search needs, search needs, search needs))
-    (λ c. c .before .loop .inv .1)
-    (λ c. c .before .loop .inv .2)
-    (λ c. tt))
+    (λ c κs. tt) (λ c. omega arith) (λ c κs. tt) (λ c. omega arith) (λ c. omega arith) (λ c. omega arith) (λ c. omega arith) (λ c. omega arith) loop-again
+    (λ c. omega arith) (λ c. (search needs, search needs, search needs)) (λ c. omega arith) (λ c. (search needs, search needs, search needs))
+    (λ c. c .before .loop .inv .1) (λ c. c .before .loop .inv .2) (λ c. tt))

@@ -15,15 +15,5 @@ abbrev μ-loop : tie.MeasureT-loop
 
 pub numbers-spec : {M : Type 1} → statement M
 numbers-spec =
-    tie.close
-    (tie.spec
-    Inv-loop
-    μ-loop
-    (λ c. tt)
-    (λ c κs. tt)
-    (λ c. omega arith)
-    (λ c κs. tt)
-    (λ c. omega arith)
-    (λ c. omega arith)
-    (λ c. tt)
-    (λ c. tt))
+    tie.close (tie.spec Inv-loop μ-loop
+    (λ c. tt) (λ c κs. tt) (λ c. omega arith) (λ c κs. tt) (λ c. omega arith) (λ c. omega arith) (λ c. tt) (λ c. tt))

@@ -1,52 +1,46 @@
 -- `deliver::SmsDeliver::encode` meets its contract: the lengths are looked at first.
 -- Assumes nothing.
 use Prim.Native.Nat.{_≤_}
-use mathlib.Core.Path.{_≡_, sym, _∙_}
+use mathlib.Core.Path.{_≡_, sym}
 use native.Mathlib.Omega.{arith}
 use borrow.Author.Needs.{needs}
+use borrow.Author.Tests.{not-true, not-false}
 use lib.ListN.{length}
 use lib.Seq.{length-take-le}
 use Rattle.octets.specs.Answers.{refuses}
+use Rattle.octets.proofs.Checks.{all-fit}
 use Rattle.octets.proofs.Laws.{lent-refused}
-use Rattle.deliver.specs.declared.SmsDeliver.{SmsDeliver}
-use Rattle.deliver.proofs.RecordWritten.{too-long, by-fields, all-fit}
-use Rattle.deliver.proofs.SmsDeliver.encode.Reads as reads
-use Rattle.deliver.proofs.SmsDeliver.encode.Lts as lts
-use Rattle.deliver.proofs.flags.Reads as flags-reads
-use Rattle.deliver.proofs.writing.encode_fields.Reads as encode-fields-reads
+use Rattle.layout.specs.Layout.{firstOctet}
+use Rattle.deliver.specs.Internal.{octetsIn}
+use Rattle.deliver.specs.Deliver.{lengthsOf, flagsOf, Typed}
+use Rattle.deliver.proofs.RecordWritten.{too-long, by-fields}
 use Rattle.deliver.proofs.SmsDeliver.encode.Statement.{statement}
 use Rattle.deliver.proofs.SmsDeliver.encode.Tie as tie
 
--- where the lengths pass no array
-abbrev Fits : Type 0
-Fits = lts.Else1 (flags-reads.Asked, flags-reads.Learnt, encode-fields-reads.Asked, encode-fields-reads.Learnt) reads.Pre reads.Post
+-- no length passes its array
+fitting : (c : tie.Else1) → let r = c .before .before .args .self in
+    (r .«tp_originating_address» .«address_length» ≤ length (r .«tp_originating_address» .address)) × (r .«tp_service_centre_timestamp» .length ≤ length (r .«tp_service_centre_timestamp» .digits))
+    × (r .«tp_user_data» .length ≤ length (r .«tp_user_data» .octets))
+fitting c =
+    let sized : Typed (c .before .before .args .self) = search needs depth 12 in
+    let fit = all-fit (lengthsOf (c .before .before .args .self)) (not-false _ (c .if1 .left)) in
+    (omega (arith, fit .0), omega (arith, fit .1 .0), omega (arith, fit .1 .1 .0))
 
-module _ (c : Fits) where
-  abbrev message : SmsDeliver
-  message = c .before .before .args .self
-
-  text-fits : message .«tp_originating_address» .«address_length» ≤ length (message .«tp_originating_address» .address)
-  text-fits = let room : length (message .«tp_originating_address» .address) ≡ 290 = search needs depth 12 in omega (arith, all-fit message (c .if1 .left) .0)
-
-  timestamp-fits : message .«tp_service_centre_timestamp» .length ≤ length (message .«tp_service_centre_timestamp» .digits)
-  timestamp-fits = let room : length (message .«tp_service_centre_timestamp» .digits) ≡ 14 = search needs depth 12 in omega (arith, all-fit message (c .if1 .left) .1)
-
-  data-fits : message .«tp_user_data» .length ≤ length (message .«tp_user_data» .octets)
-  data-fits = let room : length (message .«tp_user_data» .octets) ≡ 255 = search needs depth 12 in omega (arith, all-fit message (c .if1 .left) .2)
+-- bit 4 is no flag
+first-is : (c : tie.After-first-octet) → c .first-octet .result ≡ firstOctet 0 (flagsOf (c .before .before .before .args .self))
+unfolding firstOctet
+first-is c = omega (arith, c .first-octet .ensures)
 
 pub encode-spec : {M : Type 1} → statement M
+unfolding octetsIn
 encode-spec =
     tie.close
     (tie.spec
-    (λ c. lent-refused refuses _ _ (too-long _ (c .if1 .taken)))
-    (λ c κs. tt)
-    (λ c. text-fits (c .before .before .before .before))
-    (λ c. sym (length-take-le _ _ (text-fits (c .before .before .before .before .before))))
-    (λ c. timestamp-fits (c .before .before .before .before .before))
-    (λ c. sym (length-take-le _ _ (timestamp-fits (c .before .before .before .before .before .before))))
-    (λ c. data-fits (c .before .before .before .before .before .before))
-    (λ c. sym (length-take-le _ _ (data-fits (c .before .before .before .before .before .before .before))))
+    (λ c. lent-refused refuses _ _ (too-long _ (not-true _ (c .if1 .taken))))
+    (λ c κs. omega arith)
+    (λ c. fitting (c .before .before .before .before) .0) (λ c. sym (length-take-le _ _ (fitting (c .before .before .before .before .before) .0)))
+    (λ c. fitting (c .before .before .before .before .before) .1) (λ c. sym (length-take-le _ _ (fitting (c .before .before .before .before .before .before) .1)))
+    (λ c. fitting (c .before .before .before .before .before .before) .2) (λ c. sym (length-take-le _ _ (fitting (c .before .before .before .before .before .before .before) .2)))
     (λ c κs. tt)
     (λ c. search needs)
-    (λ c. let k = c .before .before .before .before .before .before .before .before .before .before .before in
-    rw (by-fields _ (k .if1 .left), ← c .before .before .before .before .before .before .before .before .before .before .flags .ensures) (c .before .before .encode-fields .ensures)))
+    (λ c. let k = c .before .before .before .before .before .before .before .before .before .before .before in rw (by-fields _ (not-false _ (k .if1 .left)), ← first-is (c .before .before .before .before .before .before .before .before .before .before)) (c .before .before .encode-fields .ensures)))

@@ -2,7 +2,6 @@
 -- Assumes nothing.
 use mathlib.Core.Path.{sym, _∙_, ap}
 use native.Mathlib.Omega.{arith}
-use borrow.Author.Needs.{needs}
 use Rattle.octets.specs.Answers.{octetSays}
 use Rattle.octets.proofs.Places.{octet-read}
 use Rattle.deliver.proofs.FieldByField.{no-pid, no-dcs, to-coding}
@@ -30,13 +29,6 @@ pub after-address-spec : {M : Type 1} → statement M
 after-address-spec =
     tie.close
     (tie.spec
-    (λ c κs. tt)
-    (λ c. search needs)
-    (λ c. search needs)
+    (λ c κs. tt) (λ c. c .match .keys1) (λ c. c .match .keys2)
     (λ c. (no-pid _ _ _ _ (sym (c .before .before .octet .ensures) ∙ ap octetSays (c .enum-told .given .1)), tt))
-    (λ c κs. tt)
-    (λ c. search needs)
-    (λ c. search needs)
-    returns-2
-    after-coding-requires
-    returns-3)
+    (λ c κs. tt) (λ c. c .match2 .keys1) (λ c. c .match2 .keys2) returns-2 after-coding-requires returns-3)

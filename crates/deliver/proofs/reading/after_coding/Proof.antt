@@ -2,7 +2,6 @@
 -- Assumes nothing.
 use mathlib.Core.Path.{refl, sym, _∙_, ap}
 use mathlib.Core.List.{[]}
-use borrow.Author.Needs.{needs}
 use Rattle.octets.specs.Answers.{octetSays, spanSays}
 use Rattle.coding.proofs.Laws.{size-told}
 use Rattle.deliver.specs.Internal.{fieldsAt}
@@ -40,18 +39,7 @@ pub after-coding-spec : {M : Type 1} → statement M
 after-coding-spec =
     tie.close
     (tie.spec
-    (λ c κs. tt)
-    (λ c. search needs)
-    (λ c. search needs)
+    (λ c κs. tt) (λ c. c .match .keys1) (λ c. c .match .keys2)
     (λ c. (no-time _ _ _ _ _ _ (sym (c .before .before .span .ensures) ∙ ap spanSays (c .enum-told .given .1)), tt))
-    (λ c κs. tt)
-    (λ c. search needs)
-    (λ c. search needs)
-    returns-2
-    (λ c κs. tt)
-    (λ c κs. tt)
-    (λ c κs. tt)
-    (λ c. search needs)
-    (λ c. search needs)
-    returns-3
+    (λ c κs. tt) (λ c. c .match2 .keys1) (λ c. c .match2 .keys2) returns-2 (λ c κs. tt) (λ c κs. tt) (λ c κs. tt) (λ c. c .match3 .keys1) (λ c. c .match3 .keys2) returns-3
     returns-4)

@@ -1,7 +1,6 @@
 -- `deliver::reading::fields_of` meets its contract: it finds what the line reads.
 -- Assumes nothing.
 use mathlib.Core.Path.{sym, _∙_, ap}
-use borrow.Author.Needs.{needs}
 use Rattle.octets.specs.Answers.{octetSays, spanSays}
 use Rattle.deliver.proofs.FieldByField.{no-first, other-type, no-address, to-address}
 use Rattle.deliver.proofs.reading.fields_of.Statement.{statement}
@@ -33,14 +32,7 @@ pub fields-of-spec : {M : Type 1} → statement M
 fields-of-spec =
     tie.close
     (tie.spec
-    (λ c κs. tt)
-    (λ c. search needs)
-    (λ c. search needs)
+    (λ c κs. tt) (λ c. c .match .keys1) (λ c. c .match .keys2)
     (λ c. (no-first _ (sym (c .before .before .octet .ensures) ∙ ap octetSays (c .enum-told .given .1)), tt))
     (λ c. (other-type _ (sym (c .before .before .before .before .octet .ensures) ∙ ap octetSays (c .before .before .first .given .1)) (c .if1 .taken), tt))
-    (λ c κs. tt)
-    (λ c. search needs)
-    (λ c. search needs)
-    returns-3
-    after-address-requires
-    returns-4)
+    (λ c κs. tt) (λ c. c .match2 .keys1) (λ c. c .match2 .keys2) returns-3 after-address-requires returns-4)

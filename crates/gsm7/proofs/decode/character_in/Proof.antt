@@ -8,8 +8,5 @@ use Rattle.gsm7.proofs.decode.character_in.Tie as tie
 
 pub character-in-spec : {M : Type 1} → statement M
 character-in-spec =
-    tie.close
-    (tie.spec
-    (λ c κs. c .pre .0)
-    (λ c κs. (omega (arith, c .septet-in .ensures), c .before .pre .1))
+    tie.close (tie.spec (λ c κs. c .pre .0) (λ c κs. (omega (arith, c .septet-in .ensures), c .before .pre .1))
     (λ c. c .default-character .ensures ∙ ap character (c .before .septet-in .ensures)))

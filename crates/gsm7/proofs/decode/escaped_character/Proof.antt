@@ -47,15 +47,6 @@ returns-2 c =
 
 pub escaped-character-spec : {M : Type 1} → statement M
 escaped-character-spec =
-    tie.close
-    (tie.spec
-    Inv-loop
-    μ-loop
-    (λ c. (omega arith, refl))
-    (λ c κs. omega arith)
-    returns
-    (λ c. omega arith)
-    (λ c. omega arith)
-    loop-again
-    (λ c κs. c .before .before .pre)
-    returns-2)
+    tie.close (tie.spec Inv-loop μ-loop (λ c. (omega arith, refl)) (λ c κs. omega arith) returns
+    (λ c. omega arith) (λ c. omega arith) loop-again
+    (λ c κs. c .before .before .pre) returns-2)

@@ -9,10 +9,5 @@ returns c = rw (c .is-plain4 .ensures, c .before .is-plain3 .ensures, c .before 
 
 pub four-plain-spec : {M : Type 1} → statement M
 four-plain-spec =
-    tie.close
-    (tie.spec
-    (λ c κs. (omega arith, c .pre))
-    (λ c κs. (omega arith, c .before .pre))
-    (λ c κs. (omega arith, c .before .before .pre))
-    (λ c κs. (omega arith, c .before .before .before .pre))
-    returns)
+    tie.close (tie.spec (λ c κs. (omega arith, c .pre)) (λ c κs. (omega arith, c .before .pre)) (λ c κs. (omega arith, c .before .before .pre))
+    (λ c κs. (omega arith, c .before .before .before .pre)) returns)

@@ -1,6 +1,6 @@
 -- `gsm7::decode::put` meets its contract, by the size of the character.
 -- Assumes nothing.
-use mathlib.Core.Path.{_≡_, ap, _∙_}
+use mathlib.Core.Path.{ap, _∙_}
 use native.Mathlib.Omega.{arith}
 use borrow.Author.Needs.{needs}
 use lib.ListN.{length, length-set}
@@ -14,24 +14,10 @@ put-two-requires c κs = omega (arith, ap length (utf8-two _ (c .before .before 
 
 pub put-spec : {M : Type 1} → statement M
 put-spec =
-    tie.close
-    (tie.spec
-    (λ c. omega arith)
-    (λ c. omega (arith, ap length (utf8-one _ (c .if1 .taken))))
-    (λ c. omega arith)
-    (λ c. search needs)
-    (λ c. rw (utf8-one _ (c .if1 .taken)) (wrote-one _ _ _))
-    (λ c. omega arith)
-    (λ c. omega arith)
-    put-two-requires
-    (λ c. kept-by (c .before .before .put-two .ensures))
+    tie.close (tie.spec (λ c. omega arith) (λ c. omega (arith, ap length (utf8-one _ (c .if1 .taken)))) (λ c. omega arith) (λ c. search needs)
+    (λ c. rw (utf8-one _ (c .if1 .taken)) (wrote-one _ _ _)) (λ c. omega arith) (λ c. omega arith) put-two-requires (λ c. kept-by (c .before .before .put-two .ensures))
     (λ c. rw (utf8-two _ (c .before .before .before .before .before .if1 .left) (c .before .before .before .before .if2 .taken)) (c .before .before .put-two .ensures))
-    (λ c. omega arith)
-    (λ c. omega arith)
-    (λ c. omega (arith, ap length (utf8-three _ (c .if2 .left))))
-    (λ c. omega arith)
-    (λ c. omega arith)
-    (λ c. omega arith)
+    (λ c. omega arith) (λ c. omega arith) (λ c. omega (arith, ap length (utf8-three _ (c .if2 .left)))) (λ c. omega arith) (λ c. omega arith) (λ c. omega arith)
     (λ c κs. simp length-set (omega (arith, ap length (utf8-three _ (c .before .if2 .left)))))
     (λ c. kept-by (c .before .before .put-two2 .ensures) ∙ simp length-set)
     (λ c. rw (utf8-three _ (c .before .before .before .before .if2 .left)) (wrote-then (wrote-one _ _ _) (c .before .before .put-two2 .ensures))))

@@ -26,23 +26,13 @@ returns c =
 
 pub put-four-spec : {M : Type 1} → statement M
 put-four-spec =
-    tie.close
-    (tie.spec
-    (λ c κs. (omega arith, c .before .pre .0))
-    (λ c κs. (omega arith, c .before .before .pre .0))
-    (λ c κs. (omega arith, c .before .before .before .pre .0))
-    (λ c κs. (omega arith, c .before .before .before .before .pre .0))
+    tie.close (tie.spec (λ c κs. (omega arith, c .before .pre .0)) (λ c κs. (omega arith, c .before .before .pre .0))
+    (λ c κs. (omega arith, c .before .before .before .pre .0)) (λ c κs. (omega arith, c .before .before .before .before .pre .0))
     (λ c. omega (arith, fits _ (c .before .before .before .character-in .ensures) (each-plain _ (c .before .before .before .before .before .pre .1) .0)))
     (λ c. omega arith)
     (λ c. omega (arith, fits _ (c .before .before .character-in2 .ensures) (each-plain _ (c .before .before .before .before .before .pre .1) .1)))
-    (λ c. omega arith)
-    (λ c. simp length-set (omega arith))
+    (λ c. omega arith) (λ c. simp length-set (omega arith))
     (λ c. omega (arith, fits _ (c .before .character-in3 .ensures) (each-plain _ (c .before .before .before .before .before .pre .1) .2)))
-    (λ c. omega arith)
-    (λ c. simp length-set (omega arith))
+    (λ c. omega arith) (λ c. simp length-set (omega arith))
     (λ c. omega (arith, fits _ (c .character-in4 .ensures) (each-plain _ (c .before .before .before .before .before .pre .1) .3)))
-    (λ c. omega arith)
-    (λ c. simp length-set (omega arith))
-    (λ c. omega arith)
-    (λ c. search needs)
-    returns)
+    (λ c. omega arith) (λ c. simp length-set (omega arith)) (λ c. omega arith) (λ c. search needs) returns)

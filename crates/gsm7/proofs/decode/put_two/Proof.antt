@@ -1,6 +1,6 @@
 -- `gsm7::decode::put_two` meets its contract.
 -- Assumes nothing.
-use mathlib.Core.Path.{_≡_, refl}
+use mathlib.Core.Path.{refl}
 use native.Mathlib.Numerals.{add-one}
 use native.Mathlib.Omega.{arith}
 use borrow.Author.Needs.{needs}
@@ -10,13 +10,5 @@ use Rattle.gsm7.proofs.decode.put_two.Tie as tie
 
 pub put-two-spec : {M : Type 1} → statement M
 put-two-spec =
-    tie.close
-    (tie.spec
-    (λ c. omega arith)
-    (λ c. omega arith)
-    (λ c. omega arith)
-    (λ c. omega arith)
-    (λ c. simp length-set (omega arith))
-    (λ c. omega arith)
-    (λ c. search needs)
-    (λ c. record { place = refl; list = rw add-one }))
+    tie.close (tie.spec (λ c. omega arith) (λ c. omega arith) (λ c. omega arith) (λ c. omega arith) (λ c. simp length-set (omega arith)) (λ c. omega arith)
+    (λ c. search needs) (λ c. record { place = refl; list = rw add-one }))

@@ -172,27 +172,16 @@ returns-2 c =
 
 pub unpack-septets-spec : {M : Type 1} → statement M
 unpack-septets-spec =
-    tie.close
-    (tie.spec
-    Inv-loop
-    μ-loop
+    tie.close (tie.spec Inv-loop μ-loop
     (λ c. (omega arith, refl, rw rest-start (left-start _ _ _), place-is _ _ _ (omega arith) (c .before .before .pre .0), rw replaced-start (omega arith), omega arith))
-    (λ c κs. here-small c)
-    (λ c κs. omega arith)
-    (λ c. omega arith)
+    (λ c κs. here-small c) (λ c κs. omega arith) (λ c. omega arith)
     (λ c κs. fits (c .before .before .before) (utf8 0x20) [] (last-next (c .before)))
-    (λ c. omega arith)
-    (λ c κs. omega arith)
-    (λ c κs. (small _ _ _ (second (c .before)), refl))
+    (λ c. omega arith) (λ c κs. omega arith) (λ c κs. (small _ _ _ (second (c .before)), refl))
     (λ c κs. let s = escape-read (c .before) in fits s (utf8 _) (from (start s) (index s + 2)) (escape-next (c .before)))
     (λ c. omega (arith, escape-count (c .before .before .before .before .before) .1))
     (λ c κs. here-small (c .before .before .before .before .before .before .before .before .before .before .before .before))
-    next-requires-2
-    (λ c. omega arith)
-    (λ c. omega arith)
-    loop-again
-    (λ c. omega arith)
-    (λ c κs. refl)
+    next-requires-2 (λ c. omega arith) (λ c. omega arith) loop-again
+    (λ c. omega arith) (λ c κs. refl)
     (λ c κs. let t = c .before .before in (refl, tested t .1, fits (four-read t) (fourCharacters _) (from (start (four-read t)) (index (four-read t) + 4)) (four-next t .0)))
     (λ c κs. here-small (c .before .before .before .before .before .before .before .before .before .before .before))
     (λ c. omega arith)
@@ -201,10 +190,7 @@ unpack-septets-spec =
     (λ c κs. (small _ _ _ (first (c .before .before .before .before .before .before)), refl))
     put-requires-3
     (λ c κs. here-small (c .before .before .before .before .before .before .before .before .before .before .before .before))
-    (λ c. omega arith)
-    (λ c. omega arith)
-    loop-again-3
-    (λ c. c .before .loop .inv .1)
-    returns
+    (λ c. omega arith) (λ c. omega arith) loop-again-3
+    (λ c. c .before .loop .inv .1) returns
     (λ c. kept-by (c .before .before .put .ensures) ∙ at-loop (c .before .before .before .before .before .before) .loop .inv .1)
     returns-2)

@@ -10,8 +10,6 @@ use Rattle.gsm7.proofs.decode.whole_text.Tie as tie
 
 pub whole-text-spec : {M : Type 1} → statement M
 whole-text-spec =
-    tie.close
-    (tie.spec
-    (λ c. search needs)
+    tie.close (tie.spec (λ c. search needs)
     (λ c κs. (omega arith, c .before .before .pre, rw zero-add (text-fits _ _ _ (c .before .before .pre))))
     (λ c. text-stored _ _ (text-fits _ _ _ (c .before .before .before .before .pre)) (c .before .unpack-septets .ensures)))

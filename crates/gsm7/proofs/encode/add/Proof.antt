@@ -8,10 +8,5 @@ use Rattle.gsm7.proofs.encode.add.Tie as tie
 
 pub add-spec : {M : Type 1} → statement M
 add-spec =
-    tie.close
-    (tie.spec
-    (λ c. omega arith)
-    (λ c. omega arith)
-    (λ c. record { place = refl; list = refl })
-    (λ c. omega arith)
+    tie.close (tie.spec (λ c. omega arith) (λ c. omega arith) (λ c. record { place = refl; list = refl }) (λ c. omega arith)
     (λ c. record { place = refl; list = sym (set-out _ _ _ (omega arith)) }))

@@ -1,6 +1,6 @@
 -- `gsm7::encode::add_character` meets its contract, by the character's code.
 -- Assumes nothing.
-use mathlib.Core.Path.{_≡_, refl, sym, ap, _∙_}
+use mathlib.Core.Path.{refl, sym, ap, _∙_}
 use native.Mathlib.Omega.{arith}
 use native.Mathlib.Nat.{add-zero}
 use Rattle.octets.proofs.Laws.{wrote-then, kept-by}
@@ -24,15 +24,6 @@ returns-3 c = rw (sym (c .before .before .code-of .ensures) ∙ ap codeSays (c .
 
 pub add-character-spec : {M : Type 1} → statement M
 add-character-spec =
-    tie.close
-    (tie.spec
-    (λ c κs. c .pre .0)
-    (λ c. omega arith)
-    (λ c κs. omega arith)
-    (λ c. omega arith)
-    (λ c κs. omega arith)
-    add-requires-3
-    (λ c. omega arith)
-    returns
+    tie.close (tie.spec (λ c κs. c .pre .0) (λ c. omega arith) (λ c κs. omega arith) (λ c. omega arith) (λ c κs. omega arith) add-requires-3 (λ c. omega arith) returns
     returns-2
     returns-3)

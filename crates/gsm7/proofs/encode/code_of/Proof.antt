@@ -1,37 +1,19 @@
 -- `gsm7::encode::code_of` meets its contract, by the table.
 -- Assumes nothing.
 use native.Mathlib.Omega.{arith}
-use mathlib.Core.Path.{_≡_, sym, _∙_}
+use mathlib.Core.Path.{sym, _∙_}
 use borrow.Author.Tests.{lt-ltb, le-ltb}
 use borrow.Author.Needs.{needs}
 use Rattle.gsm7.proofs.encode.code_of.Statement.{statement}
 use Rattle.gsm7.proofs.encode.code_of.Tie as tie
 
-high-code-of-requires : tie.Need-high-code-of-requires
-high-code-of-requires c κs = omega arith
-
-returns : tie.Need-returns
-returns c = search needs
-
-element-copy-out-code : tie.Need-element-copy-out-code
-element-copy-out-code c = omega arith
-
 returns-2 : tie.Need-returns-2
 returns-2 c = sym (c .before .before .before .pre _ (omega arith) ∙ rw (lt-ltb _ 128 (c .if2 .taken)))
-
-escape-of-requires : tie.Need-escape-of-requires
-escape-of-requires c κs = omega arith
 
 returns-3 : tie.Need-returns-3
 returns-3 c = c .escape-of .ensures ∙ sym (c .before .before .before .before .pre _ (omega arith) ∙ rw (le-ltb _ 128 (c .before .if2 .left)))
 
 pub code-of-spec : {M : Type 1} → statement M
 code-of-spec =
-    tie.close
-    (tie.spec
-    high-code-of-requires
-    returns
-    element-copy-out-code
-    returns-2
-    escape-of-requires
-    returns-3)
+    tie.close (tie.spec (λ c κs. omega arith) (λ c. search needs) (λ c. omega arith) returns-2
+    (λ c κs. omega arith) returns-3)

@@ -45,14 +45,6 @@ returns-2 c = missed _ (c .before .loop .inv .1 ∙ row-end (λ (e : Extension).
 
 pub escape-of-spec : {M : Type 1} → statement M
 escape-of-spec =
-    tie.close
-    (tie.spec
-    Inv-loop
-    μ-loop
-    (λ c. (omega arith, refl))
-    (λ c κs. omega arith)
-    returns
-    (λ c. omega arith)
-    (λ c. omega arith)
-    loop-again
+    tie.close (tie.spec Inv-loop μ-loop (λ c. (omega arith, refl)) (λ c κs. omega arith) returns
+    (λ c. omega arith) (λ c. omega arith) loop-again
     returns-2)

@@ -9,23 +9,11 @@ use Rattle.gsm7.proofs.ByCharacter.{greek-right, below-greek, above-gre
 use Rattle.gsm7.proofs.encode.high_code_of.Statement.{statement}
 use Rattle.gsm7.proofs.encode.high_code_of.Tie as tie
 
-escape-of-requires : tie.Need-escape-of-requires
-escape-of-requires c κs = omega arith
-
 returns : tie.Need-returns
 returns c = c .escape-of .ensures ∙ sym (below-greek _ (c .before .before .pre) (c .before .if1 .taken))
 
-escape-of-requires-2 : tie.Need-escape-of-requires-2
-escape-of-requires-2 c κs = omega arith
-
 returns-2 : tie.Need-returns-2
 returns-2 c = c .escape-of2 .ensures ∙ sym (above-greek _ (c .before .before .before .pre) (c .before .if2 .taken))
-
-cast-code : tie.Need-cast-code
-cast-code c = omega arith
-
-array-read-code : tie.Need-array-read-code
-array-read-code c = omega arith
 
 returns-3 : tie.Need-returns-3
 returns-3 c =
@@ -41,13 +29,7 @@ returns-4 c =
 
 pub high-code-of-spec : {M : Type 1} → statement M
 high-code-of-spec =
-    tie.close
-    (tie.spec
-    escape-of-requires
-    returns
-    escape-of-requires-2
-    returns-2
-    cast-code
-    array-read-code
-    returns-3
+    tie.close (tie.spec (λ c κs. omega arith) returns
+    (λ c κs. omega arith) returns-2
+    (λ c. omega arith) (λ c. omega arith) returns-3
     returns-4)

@@ -94,25 +94,10 @@ loop-again-2 c =
 
 pub scan-by-spec : {M : Type 1} → statement M
 scan-by-spec =
-    tie.close
-    (tie.spec
-    Inv-loop
-    μ-loop
-    (λ c. (omega arith, c .before .pre .1, refl))
-    (λ c. omega arith)
-    (λ c. omega arith)
-    (λ c. omega arith)
-    (λ c κs. omega arith)
-    (λ c. omega arith)
-    (λ c. omega arith)
-    loop-again
-    (λ c κs. omega arith)
-    (λ c. omega arith)
-    (λ c. omega arith)
-    returns
+    tie.close (tie.spec Inv-loop μ-loop (λ c. (omega arith, c .before .pre .1, refl)) (λ c. omega arith) (λ c. omega arith) (λ c. omega arith) (λ c κs. omega arith)
+    (λ c. omega arith) (λ c. omega arith) loop-again
+    (λ c κs. omega arith) (λ c. omega arith) (λ c. omega arith) returns
     (λ c κs. (c .before .before .before .before .before .before .before .before .before .before .pre .0, omega arith, c .before .before .before .before .before .before .before .before .loop .inv .1))
     returns-2
-    (λ c. omega (arith, wide (c .before)))
-    (λ c. omega (arith, wide (c .before)))
-    loop-again-2
+    (λ c. omega (arith, wide (c .before))) (λ c. omega (arith, wide (c .before))) loop-again-2
     (λ c. scanned-done _ (c .before .loop .codes) _ (c .before .loop .count) _ (scan-end _ (c .before .loop .i) (c .loop-test .left)) (c .before .loop .inv .2)))

@@ -1,6 +1,5 @@
 -- `gsm7::packing::pack_codes` meets its contract: too many septets, too little room, or written.
 -- Assumes nothing.
-use mathlib.Core.Path.{_≡_}
 use native.Mathlib.Omega.{arith}
 use native.Mathlib.Nat.{zero-add}
 use Rattle.octets.proofs.Laws.{lent-refused, lent-short, lent-done, kept-by}
@@ -34,16 +33,6 @@ returns-3 c =
 
 pub pack-codes-spec : {M : Type 1} → statement M
 pack-codes-spec =
-    tie.close
-    (tie.spec
-    (λ c κs. omega arith)
-    (λ c. omega (arith, c .header-septets .ensures))
-    (λ c κs. tt)
-    returns
-    (λ c. omega arith)
-    (λ c. omega arith)
-    (λ c κs. tt)
-    returns-2
-    put-packed-requires
-    (λ c. kept-by (c .before .before .put-packed .ensures))
-    returns-3)
+    tie.close (tie.spec (λ c κs. omega arith) (λ c. omega (arith, c .header-septets .ensures)) (λ c κs. tt) returns
+    (λ c. omega arith) (λ c. omega arith) (λ c κs. tt) returns-2
+    put-packed-requires (λ c. kept-by (c .before .before .put-packed .ensures)) returns-3)

@@ -76,17 +76,8 @@ returns-3 c =
 
 pub pack-septets-spec : {M : Type 1} → statement M
 pack-septets-spec =
-    tie.close
-    (tie.spec
-    (λ c κs. omega arith)
-    (λ c. omega arith)
-    (λ c. omega arith)
-    (λ c κs. tt)
-    returns
-    (λ c κs. tt)
-    returns-2
+    tie.close (tie.spec (λ c κs. omega arith) (λ c. omega arith) (λ c. omega arith) (λ c κs. tt) returns
+    (λ c κs. tt) returns-2
     (λ c. omega (arith, codes-long (c .before)))
     (λ c. sym (length-take-le _ _ (omega (arith, codes-long (c .before .before)))))
-    pack-codes-requires
-    (λ c. omega arith)
-    returns-3)
+    pack-codes-requires (λ c. omega arith) returns-3)

@@ -1,6 +1,5 @@
 -- `gsm7::packing::put_packed` meets its contract: header and packed septets are written one after the other.
 -- Assumes nothing.
-use mathlib.Core.Path.{_≡_}
 use native.Mathlib.Omega.{arith}
 use native.Mathlib.Nat.{zero-add}
 use lib.ListN.{length-append}
@@ -18,13 +17,7 @@ pack-octets-requires c κs =
 
 pub put-packed-spec : {M : Type 1} → statement M
 put-packed-spec =
-    tie.close
-    (tie.spec
-    (λ c κs. omega arith)
-    (λ c. omega (arith, c .header-septets .ensures))
-    (λ c. omega arith)
-    (λ c. omega (arith, c .header-septets .ensures))
+    tie.close (tie.spec (λ c κs. omega arith) (λ c. omega (arith, c .header-septets .ensures)) (λ c. omega arith) (λ c. omega (arith, c .header-septets .ensures))
     (λ c κs. omega (arith, rw length-append at (c .before .before .before .before .before .pre .3)))
-    pack-octets-requires
-    (λ c. omega arith)
+    pack-octets-requires (λ c. omega arith)
     (λ c. wrote-then (c .before .before .before .before .before .before .put-octets .ensures) (rw (c .before .before .before .before .before .before .before .before .header-septets .ensures) at (c .before .before .pack-octets .ensures))))

@@ -105,22 +105,15 @@ returns-4 c =
 
 pub encode-spec : {M : Type 1} → statement M
 encode-spec =
-    tie.close
-    (tie.spec
-    (λ c. lent-refused refuses _ _ (too-many _ (c .if1 .taken)))
-    (λ c. lengths-in (c .before .before .before))
+    tie.close (tie.spec (λ c. lent-refused refuses _ _ (too-many _ (c .if1 .taken))) (λ c. lengths-in (c .before .before .before))
     (λ c. sym (lengths-are (c .before .before .before .before)))
     (λ c κs. omega (arith, lengths-are (c .before .before .before .before), c .before .before .before .before .if1 .left))
     (λ c. lent-refused refuses _ _ (makes-none _ (omega (arith, is-needed (c .before), c .if2 .taken))))
     (λ c. search needs)
     (λ c. lent-short refuses _ (makes _ (fits (c .before .before) (c .before .if2 .left))) (omega (arith, size (c .before .before) (c .before .if2 .left), c .if3 .taken)))
-    (λ c. search needs)
-    (λ c κs. search needs)
+    (λ c. search needs) (λ c κs. search needs)
     (λ c. identifiers-in (c .before .before .before .before .before .before .before .before .before .before .before .before))
     (λ c. sym (identifiers-are (c .before .before .before .before .before .before .before .before .before .before .before .before .before)))
     (λ c. lengths-in (c .before .before .before .before .before .before .before .before .before .before .before .before .before))
     (λ c. sym (lengths-are (c .before .before .before .before .before .before .before .before .before .before .before .before .before .before)))
-    (λ c. search needs)
-    put-ordered-requires
-    (λ c. search needs)
-    returns-4)
+    (λ c. search needs) put-ordered-requires (λ c. search needs) returns-4)

@@ -17,9 +17,5 @@ left c = simp length-drop (⊎-elim (λ w. omega arith) (λ w. omega arith) (c .
 pub span-spec : {M : Type 1} → statement M
 unfolding spanAt
 span-spec =
-    tie.close
-    (tie.spec
-    (λ c. search needs)
-    (λ c. omega (arith, simp length-drop at (left (c .before))))
-    (λ c. rw (left (c .before), le-leb _ _ (c .if2 .taken)))
+    tie.close (tie.spec (λ c. search needs) (λ c. omega (arith, simp length-drop at (left (c .before)))) (λ c. rw (left (c .before), le-leb _ _ (c .if2 .taken)))
     (λ c. rw (left (c .before), lt-leb _ _ (c .if2 .left))))

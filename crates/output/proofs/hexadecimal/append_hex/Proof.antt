@@ -41,23 +41,12 @@ returns-3 c =
 
 pub append-hex-spec : {M : Type 1} → statement M
 append-hex-spec =
-    tie.close
-    (tie.spec
-    Inv-loop
-    μ-loop
+    tie.close (tie.spec Inv-loop μ-loop
     (λ c. left-out _ _ _ (omega (arith, length-hex (now (c .before .before .before .args .octets)))))
     (λ c. omega arith)
     (λ c. left-out _ _ _ (omega (arith, length-hex (now (c .before .before .before .before .args .octets)))))
     (λ c. (omega arith, refl, omega arith, omega arith, left-start _ _ _))
     (λ c. omega arith)
     (λ c κs. omega (arith, c .shared-slice-known2 .given (c .before .before .loop .i)))
-    (λ c. omega arith)
-    (λ c κs. omega arith)
-    (λ c. omega arith)
-    (λ c. simp length-set (omega arith))
-    (λ c. omega arith)
-    (λ c. omega arith)
-    (λ c. omega arith)
-    loop-again
-    (λ c. c .before .loop .inv .1)
-    returns-3)
+    (λ c. omega arith) (λ c κs. omega arith) (λ c. omega arith) (λ c. simp length-set (omega arith)) (λ c. omega arith) (λ c. omega arith)
+    (λ c. omega arith) loop-again (λ c. c .before .loop .inv .1) returns-3)

@@ -11,9 +11,6 @@ use Rattle.output.proofs.hexadecimal.digit_value.Tie as tie
 pub digit-value-spec : {M : Type 1} → statement M
 unfolding isHex
 digit-value-spec =
-    tie.close
-    (tie.spec
-    (λ c. search needs)
-    (λ c. search needs)
+    tie.close (tie.spec (λ c. search needs) (λ c. search needs)
     (λ c. hex-value (c .before .args .c) (c .if1 .taken) .1 ∙ sym (value-of (c .before .args .c) (c .if1 .taken) .0))
     (λ c. sym (no-value (c .before .args .c) (c .if1 .left))))

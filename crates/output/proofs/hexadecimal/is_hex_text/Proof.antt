@@ -40,16 +40,6 @@ returns-3 c =
 pub is-hex-text-spec : {M : Type 1} → statement M
 unfolding isHexText
 is-hex-text-spec =
-    tie.close
-    (tie.spec
-    Inv-loop
-    μ-loop
-    (λ c. rw (ne-eqb _ _ (c .if1 .taken)))
-    (λ c. rw (eq-eqb _ _ (c .if1 .left)))
-    (λ c. omega arith)
-    (λ c κs. tt)
-    returns-2
-    (λ c. omega arith)
-    (λ c. omega arith)
-    loop-again
-    returns-3)
+    tie.close (tie.spec Inv-loop μ-loop
+    (λ c. rw (ne-eqb _ _ (c .if1 .taken))) (λ c. rw (eq-eqb _ _ (c .if1 .left))) (λ c. omega arith) (λ c κs. tt) returns-2 (λ c. omega arith)
+    (λ c. omega arith) loop-again returns-3)

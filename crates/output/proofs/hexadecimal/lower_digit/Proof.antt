@@ -7,9 +7,4 @@ use Rattle.output.proofs.hexadecimal.lower_digit.Tie as tie
 
 pub lower-digit-spec : {M : Type 1} → statement M
 lower-digit-spec =
-    tie.close
-    (tie.spec
-    (λ c. omega arith)
-    (λ c. omega arith)
-    (λ c. omega arith)
-    (λ c. lower-digit (c .args .value) (c .pre) .0))
+    tie.close (tie.spec (λ c. omega arith) (λ c. omega arith) (λ c. omega arith) (λ c. lower-digit (c .args .value) (c .pre) .0))

@@ -65,23 +65,7 @@ returns c =
 
 pub put-octets-of-spec : {M : Type 1} → statement M
 put-octets-of-spec =
-    tie.close
-    (tie.spec
-    Inv-loop
-    μ-loop
-    (λ c. (omega arith, refl, left-start _ _ _))
-    (λ c. omega arith)
-    (λ c. omega arith)
-    (λ c κs. tt)
-    (λ c. omega arith)
-    (λ c. omega arith)
-    (λ c. omega arith)
-    (λ c κs. tt)
-    (λ c. omega (arith, first c .1))
-    (λ c. omega (arith, first c .1, second c .1))
-    (λ c. omega arith)
-    (λ c. omega arith)
-    (λ c. omega arith)
-    loop-again
-    (λ c. c .before .loop .inv .1)
-    returns)
+    tie.close (tie.spec Inv-loop μ-loop
+    (λ c. (omega arith, refl, left-start _ _ _)) (λ c. omega arith) (λ c. omega arith) (λ c κs. tt) (λ c. omega arith) (λ c. omega arith)
+    (λ c. omega arith) (λ c κs. tt) (λ c. omega (arith, first c .1)) (λ c. omega (arith, first c .1, second c .1)) (λ c. omega arith) (λ c. omega arith)
+    (λ c. omega arith) loop-again (λ c. c .before .loop .inv .1) returns)

@@ -17,11 +17,9 @@ hex c = sym (c .before .is-hex-text .ensures) ∙ not-false _ (c .if1 .left)
 pub read-hex-spec : {M : Type 1} → statement M
 unfolding readInto
 read-hex-spec =
-    tie.close
-    (tie.spec
+    tie.close (tie.spec
     (λ c κs. tt)
     (λ c. rw (← c .before .is-hex-text .ensures, not-true (c .before .is-hex-text .result) (c .if1 .taken)))
     (λ c. octets-too-long _ _ (hex (c .before)) (omega (arith, length-octets (now (c .before .before .before .before .before .args .text)))))
-    (λ c κs. (hex (c .before .before), c .before .if2 .left))
-    (λ c. search needs)
+    (λ c κs. (hex (c .before .before), c .before .if2 .left)) (λ c. search needs)
     (λ c. octets-fit _ _ (hex (c .before .before .before .before .before)) (omega (arith, length-octets (now (c .before .before .before .before .before .before .before .before .before .args .text)))) (c .before .before .put-octets-of .ensures)))

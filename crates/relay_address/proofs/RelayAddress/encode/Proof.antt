@@ -35,15 +35,10 @@ module _ (c : There) where
 
 pub encode-spec : {M : Type 1} → statement M
 encode-spec =
-    tie.close
-    (tie.spec
+    tie.close (tie.spec
     (λ c. lent-short refuses _ (makes-none _ (not-true _ (c .before .if1 .taken))) (c .if2 .taken))
-    (λ c κs. omega arith)
-    (λ c. kept-by (c .before .before .put-octet .ensures))
+    (λ c κs. omega arith) (λ c. kept-by (c .before .before .put-octet .ensures))
     (λ c. lent-written _ (makes-none _ (not-true _ (c .before .before .before .before .before .if1 .taken))) (c .before .before .before .before .if2 .left) (c .before .before .put-octet .ensures))
     (λ c. lent-refused refuses _ _ (makes-long _ (not-false _ (c .before .if1 .left)) (c .if3 .taken)))
-    (λ c. fits (c .before))
-    (λ c. sym (length-take-le _ _ (fits (c .before .before))))
-    (λ c κs. tt)
-    (λ c. search needs)
+    (λ c. fits (c .before)) (λ c. sym (length-take-le _ _ (fits (c .before .before)))) (λ c κs. tt) (λ c. search needs)
     (λ c. let k = c .before .before .before .before .before .before in rw (makes-checked (held k) (not-false _ (k .before .if1 .left)) (k .if3 .left)) (c .before .before .encode-digits .ensures)))

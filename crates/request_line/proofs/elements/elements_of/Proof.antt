@@ -14,26 +14,8 @@ abbrev μ-loop : tie.MeasureT-loop
 
 pub elements-of-spec : {M : Type 1} → statement M
 elements-of-spec =
-    tie.close
-    (tie.spec
-    Inv-loop
-    μ-loop
-    (λ c κs. tt)
-    (λ c. (omega arith, omega arith))
-    (λ c κs. tt)
-    (λ c κs. tt)
-    (λ c κs. tt)
-    (λ c κs. tt)
-    (λ c κs. tt)
-    (λ c. omega arith)
-    (λ c κs. tt)
-    (λ c. omega arith)
-    (λ c. omega arith)
-    (λ c. omega arith)
-    (λ c κs. tt)
-    (λ c. omega arith)
-    (λ c. omega arith)
+    tie.close (tie.spec Inv-loop μ-loop
+    (λ c κs. tt) (λ c. (omega arith, omega arith)) (λ c κs. tt) (λ c κs. tt) (λ c κs. tt) (λ c κs. tt) (λ c κs. tt) (λ c. omega arith) (λ c κs. tt)
+    (λ c. omega arith) (λ c. omega arith) (λ c. omega arith) (λ c κs. tt) (λ c. omega arith) (λ c. omega arith)
     (λ c. omega (arith, c .before .before .before .before .before .find .ensures .1 (omega (arith, c .before .before .before .before .before .before .loop-test .taken))))
-    (λ c. omega arith)
-    (λ c. (omega arith, omega arith))
-    (λ c. tt))
+    (λ c. omega arith) (λ c. (omega arith, omega arith)) (λ c. tt))

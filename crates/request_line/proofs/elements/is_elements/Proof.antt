@@ -14,18 +14,7 @@ abbrev μ-loop : tie.MeasureT-loop
 
 pub is-elements-spec : {M : Type 1} → statement M
 is-elements-spec =
-    tie.close
-    (tie.spec
-    Inv-loop
-    μ-loop
-    (λ c. tt)
-    (λ c κs. tt)
-    (λ c κs. tt)
-    (λ c κs. tt)
-    (λ c κs. tt)
-    (λ c. tt)
-    (λ c. tt)
+    tie.close (tie.spec Inv-loop μ-loop
+    (λ c. tt) (λ c κs. tt) (λ c κs. tt) (λ c κs. tt) (λ c κs. tt) (λ c. tt) (λ c. tt)
     (λ c. omega (arith, c .before .before .before .before .find .ensures .1 (omega (arith, c .before .before .before .before .before .loop-test .taken))))
-    (λ c. omega arith)
-    (λ c. tt)
-    (λ c. tt))
+    (λ c. omega arith) (λ c. tt) (λ c. tt))

@@ -13,18 +13,5 @@ abbrev μ-loop : tie.MeasureT-loop
 
 pub against-keys-spec : {M : Type 1} → statement M
 against-keys-spec =
-    tie.close
-    (tie.spec
-    Inv-loop
-    μ-loop
-    (λ c κs. tt)
-    (λ c κs. tt)
-    (λ c. tt)
-    (λ c. tt)
-    (λ c κs. tt)
-    (λ c κs. tt)
-    (λ c. tt)
-    (λ c. omega arith)
-    (λ c. omega arith)
-    (λ c. tt)
-    (λ c. tt))
+    tie.close (tie.spec Inv-loop μ-loop
+    (λ c κs. tt) (λ c κs. tt) (λ c. tt) (λ c. tt) (λ c κs. tt) (λ c κs. tt) (λ c. tt) (λ c. omega arith) (λ c. omega arith) (λ c. tt) (λ c. tt))

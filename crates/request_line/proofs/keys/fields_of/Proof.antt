@@ -14,14 +14,7 @@ abbrev μ-loop : tie.MeasureT-loop
 
 pub fields-of-spec : {M : Type 1} → statement M
 fields-of-spec =
-    tie.close
-    (tie.spec
-    Inv-loop
-    μ-loop
-    (λ c. omega arith)
-    (λ c κs. tt)
-    (λ c. omega arith)
-    (λ c. omega arith)
-    (λ c. omega arith)
+    tie.close (tie.spec Inv-loop μ-loop
+    (λ c. omega arith) (λ c κs. tt) (λ c. omega arith) (λ c. omega arith) (λ c. omega arith)
     (λ c. ⊎-elim (λ w. omega arith) (λ w. omega arith) (c .if1 .came))
     (λ c. tt))

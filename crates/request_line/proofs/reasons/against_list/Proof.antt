@@ -14,18 +14,8 @@ abbrev μ-loop : tie.MeasureT-loop
 
 pub against-list-spec : {M : Type 1} → statement M
 against-list-spec =
-    tie.close
-    (tie.spec
-    Inv-loop
-    μ-loop
-    (λ c κs. tt)
-    (λ c. tt)
-    (λ c κs. tt)
-    (λ c κs. tt)
-    (λ c κs. tt)
-    (λ c κs. tt)
-    (λ c. tt)
+    tie.close (tie.spec Inv-loop μ-loop
+    (λ c κs. tt) (λ c. tt) (λ c κs. tt) (λ c κs. tt) (λ c κs. tt) (λ c κs. tt) (λ c. tt)
     (λ c. omega (arith, c .before .find .ensures .1 (omega (arith, c .before .before .loop-test .taken))))
     (λ c. omega (arith, c .before .find .ensures .0, c .before .before .loop-test .taken))
-    (λ c. tt)
-    (λ c. tt))
+    (λ c. tt) (λ c. tt))

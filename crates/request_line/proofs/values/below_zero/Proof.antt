@@ -16,9 +16,6 @@ negated (suc n) h = rw (lt-ltb 0 (suc n) (omega arith)) (record { sfits = omega 
 
 pub below-zero-spec : {M : Type 1} → statement M
 below-zero-spec =
-    tie.close
-    (tie.spec
-    (λ c. record { sfits = omega arith })
+    tie.close (tie.spec (λ c. record { sfits = omega arith })
     (λ c. rw (toZ-pos w8 (c .before .args .n) (omega arith)) (negated (c .before .args .n) (omega arith)))
-    (λ c. tt)
-    (λ c. tt))
+    (λ c. tt) (λ c. tt))

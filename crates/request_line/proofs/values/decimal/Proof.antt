@@ -23,20 +23,8 @@ module _ (c : tie.Else4 Inv-loop μ-loop) where
 
 pub decimal-spec : {M : Type 1} → statement M
 decimal-spec =
-    tie.close
-    (tie.spec
-    Inv-loop
-    μ-loop
-    (λ c. tt)
-    (λ c. tt)
-    (λ c. (omega arith, omega arith))
-    (λ c. omega arith)
-    (λ c. tt)
-    (λ c. tt)
-    (λ c. omega (arith, few c))
-    (λ c. omega arith)
-    (λ c. omega (arith, few c))
-    (λ c. omega arith)
-    (λ c. omega arith)
+    tie.close (tie.spec Inv-loop μ-loop
+    (λ c. tt) (λ c. tt) (λ c. (omega arith, omega arith)) (λ c. omega arith) (λ c. tt) (λ c. tt) (λ c. omega (arith, few c)) (λ c. omega arith)
+    (λ c. omega (arith, few c)) (λ c. omega arith) (λ c. omega arith)
     (λ c. (c .before .before .before .before .loop .inv .0, rw (add-one, pow-succ') (omega arith)))
     (λ c. tt))

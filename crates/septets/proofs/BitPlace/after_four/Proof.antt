@@ -16,10 +16,5 @@ four-on p o s e h = place-is o s _ (omega (arith, bit-after p 3)) h
 
 pub after-four-spec : {M : Type 1} → statement M
 after-four-spec =
-    tie.close
-    (tie.spec
-    (λ c. omega arith)
-    (λ c. omega arith)
-    (λ c. four-on _ _ _ (omega arith) (omega arith))
-    (λ c. omega arith)
+    tie.close (tie.spec (λ c. omega arith) (λ c. omega arith) (λ c. four-on _ _ _ (omega arith) (omega arith)) (λ c. omega arith)
     (λ c. four-on _ _ _ (omega arith) (omega arith)))

@@ -7,9 +7,4 @@ use Rattle.septets.proofs.BitPlace.next.Tie as tie
 
 pub next-spec : {M : Type 1} → statement M
 next-spec =
-    tie.close
-    (tie.spec
-    (λ c. omega arith)
-    (λ c. place-is _ _ _ (omega arith) (omega arith))
-    (λ c. omega arith)
-    (λ c. place-is _ _ _ (omega arith) (omega arith)))
+    tie.close (tie.spec (λ c. omega arith) (λ c. place-is _ _ _ (omega arith) (omega arith)) (λ c. omega arith) (λ c. place-is _ _ _ (omega arith) (omega arith)))

@@ -2,7 +2,6 @@
 -- Assumes nothing.
 use mathlib.Core.Path.{_≡_, sym, _∙_, ap}
 use native.Mathlib.Omega.{arith}
-use borrow.Author.Needs.{needs}
 use denote.Ref.{now}
 use Rattle.octets.specs.Answers.{gives, octetSays, spanSays}
 use Rattle.octets.specs.Places.{octetAt, spanAt}
@@ -25,17 +24,11 @@ pub after-address-spec : {M : Type 1} → statement M
 after-address-spec =
     tie.close
     (tie.spec
-    (λ c κs. tt)
-    (λ c. search needs)
-    (λ c. search needs)
+    (λ c κs. tt) (λ c. c .match .keys1) (λ c. c .match .keys2)
     (λ c. (no-time _ _ _ _ _ (sym (c .before .before .span .ensures) ∙ ap spanSays (c .enum-told .given .1)), tt))
-    (λ c κs. tt)
-    (λ c. search needs)
-    (λ c. search needs)
+    (λ c κs. tt) (λ c. c .match2 .keys1) (λ c. c .match2 .keys2)
     (λ c. (no-discharge _ _ _ _ _ (timestamp (c .before .before .before .before)) (sym (c .before .before .span2 .ensures) ∙ ap spanSays (c .enum-told2 .given .1)), tt))
-    (λ c κs. tt)
-    (λ c. search needs)
-    (λ c. search needs)
+    (λ c κs. tt) (λ c. c .match3 .keys1) (λ c. c .match3 .keys2)
     (λ c. (no-status _ _ _ _ _ (timestamp (c .before .before .before .before .before .before .before .before)) (discharge (c .before .before .before .before)) (sym (c .before .before .octet .ensures) ∙ ap octetSays (c .enum-told3 .given .1)), tt))
     (λ c κs. let t = c .before .before .before .before .before .before .before .before .before in
     let p = t .before .before .before .before .pre in

@@ -2,7 +2,6 @@
 -- Assumes nothing.
 use mathlib.Core.Path.{_≡_, refl, sym, _∙_, ap}
 use native.Mathlib.Omega.{arith}
-use borrow.Author.Needs.{needs}
 use denote.Ref.{now}
 use Rattle.octets.specs.Answers.{gives, octetSays}
 use Rattle.layout.specs.Internal.{indicatorAt}
@@ -48,14 +47,6 @@ pub after-status-spec : {M : Type 1} → statement M
 after-status-spec =
     tie.close
     (tie.spec
-    returns
-    (λ c κs. tt)
-    (λ c. search needs)
-    (λ c. search needs)
-    returns-2
-    (λ c κs. tt)
-    (λ c. search needs)
-    (λ c. search needs)
-    returns-3
+    returns (λ c κs. tt) (λ c. c .match .keys1) (λ c. c .match .keys2) returns-2 (λ c κs. tt) (λ c. c .match2 .keys1) (λ c. c .match2 .keys2) returns-3
     (λ c. omega (arith, found c .start))
     returns-4)

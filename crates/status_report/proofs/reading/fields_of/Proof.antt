@@ -1,7 +1,6 @@
 -- `status_report::reading::fields_of` meets its contract: it finds what the layout reads.
 -- Assumes nothing.
 use mathlib.Core.Path.{_≡_, sym, _∙_, ap}
-use borrow.Author.Needs.{needs}
 use denote.Ref.{now}
 use Rattle.octets.specs.Answers.{gives, octetSays, spanSays}
 use Rattle.octets.specs.Places.{octetAt}
@@ -25,18 +24,12 @@ pub fields-of-spec : {M : Type 1} → statement M
 fields-of-spec =
     tie.close
     (tie.spec
-    (λ c κs. tt)
-    (λ c. search needs)
-    (λ c. search needs)
+    (λ c κs. tt) (λ c. c .match .keys1) (λ c. c .match .keys2)
     (λ c. (no-first _ (sym (c .before .before .octet .ensures) ∙ ap octetSays (c .enum-told .given .1)), tt))
     (λ c. (other-type _ (first (c .before .before)) (c .if1 .taken), tt))
-    (λ c κs. tt)
-    (λ c. search needs)
-    (λ c. search needs)
+    (λ c κs. tt) (λ c. c .match2 .keys1) (λ c. c .match2 .keys2)
     (λ c. (no-reference _ (first (c .before .before .before .before .before)) (c .before .before .before .if1 .left) (sym (c .before .before .octet2 .ensures) ∙ ap octetSays (c .enum-told2 .given .1)), tt))
-    (λ c κs. tt)
-    (λ c. search needs)
-    (λ c. search needs)
+    (λ c κs. tt) (λ c. c .match3 .keys1) (λ c. c .match3 .keys2)
     (λ c. (no-address _ (first (c .before .before .before .before .before .before .before .before .before)) (c .before .before .before .before .before .before .before .if1 .left) (reference (c .before .before .before .before)) (sym (c .before .before .address-span .ensures) ∙ ap spanSays (c .enum-told3 .given .1)), tt))
     (λ c κs. let (room, past, is, place) = to-address _ (first (c .before .before .before .before .before .before .before .before .before .before)) (c .before .before .before .before .before .before .before .before .if1 .left) (reference (c .before .before .before .before .before)) (address (c .before)) in (room, past))
     (λ c. let r = c .after-address .ensures in

@@ -1,7 +1,6 @@
 -- `status_report::writing::check_optional` meets its contract: with an indicator its checks, without one nothing may be held.
 -- Assumes nothing.
 use mathlib.Core.Path.{sym, _∙_, ap}
-use borrow.Author.Needs.{needs}
 use Rattle.octets.specs.Answers.{checkedSays}
 use Rattle.status_report.proofs.CheckByCheck.{none-against, none-fine, indicator-against, indicator-fine}
 use Rattle.status_report.proofs.writing.check_optional.Statement.{statement}
@@ -23,14 +22,5 @@ pub check-optional-spec : {M : Type 1} → statement M
 check-optional-spec =
     tie.close
     (tie.spec
-    (λ c. search needs)
-    (λ c. search needs)
-    (λ c κs. search needs)
-    returns
-    returns-2
-    (λ c κs. search needs)
-    (λ c. search needs)
-    returns-3
-    (λ c. search needs)
-    (λ c κs. search needs)
-    returns-4)
+    (λ c. c .match .keys1) (λ c. c .match .keys2) (λ c κs. c .before .before .before .pre) returns returns-2 (λ c κs. tt) (λ c. c .match2 .keys1) returns-3 (λ c. c .match2 .keys2)
+    (λ c κs. tt) returns-4)

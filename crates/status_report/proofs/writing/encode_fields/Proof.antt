@@ -45,19 +45,13 @@ pub encode-fields-spec : {M : Type 1} → statement M
 encode-fields-spec =
     tie.close
     (tie.spec
-    (λ c κs. tt)
-    (λ c. search needs)
-    (λ c. search needs)
-    (λ c κs. tt)
+    (λ c κs. tt) (λ c. c .match .keys1) (λ c. c .match .keys2) (λ c κs. tt)
     (λ c. rest-against _ _ _ _ _ _ _ (counted (c .before .before)) (rw (sym (c .before .is-time .ensures) ∙ not-true _ (c .if1 .taken))))
     (λ c κs. tt)
     (λ c. rest-against _ _ _ _ _ _ _ (counted (c .before .before .before .before)) (rw (sym (c .before .before .before .is-time .ensures) ∙ not-false _ (c .before .before .if1 .left), sym (c .before .is-time2 .ensures) ∙ not-true _ (c .if2 .taken))))
-    (λ c κs. search needs)
-    (λ c. search needs)
+    (λ c κs. c .before .before .before .before .before .before .before .before .before .before .before .before .before .pre) (λ c. c .match2 .keys1)
     (λ c. rest-against _ _ _ _ _ _ _ (counted (c .before .before .before .before .before .before .before .before)) (rest-found (c .before .before .before) ∙ ap checkedSays (c .before .r2 .given .1)))
-    (λ c. search needs)
-    (λ c κs. tt)
-    (λ c κs. search needs)
+    (λ c. c .match2 .keys2) (λ c κs. tt) (λ c κs. c .before .before .before .before .before .before .before .before .before .before .before .before .before .before .before .before .before .pre)
     (λ c. omega (arith, small c .0))
     (λ c. omega (arith, small c .1))
     (λ c. omega (arith, small c .1))

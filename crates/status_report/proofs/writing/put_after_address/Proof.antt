@@ -36,10 +36,9 @@ pub put-after-address-spec : {M : Type 1} → statement M
 put-after-address-spec =
     tie.close
     (tie.spec
-    (λ c κs. search needs)
+    (λ c κs. (c .before .before .before .before .before .pre .0, omega (arith, c .before .before .before .before .before .pre .2)))
     (λ c κs. (c .before .before .before .before .before .before .before .before .before .pre .1, omega (arith, after-timestamp (c .before .before .before))))
     (λ c κs. omega (arith, after-discharge (c .before .before .before)))
     (λ c κs. omega (arith, after-status (c .before .before .before)))
     (λ c κs. omega (arith, after-indicator (c .before .before .before)))
-    (λ c. search needs)
-    returns)
+    (λ c. search needs) returns)

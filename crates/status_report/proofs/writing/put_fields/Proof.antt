@@ -26,4 +26,10 @@ returns c =
     wrote-then (m .before .before .before .before .put-octet .ensures) (wrote-then (m .put-octet2 .ensures) (wrote-then (a .put-address .ensures) (r .put-after-address .ensures)))
 
 pub put-fields-spec : {M : Type 1} → statement M
-put-fields-spec = tie.close (tie.spec (λ c κs. search needs) (λ c κs. search needs) (λ c κs. search needs) put-after-address-requires (λ c. search needs) returns)
+put-fields-spec =
+    tie.close
+    (tie.spec
+    (λ c κs. omega (arith, c .before .before .before .before .before .before .pre .3))
+    (λ c κs. let w = c .before .before .before .put-octet .ensures in omega (arith, w .place, kept-by w, c .before .before .before .before .before .before .before .before .before .before .pre .3))
+    (λ c κs. let m = c .before .before .before in let w1 = m .before .before .before .before .put-octet .ensures in let w2 = m .put-octet2 .ensures in let p = m .before .before .before .before .before .before .before .before .before .before .before .pre in (p .0, omega (arith, w1 .place, kept-by w1, w2 .place, kept-by w2, p .3)))
+    put-after-address-requires (λ c. search needs) returns)

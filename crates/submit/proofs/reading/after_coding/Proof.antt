@@ -76,28 +76,17 @@ returns-6 c =
 pub after-coding-spec : {M : Type 1} → statement M
 after-coding-spec =
     tie.close
-    (tie.spec
-    (λ c κs. tt)
-    (λ c κs. tt)
-    (λ c. search needs)
-    (λ c. search needs)
+    (tie.spec (λ c κs. tt) (λ c κs. tt) (λ c. search needs) (λ c. search needs)
     (λ c. (no-period _ _ _ _ _ _ _ (c .before .before .before .validity-octets .ensures .0) (sym (c .before .before .span .ensures) ∙ ap spanSays (c .enum-told .given .1)), tt))
-    (λ c κs. tt)
-    (λ c. search needs)
-    (λ c. search needs)
+    (λ c κs. tt) (λ c. search needs) (λ c. search needs)
     (λ c. let v = c .before .before .before .before in (no-udl _ _ _ _ _ _ _ (v .before .before .before .validity-octets .ensures .0) (validity v) (sym (c .before .before .octet .ensures) ∙ ap octetSays (c .enum-told2 .given .1)), tt))
-    (λ c κs. tt)
-    (λ c κs. tt)
-    (λ c κs. tt)
-    (λ c. search needs)
-    (λ c. search needs)
+    (λ c κs. tt) (λ c κs. tt) (λ c κs. tt) (λ c. search needs) (λ c. search needs)
     returns-3
     data-ends
     data-ends
     (λ c. span-inside _ _ _ (data-there (c .before)) (omega (arith, octet-read _ _ (count (c .before .before .before .before .before .before .before)))) .1)
     (λ c κs. tt)
     returns-4
-    (λ c κs. tt)
-    (λ c κs. search needs)
+    (λ c κs. tt) (λ c κs. search needs)
     returns-5
     returns-6)

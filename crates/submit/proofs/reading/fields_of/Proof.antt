@@ -58,27 +58,16 @@ returns-7 c =
 pub fields-of-spec : {M : Type 1} → statement M
 fields-of-spec =
     tie.close
-    (tie.spec
-    (λ c κs. tt)
-    (λ c. search needs)
-    (λ c. search needs)
+    (tie.spec (λ c κs. tt) (λ c. search needs) (λ c. search needs)
     (λ c. (no-first _ (sym (c .before .before .octet .ensures) ∙ ap octetSays (c .enum-told .given .1)), tt))
     (λ c. (other-type _ (first (c .before .before)) (c .if1 .taken), tt))
-    (λ c κs. tt)
-    (λ c. search needs)
-    (λ c. search needs)
+    (λ c κs. tt) (λ c. search needs) (λ c. search needs)
     (λ c. (no-mr _ (first (c .before .before .before .before .before)) (c .before .before .before .if1 .left) (sym (c .before .before .octet2 .ensures) ∙ ap octetSays (c .enum-told2 .given .1)), tt))
-    (λ c κs. tt)
-    (λ c. search needs)
-    (λ c. search needs)
+    (λ c κs. tt) (λ c. search needs) (λ c. search needs)
     (λ c. let m = c .before .before .before .before in (no-address _ (first (m .before .before .before .before .before)) (m .before .before .before .if1 .left) (reference m) (sym (c .before .before .address-span .ensures) ∙ ap spanSays (c .enum-told3 .given .1)), tt))
-    (λ c κs. tt)
-    (λ c. search needs)
-    (λ c. search needs)
+    (λ c κs. tt) (λ c. search needs) (λ c. search needs)
     returns-5
-    (λ c κs. tt)
-    (λ c. search needs)
-    (λ c. search needs)
+    (λ c κs. tt) (λ c. search needs) (λ c. search needs)
     returns-6
     after-coding-requires
     returns-7)

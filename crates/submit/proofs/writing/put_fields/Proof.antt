@@ -51,8 +51,7 @@ whole w8 =
 pub put-fields-spec : {M : Type 1} → statement M
 put-fields-spec =
     tie.close
-    (tie.spec
-    (λ c κs. search needs)
+    (tie.spec (λ c κs. search needs)
     (λ c κs. omega (arith, after-first (c .before .before .before)))
     (λ c κs. (c .before .before .before .before .before .before .before .before .before .before .before .before .before .before .pre .0, omega (arith, after-reference (c .before .before .before))))
     (λ c κs. omega (arith, after-address (c .before .before .before)))

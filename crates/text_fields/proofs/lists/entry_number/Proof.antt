@@ -14,18 +14,6 @@ abbrev μ-loop : tie.MeasureT-loop
 
 pub entry-number-spec : {M : Type 1} → statement M
 entry-number-spec =
-    tie.close
-    (tie.spec
-    Inv-loop
-    μ-loop
-    (λ c. omega arith)
-    (λ c κs. tt)
-    (λ c. tt)
-    (λ c κs. tt)
-    (λ c κs. tt)
-    (λ c. tt)
-    (λ c. omega arith)
-    (λ c. omega arith)
-    (λ c. omega arith)
-    (λ c. omega arith)
-    (λ c. tt))
+    tie.close (tie.spec Inv-loop μ-loop
+    (λ c. omega arith) (λ c κs. tt) (λ c. tt) (λ c κs. tt) (λ c κs. tt) (λ c. tt) (λ c. omega arith) (λ c. omega arith) (λ c. omega arith)
+    (λ c. omega arith) (λ c. tt))

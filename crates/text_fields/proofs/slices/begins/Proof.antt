@@ -14,16 +14,5 @@ abbrev μ-loop : tie.MeasureT-loop
 
 pub begins-spec : {M : Type 1} → statement M
 begins-spec =
-    tie.close
-    (tie.spec
-    Inv-loop
-    μ-loop
-    (λ c. tt)
-    (λ c. tt)
-    (λ c. omega arith)
-    (λ c. omega arith)
-    (λ c. tt)
-    (λ c. omega arith)
-    (λ c. omega arith)
-    (λ c. tt)
-    (λ c. tt))
+    tie.close (tie.spec Inv-loop μ-loop
+    (λ c. tt) (λ c. tt) (λ c. omega arith) (λ c. omega arith) (λ c. tt) (λ c. omega arith) (λ c. omega arith) (λ c. tt) (λ c. tt))

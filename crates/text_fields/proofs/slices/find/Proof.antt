@@ -14,14 +14,5 @@ abbrev μ-loop : tie.MeasureT-loop
 
 pub find-spec : {M : Type 1} → statement M
 find-spec =
-    tie.close
-    (tie.spec
-    Inv-loop
-    μ-loop
-    (λ c. omega arith)
-    (λ c. omega arith)
-    (λ c. omega arith)
-    (λ c. omega arith)
-    (λ c. omega arith)
-    (λ c. omega arith)
-    (λ c. c .before .loop .inv))
+    tie.close (tie.spec Inv-loop μ-loop
+    (λ c. omega arith) (λ c. omega arith) (λ c. omega arith) (λ c. omega arith) (λ c. omega arith) (λ c. omega arith) (λ c. c .before .loop .inv))

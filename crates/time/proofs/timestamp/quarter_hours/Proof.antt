@@ -45,11 +45,7 @@ module _ (c : tie.Then1) where
 
 pub quarter-hours-spec : {M : Type 1} → statement M
 quarter-hours-spec =
-    tie.close
-    (tie.spec
-    (λ c. fits (c .before))
-    (λ c. rw (minus c) (minus-fits c))
+    tie.close (tie.spec (λ c. fits (c .before)) (λ c. rw (minus c) (minus-fits c))
     (λ c. rw (minus c, toZ-ofZ w16 _ (minus-fits c)) (tt, omega (arith, small (c .before .args .zone) (c .before .fits .zone))))
     (λ c. rw (read (c .before)) (nonnegative (c .before .args .zone) (rw (read (c .before)) at (c .if1 .left)), omega (arith, small (c .before .args .zone) (c .before .fits .zone))))
-    (λ c. rw (minus c, toZ-ofZ w16 _ (minus-fits c)))
-    (λ c. rw (read (c .before))))
+    (λ c. rw (minus c, toZ-ofZ w16 _ (minus-fits c))) (λ c. rw (read (c .before))))

@@ -42,16 +42,6 @@ returns-3 c =
 
 pub timestamp-digits-spec : {M : Type 1} → statement M
 timestamp-digits-spec =
-    tie.close
-    (tie.spec
-    (λ c κs. tt)
-    (λ c κs. tt)
-    returns
-    (λ c κs. tt)
-    (λ c κs. tt)
-    returns-2
-    (λ c κs. tt)
-    (λ c κs. tt)
-    (λ c. omega arith)
-    (λ c κs. tt)
-    returns-3)
+    tie.close (tie.spec (λ c κs. tt) (λ c κs. tt) returns
+    (λ c κs. tt) (λ c κs. tt) returns-2
+    (λ c κs. tt) (λ c κs. tt) (λ c. omega arith) (λ c κs. tt) returns-3)

@@ -8,7 +8,6 @@ use Rattle.time.proofs.timestamp.zone_sign.Tie as tie
 
 pub zone-sign-spec : {M : Type 1} → statement M
 zone-sign-spec =
-    tie.close
-    (tie.spec
+    tie.close (tie.spec
     (λ c. (rw (rw (toZ-ofZ w8 (c .before .args .zone) (c .before .fits .zone)) at (c .if1 .taken)), omega arith))
     (λ c. (rw (rw (toZ-ofZ w8 (c .before .args .zone) (c .before .fits .zone)) at (c .if1 .left)), omega arith)))

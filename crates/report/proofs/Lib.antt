@@ -1,0 +1,5 @@
+pub mod FieldByField
+pub mod CheckByCheck
+pub mod Made
+pub mod OneOutcome
+pub mod Limits
