@@ -146,7 +146,8 @@ fn number_after(septets: &[u8], at: usize, n: usize, fill: usize, carry: u64) ->
     (number_from(septets, 7, at, n) << fill) + carry
 }
 
-// Packs the septets after `fill` zero bits, with zero bits to the octet, from `at` on; the place after them.
+// Packs the septets after `fill` zero bits, with zero bits to the octet, from `at` on; the place after them. Eight septets
+// fill seven octets; the eighth, which is stored with them, is what is over, and is stored anew with those that follow.
 pub fn pack_octets(septets: &[u8], fill: usize, out: &mut [u8], at: usize) -> usize
     requires { ⌜ (fill < 8) × (length (now septets) ≤ 255) × Digits 7 (now septets) × (at + octetCount fill (length (now septets)) ≤ length (now out)) ⌝ }
     ensures { λ r. ⌜ Wrote at (packedSeptets fill (now (septets .entry))) (now (out .entry)) r (now (out .exit)) ⌝ }
@@ -155,10 +156,11 @@ pub fn pack_octets(septets: &[u8], fill: usize, out: &mut [u8], at: usize) -> us
     let mut carry = 0;
     let mut i = 0;
     let mut place = at;
-    while i + 8 <= n {
+    while i + 8 < n {
         let window = number_after(septets, i, 8, fill, carry);
-        place = put_number(out, place, 7, window);
+        put_number(out, place, 8, window);
         carry = window >> 56;
+        place += 7;
         i += 8;
     }
     let count = n - i;

@@ -1,18 +1,18 @@
 -- `septets::pack_octets` meets its contract: the octets that are left, stored too, still give the whole; the carry is what is over of the eight septets before.
 -- Assumes nothing.
-use Prim.Native.Nat.{ℕ, _+_, _-_, _^_, _<_, _≤_}
+use Prim.Native.Nat.{_+_, _-_, _*_, _/_, _^_, _<_, _≤_}
 use mathlib.Core.Path.{_≡_, refl, sym, _∙_}
-use mathlib.Core.List.{List, [], _++_, append-nil}
+use mathlib.Core.List.{[], append-nil}
 use native.Mathlib.Omega.{arith}
 use denote.Ref.{now}
-use lib.ListN.{length, drop}
+use lib.ListN.{length, take, drop}
 use lib.Pow.{shr-lt, pow-pos}
 use lib.Seq.{sets}
-use Rattle.octets.proofs.Laws.{Left, left-start, left-step, left-fits, left-end, kept-by}
-use Rattle.septets.specs.Septets.{packedSeptets, lowestDigits}
+use Rattle.octets.proofs.Laws.{Left, left-start, left-step, left-over, left-end, kept-by}
+use Rattle.septets.specs.Septets.{packedSeptets, octetCount, lowestDigits, numberOf}
 use Rattle.septets.proofs.Number.{length-digits}
 use Rattle.septets.proofs.Inverse.{length-packed}
-use Rattle.septets.proofs.Packing.{packedOver, packed-start, packed-step, packed-end, window-lt}
+use Rattle.septets.proofs.Packing.{packedOver, packed-start, packed-step, packed-end, length-over, eight-digits, window-lt}
 use Rattle.septets.proofs.pack_octets.Statement.{statement}
 use Rattle.septets.proofs.pack_octets.Tie as tie
 
@@ -29,33 +29,28 @@ loop-holds c =
     let a = c .before .before .args in
     (omega arith, refl, pow-pos (a .fill), rw (← packed-start) (left-start _ _ _))
 
--- the octets that are stored next fit
-room : {whole l rest : List ℕ} {end at n : ℕ} (k x : ℕ) (more : List ℕ) → Left whole end l at rest → rest ≡ lowestDigits 8 k x ++ more → end ≤ n → at + k ≤ n
-room k x more left e h = rw length-digits at (left-fits (lowestDigits 8 k x) more left e h)
-
-put-number-requires : tie.Need-put-number-requires Inv-loop μ-loop
-put-number-requires c κs =
-    let s = c .before .before .before .before .before .before in
-    let l = c .before .before .before .loop in
-    let step = packed-step (s .args .fill) (l .carry) (now (s .args .septets)) (l .i) (s .pre .2) (c .before .before .loop-test .taken) in
-    room 7 _ _ (l .inv .3) step (rw (length-packed, l .inv .1) (s .pre .3))
+-- what is left fits
+room : (c : tie.At-loop Inv-loop μ-loop) →
+    let s = c .before .before .before in
+    c .loop .place + octetCount (s .args .fill) (length (now (s .args .septets)) - c .loop .i) ≤ length (c .loop .out)
+room c =
+    let s = c .before .before .before in
+    let l = c .loop in
+    rw (← length-over (s .args .fill) (l .carry) (now (s .args .septets)) (l .i), l .inv .3 .place, length-packed, l .inv .1) (s .pre .3)
 
 loop-again : tie.Need-loop-again Inv-loop μ-loop
 loop-again c =
-    let s = c .before .before .before .before .before .before .before .before .before in
     let l = c .before .before .before .before .before .before .loop in
-    let there = c .before .before .before .before .before .loop-test .taken in
+    let s = c .before .before .before .before .before .before .before .before .before in
+    let f = s .args .fill in
+    let ss = now (s .args .septets) in
+    let more = c .before .before .before .before .before .loop-test .taken in
     let window = c .before .before .before .before .number-after .ensures in
     let wrote = c .before .before .put-number .ensures in
-    let step = packed-step (s .args .fill) (l .carry) (now (s .args .septets)) (l .i) (s .pre .2) there in
-    (there, kept-by wrote ∙ l .inv .1, rw window (shr-lt (s .args .fill) 56 (window-lt (now (s .args .septets)) (s .pre .2) (l .i) 8 (omega arith) (s .args .fill) (l .carry) (l .inv .2))), left-step _ (l .inv .3) wrote (rw window step))
-
-put-number-requires-2 : tie.Need-put-number-requires-2 Inv-loop μ-loop
-put-number-requires-2 c κs =
-    let s = c .before .before .before .before .before .before in
-    let l = c .before .before .before .loop in
-    let all = packed-end (s .args .fill) (l .carry) (now (s .args .septets)) (l .i) in
-    room _ _ [] (l .inv .3) (sym all ∙ sym (append-nil _)) (rw (length-packed, l .inv .1) (s .pre .3))
+    let x = numberOf 7 (take 8 (drop (l .i) ss)) * 2 ^ f + l .carry in
+    let some : 0 < length (packedOver f (x / 2 ^ 56) (drop (l .i + 8) ss)) = rw length-over (omega (arith, more)) in
+    let left = left-over (lowestDigits 8 7 x) _ _ (l .inv .3) (rw (window, eight-digits) at wrote) (packed-step f (l .carry) ss (l .i) (s .pre .2) (omega (arith, more))) some in
+    (omega (arith, more), kept-by wrote ∙ l .inv .1, rw window (shr-lt f 56 (window-lt ss (s .pre .2) (l .i) 8 (omega arith) f (l .carry) (l .inv .2))), rw window (rw length-digits at left))
 
 returns : tie.Need-returns Inv-loop μ-loop
 returns c =
@@ -70,8 +65,10 @@ returns c =
 pub pack-octets-spec : {M : Type 1} → statement M
 pack-octets-spec =
     tie.close (tie.spec Inv-loop μ-loop loop-holds
-    (λ c. omega arith) (λ c κs. let p = c .before .before .before .before .pre in (omega arith, c .loop-test .taken, p .2, omega (arith, p .0), c .before .loop .inv .2)) put-number-requires
+    (λ c. omega arith) (λ c κs. let p = c .before .before .before .before .pre in (omega arith, omega (arith, c .loop-test .taken), p .2, omega (arith, p .0), c .before .loop .inv .2))
+    (λ c κs. omega (arith, room (c .before .before .before), c .before .before .loop-test .taken))
+    (λ c. omega (arith, room (c .before .before .before .before .before .before), c .before .before .before .before .before .loop-test .taken))
     (λ c. omega arith) (λ c. omega arith) loop-again
     (λ c. omega arith) (λ c κs. let p = c .before .before .before .before .pre in (omega (arith, c .loop-test .left), omega arith, p .2, omega (arith, p .0), c .before .loop .inv .2))
-    (λ c. omega arith) (λ c. omega arith) (λ c. omega arith) put-number-requires-2
+    (λ c. omega arith) (λ c. omega arith) (λ c. omega arith) (λ c κs. room (c .before .before .before))
     (λ c. kept-by (c .before .before .put-number2 .ensures) ∙ c .before .before .before .before .before .before .loop .inv .1) returns)
