@@ -9,7 +9,7 @@ use borrow.Author.Tests.{le-leb, lt-leb, leb-true, leb-false}
 use mathlib.Core.Bool.{Bool, true, false}
 use lib.Dec.{leb}
 use lib.ListN.{length, take, drop, set, replicate, length-append, length-replicate, length-drop, drop-of-length-le}
-use lib.Seq.{sets, sets-eq, length-sets, length-take-le, take-at, take-all}
+use lib.Seq.{sets, sets-eq, length-sets, length-take-le, take-at, take-all, set-set}
 use Rattle.octets.specs.Answers.{Said, gives, refuses}
 use Rattle.octets.specs.declared.Refusal.{Refusal}
 use Rattle.octets.specs.declared.Refusal.the-variants.{OutputTooShort}
@@ -90,6 +90,16 @@ left-step {l = l} {at} {rest} {xs} rest′ left wrote e = record {
   place = rw (wrote .place) (omega (arith, left .place, simp length-append at (ap length e)));
   list = rw (wrote .place, wrote .list, sets-append xs rest′ l at, ← e) (left .list);
 }
+
+-- and one element more, over which what is left is stored
+pub left-over : {whole : List ℕ} {end : ℕ} {l : List ℕ} {at : ℕ} {rest : List ℕ} {next : ℕ} {after : List ℕ} (xs rest′ : List ℕ) (y : ℕ)
+    → Left whole end l at rest → Wrote at (xs ++ y ∷ []) l next after → rest ≡ xs ++ rest′ → 0 < length rest′ → Left whole end after (at + length xs) rest′
+left-over xs [] y left wrote e h = absurd (omega (arith, h))
+left-over {l = l} {at} xs (z ∷ zs) y left wrote e h =
+    let one : Wrote at xs l (at + length xs) (sets l at xs) = record { place = refl; list = refl } in
+    let step = left-step (z ∷ zs) left one e in
+    let over : sets (sets l at (xs ++ y ∷ [])) (at + length xs) (z ∷ zs) ≡ sets (sets l at xs) (at + length xs) (z ∷ zs) = rw (← sets-append xs (y ∷ []) l at, set-set) in
+    record { place = step .place; list = rw (wrote .list) (over ∙ step .list) }
 
 -- what is stored next fits where the whole does
 pub left-fits : {whole : List ℕ} {end : ℕ} {l : List ℕ} {at : ℕ} {rest : List ℕ} (xs more : List ℕ) → Left whole end l at rest → rest ≡ xs ++ more → {n : ℕ} → end ≤ n → at + length xs ≤ n

@@ -1,3 +1,4 @@
 pub mod Number
 pub mod Inverse
 pub mod BitPlaces
+pub mod Packing

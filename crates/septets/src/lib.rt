@@ -1,10 +1,9 @@
 // Septets in octets (TS 23.038 §6.1.2.1.1).
 ghost use mathlib.Core.Path.{_≡_};
-ghost use Prim.Native.Nat.{ℕ, _+_, _*_, _/_, _%_, _^_, _<_, _≤_};
-ghost use mathlib.Core.List.{[], _∷_};
+ghost use Prim.Native.Nat.{ℕ, _+_, _*_, _^_, _<_, _≤_};
 ghost use lib.ListN.{length, getD, take, drop};
 ghost use Rattle.octets.specs.Lent.{Wrote};
-ghost use Rattle.septets.specs.Septets.{numberOf, Digits, bitPlace, bitOf, placeAfter, septetFrom, inWindow, octetCount, packedSeptets, headerSeptets};
+ghost use Rattle.septets.specs.Septets.{numberOf, lowestDigits, Digits, bitPlace, bitOf, placeAfter, septetFrom, inWindow, octetCount, packedSeptets, headerSeptets};
 
 // The octet at `at`, 0 past the end.
 pub fn octet_or_zero(octets: &[u8], at: usize) -> u16
@@ -87,16 +86,16 @@ pub fn septet_in(window: u64, index: usize) -> u8
     ((window >> (index * 7)) % 128) as u8
 }
 
-// The number of `n` octets from `at` on, at most eight.
-fn number_from(octets: &[u8], at: usize, n: usize) -> u64
-    requires { ⌜ (n ≤ 8) × (at + n ≤ length (now octets)) ⌝ }
-    ensures { λ r. ⌜ r ≡ numberOf 8 (take n (drop at (now (octets .entry)))) ⌝ }
+// The number of `n` digits of `w` bits from `at` on, at most eight of at most eight bits.
+fn number_from(digits: &[u8], w: usize, at: usize, n: usize) -> u64
+    requires { ⌜ (w ≤ 8) × (n ≤ 8) × (at + n ≤ length (now digits)) × Digits w (now digits) ⌝ }
+    ensures { λ r. ⌜ r ≡ numberOf w (take n (drop at (now (digits .entry)))) ⌝ }
 {
     let mut number = 0;
     let mut i = n;
     while 0 < i {
         i -= 1;
-        number = number * 256 + octets[at + i] as u64;
+        number = (number << w) + digits[at + i] as u64;
     }
     number
 }
@@ -108,10 +107,10 @@ fn eight_octets(octets: &[u8], at: usize) -> u64
 {
     let n = octets.len();
     if at + 8 <= n {
-        return number_from(octets, at, 8);
+        return number_from(octets, 8, at, 8);
     }
     if at < n {
-        return number_from(octets, at, n - at);
+        return number_from(octets, 8, at, n - at);
     }
     0
 }
@@ -124,49 +123,47 @@ pub fn header_septets(octets: usize) -> usize
     (octets * 8 + 6) / 7
 }
 
-// The septet before place `at`: 0 at the start and past the end.
-fn septet_before(septets: &[u8], at: usize) -> u16
-    ensures { λ r. ⌜ r ≡ getD (0 ∷ now (septets .entry)) at 0 ⌝ }
+// Writes the `n` lowest octets of a number at `at`; the place after them.
+fn put_number(out: &mut [u8], at: usize, n: usize, number: u64) -> usize
+    requires { ⌜ at + n ≤ length (now out) ⌝ }
+    ensures { λ r. ⌜ Wrote at (lowestDigits 8 n number) (now (out .entry)) r (now (out .exit)) ⌝ }
 {
-    if at == 0 {
-        0
-    } else {
-        octet_or_zero(septets, at - 1)
+    let mut rest = number;
+    let mut j = 0;
+    while j < n {
+        out[at + j] = (rest % 256) as u8;
+        rest /= 256;
+        j += 1;
     }
+    at + n
 }
 
-// Eight bits of two neighbouring septets, from bit `shift` on.
-fn eight_bits(low: u16, high: u16, shift: usize) -> u8
-    requires { ⌜ (low < 128) × (high < 128) × (shift < 7) ⌝ }
-    ensures { λ r. ⌜ r ≡ (high * 2 ^ 7 + low) / 2 ^ shift % 2 ^ 8 ⌝ }
+// The number of `n` septets from `at` on, at most eight, after `fill` bits that hold `carry`.
+fn number_after(septets: &[u8], at: usize, n: usize, fill: usize, carry: u64) -> u64
+    requires { ⌜ (n ≤ 8) × (at + n ≤ length (now septets)) × Digits 7 (now septets) × (fill < 8) × (carry < 2 ^ fill) ⌝ }
+    ensures { λ r. ⌜ r ≡ numberOf 7 (take n (drop at (now (septets .entry)))) * 2 ^ fill + carry ⌝ }
 {
-    let pair = high * 128 + low;
-    ((pair >> shift) % 256) as u8
+    (number_from(septets, 7, at, n) << fill) + carry
 }
 
-// Packs the septets after `fill` zero bits, with zero bits to the octet, from `at` on; the place after them.
+// Packs the septets after `fill` zero bits, with zero bits to the octet, from `at` on; the place after them. Eight septets
+// fill seven octets; the eighth, which is stored with them, is what is over, and is stored anew with those that follow.
 pub fn pack_octets(septets: &[u8], fill: usize, out: &mut [u8], at: usize) -> usize
     requires { ⌜ (fill < 8) × (length (now septets) ≤ 255) × Digits 7 (now septets) × (at + octetCount fill (length (now septets)) ≤ length (now out)) ⌝ }
     ensures { λ r. ⌜ Wrote at (packedSeptets fill (now (septets .entry))) (now (out .entry)) r (now (out .exit)) ⌝ }
 {
-    let n = (fill + septets.len() * 7 + 7) / 8;
-    let mut index = (7 - fill) / 7;
-    let mut shift = (7 - fill) % 7;
-    let mut low = septet_before(septets, index);
-    let mut j = 0;
-    while j < n {
-        let high = septet_before(septets, index + 1);
-        out[at + j] = eight_bits(low, high, shift);
-        j += 1;
-        if shift < 6 {
-            index += 1;
-            shift += 1;
-            low = high;
-        } else {
-            index += 2;
-            shift = 0;
-            low = septet_before(septets, index);
-        }
+    let n = septets.len();
+    let mut carry = 0;
+    let mut i = 0;
+    let mut place = at;
+    while i + 8 < n {
+        let window = number_after(septets, i, 8, fill, carry);
+        put_number(out, place, 8, window);
+        carry = window >> 56;
+        place += 7;
+        i += 8;
     }
-    at + n
+    let count = n - i;
+    let window = number_after(septets, i, count, fill, carry);
+    put_number(out, place, (fill + count * 7 + 7) / 8, window)
 }

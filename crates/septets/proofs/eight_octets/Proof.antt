@@ -28,5 +28,6 @@ returns-3 c =
 
 pub eight-octets-spec : {M : Type 1} → statement M
 eight-octets-spec =
-    tie.close (tie.spec (λ c. omega arith) (λ c κs. omega arith) (λ c. c .number-from .ensures) (λ c. omega arith) (λ c κs. omega (arith, c .before .if1 .left)) returns-2
+    tie.close (tie.spec (λ c. omega arith) (λ c κs. (omega arith, omega arith, omega arith, λ i. c .before .shared-slice-known .given i .fits)) (λ c. c .number-from .ensures) (λ c. omega arith)
+    (λ c κs. (omega arith, omega (arith, c .before .if1 .left), omega arith, λ i. c .before .before .shared-slice-known .given i .fits)) returns-2
     returns-3)

@@ -1,96 +1,74 @@
--- `septets::pack_octets` meets its contract: the octets that are left, stored too, still give the whole; `index` and `shift` are the place of the octet's first bit, with a zero septet before the first.
+-- `septets::pack_octets` meets its contract: the octets that are left, stored too, still give the whole; the carry is what is over of the eight septets before.
 -- Assumes nothing.
-use Prim.Native.Nat.{ℕ, _+_, _*_, _-_, _/_, _%_, _^_, _<_, _≤_}
+use Prim.Native.Nat.{_+_, _-_, _*_, _/_, _^_, _<_, _≤_}
 use mathlib.Core.Path.{_≡_, refl, sym, _∙_}
-use mathlib.Core.List.{List, _∷_}
+use mathlib.Core.List.{[], append-nil}
 use native.Mathlib.Omega.{arith}
-use native.Mathlib.Nat.{add-zero, add-assoc}
-use native.Mathlib.Numerals.{add-one}
 use denote.Ref.{now}
-use lib.ListN.{length, getD, set, length-set}
+use lib.ListN.{length, take, drop}
+use lib.Pow.{shr-lt, pow-pos}
 use lib.Seq.{sets}
-use Rattle.octets.proofs.Laws.{Left, left-start, left-step, left-end, wrote-one}
-use Rattle.septets.specs.Septets.{packedSeptets, lowestDigits, numberOf}
-use Rattle.septets.proofs.Number.{rest-start, rest-step, rest-end, digits-zero, octet-at}
+use Rattle.octets.proofs.Laws.{Left, left-start, left-step, left-over, left-end, kept-by}
+use Rattle.septets.specs.Septets.{packedSeptets, octetCount, lowestDigits, numberOf}
+use Rattle.septets.proofs.Number.{length-digits}
 use Rattle.septets.proofs.Inverse.{length-packed}
+use Rattle.septets.proofs.Packing.{packedOver, packed-start, packed-step, packed-end, length-over, eight-digits, window-lt}
 use Rattle.septets.proofs.pack_octets.Statement.{statement}
 use Rattle.septets.proofs.pack_octets.Tie as tie
-use Rattle.septets.proofs.pack_octets.Reads as reads
-use Rattle.septets.proofs.pack_octets.Lts as lts
-use Rattle.septets.proofs.eight_bits.Reads as eight-bits-reads
-use Rattle.septets.proofs.septet_before.Reads as septet-before-reads
-
--- the octets that are left when j of n are packed
-abbrev left : List ℕ → ℕ → ℕ → ℕ → List ℕ
-left ss f n j = lowestDigits 8 (n - j) (numberOf 7 ss * 2 ^ f / 2 ^ (j * 8))
 
 abbrev Inv-loop : tie.InvT-loop
-Inv-loop septets fill out₀ at n index₀ shift₀ low₀ j₀ out index shift low j =
-    (j ≤ n) × (length out ≡ length out₀) × (index * 7 + shift + fill ≡ j * 8 + 7) × (shift < 7) × (low ≡ getD (0 ∷ septets) index 0)
-    × Left (sets out₀ at (packedSeptets fill septets)) (at + length (packedSeptets fill septets)) out (at + j) (left septets fill n j)
+Inv-loop septets fill out₀ at n carry₀ i₀ place₀ out carry i place =
+    (i ≤ n) × (length out ≡ length out₀) × (carry < 2 ^ fill)
+    × Left (sets out₀ at (packedSeptets fill septets)) (at + length (packedSeptets fill septets)) out place (packedOver fill carry (drop i septets))
 
 abbrev μ-loop : tie.MeasureT-loop
-μ-loop septets fill out₀ at n index₀ shift₀ low₀ j₀ out index shift low j = n - j
+μ-loop septets fill out₀ at n carry₀ i₀ place₀ out carry i place = n - i
 
--- where an octet is made
-abbrev Place : Type 0
-Place =
-    lts.After-eight-bits
-    (septet-before-reads.Asked, septet-before-reads.Learnt, eight-bits-reads.Asked, eight-bits-reads.Learnt)
-    reads.Pre
-    reads.Post
-    Inv-loop
-    μ-loop
+loop-holds : tie.Need-loop-holds Inv-loop μ-loop
+loop-holds c =
+    let a = c .before .before .args in
+    (omega arith, refl, pow-pos (a .fill), rw (← packed-start) (left-start _ _ _))
 
--- it is the next of the packed ones, and is stored
-stored : (c : Place) (n : ℕ) {whole : List ℕ} {end : ℕ} →
-    let a = c .before .before .before .before .before .before .before .args in
-    let l = c .before .before .before .loop in
-    l .j < n → Left whole end (l .out) (a .at + l .j) (left (now (a .septets)) (a .fill) n (l .j))
-    → Left whole end (set (l .out) (a .at + l .j) (c .eight-bits .result)) (a .at + (l .j + 1)) (left (now (a .septets)) (a .fill) n (l .j + 1))
-stored c n h inv =
-    let a = c .before .before .before .before .before .before .before .args in
-    let p = c .before .before .before .before .before .before .before .pre in
-    let l = c .before .before .before .loop in
-    let x = numberOf 7 (now (a .septets)) * 2 ^ a .fill in
-    let octet : c .eight-bits .result ≡ x / 2 ^ (l .j * 8) % 2 ^ 8 =
-    c .eight-bits .ensures ∙ rw (c .before .septet-before2 .ensures, l .inv .4) (sym (octet-at (now (a .septets)) (p .2) (a .fill) (l .j) (l .index) (l .shift) (p .0) (l .inv .3) (l .inv .2))) in
-    rw (← add-assoc) (left-step _ inv (wrote-one _ _ _) (rw (octet, add-one) (rest-step 8 n x (l .j) h)))
-
-eight-bits-requires : tie.Need-eight-bits-requires Inv-loop μ-loop
-eight-bits-requires c κs =
-    let d = digits-zero 7 (now (c .before .before .before .before .before .before .args .septets)) (c .before .before .before .before .before .before .pre .2) in
-    let l = c .before .before .loop in
-    (rw (l .inv .4) (d (l .index)), rw (c .septet-before2 .ensures) (d (l .index + 1)), l .inv .3)
+-- what is left fits
+room : (c : tie.At-loop Inv-loop μ-loop) →
+    let s = c .before .before .before in
+    c .loop .place + octetCount (s .args .fill) (length (now (s .args .septets)) - c .loop .i) ≤ length (c .loop .out)
+room c =
+    let s = c .before .before .before in
+    let l = c .loop in
+    rw (← length-over (s .args .fill) (l .carry) (now (s .args .septets)) (l .i), l .inv .3 .place, length-packed, l .inv .1) (s .pre .3)
 
 loop-again : tie.Need-loop-again Inv-loop μ-loop
 loop-again c =
-    let l = c .before .before .before .before .loop in
-    (omega arith, simp length-set (l .inv .1), omega arith, omega arith, c .before .before .septet-before2 .ensures, stored (c .before) _ (c .before .before .before .loop-test .taken) (l .inv .5))
-
-loop-again-2 : tie.Need-loop-again-2 Inv-loop μ-loop
-loop-again-2 c =
-    let l = c .before .before .before .before .before .loop in
-    (omega arith, simp length-set (l .inv .1), omega arith, omega arith, c .septet-before3 .ensures, stored (c .before .before) _ (c .before .before .before .before .loop-test .taken) (l .inv .5))
+    let l = c .before .before .before .before .before .before .loop in
+    let s = c .before .before .before .before .before .before .before .before .before in
+    let f = s .args .fill in
+    let ss = now (s .args .septets) in
+    let more = c .before .before .before .before .before .loop-test .taken in
+    let window = c .before .before .before .before .number-after .ensures in
+    let wrote = c .before .before .put-number .ensures in
+    let x = numberOf 7 (take 8 (drop (l .i) ss)) * 2 ^ f + l .carry in
+    let some : 0 < length (packedOver f (x / 2 ^ 56) (drop (l .i + 8) ss)) = rw length-over (omega (arith, more)) in
+    let left = left-over (lowestDigits 8 7 x) _ _ (l .inv .3) (rw (window, eight-digits) at wrote) (packed-step f (l .carry) ss (l .i) (s .pre .2) (omega (arith, more))) some in
+    (omega (arith, more), kept-by wrote ∙ l .inv .1, rw window (shr-lt f 56 (window-lt ss (s .pre .2) (l .i) 8 (omega arith) f (l .carry) (l .inv .2))), rw window (rw length-digits at left))
 
 returns : tie.Need-returns Inv-loop μ-loop
 returns c =
-    let a = c .before .before .before .before .before .args in
-    let l = c .before .loop in
-    record {
-      place = rw (length-packed (a .fill) (now (a .septets)));
-      list = left-end (l .inv .5) (rest-end 8 _ (numberOf 7 (now (a .septets)) * 2 ^ a .fill) (l .j) (c .loop-test .left)) .1;
-    }
-
-holds : tie.Need-loop-holds Inv-loop μ-loop
-unfolding packedSeptets
-holds c =
-    (omega arith, refl, omega (arith, c .before .before .before .pre .0), omega arith, c .septet-before .ensures, rw (add-zero, rest-start) (left-start _ _ _))
+    let s = c .before .before .before .before .before .before .before .before .before in
+    let l = c .before .before .before .before .before .before .loop in
+    let window = c .before .before .before .before .number-after2 .ensures in
+    let wrote = c .before .before .put-number2 .ensures in
+    let all = packed-end (s .args .fill) (l .carry) (now (s .args .septets)) (l .i) in
+    let done = left-end (left-step [] (l .inv .3) wrote (rw window (sym all ∙ sym (append-nil _)))) refl in
+    record { place = done .0; list = done .1 }
 
 pub pack-octets-spec : {M : Type 1} → statement M
 pack-octets-spec =
-    tie.close (tie.spec Inv-loop μ-loop (λ c. omega arith) (λ c. omega arith) (λ c. omega arith) (λ c. omega arith) (λ c. omega arith) (λ c κs. tt) holds
-    (λ c. omega arith) (λ c κs. tt) eight-bits-requires (λ c. omega arith) (λ c. omega arith) (λ c. omega arith) (λ c. omega arith) (λ c. omega arith) (λ c. omega arith)
-    loop-again
-    (λ c. omega arith) (λ c κs. tt) (λ c. omega arith) loop-again-2
-    (λ c. omega arith) (λ c. c .before .loop .inv .1) returns)
+    tie.close (tie.spec Inv-loop μ-loop loop-holds
+    (λ c. omega arith) (λ c κs. let p = c .before .before .before .before .pre in (omega arith, omega (arith, c .loop-test .taken), p .2, omega (arith, p .0), c .before .loop .inv .2))
+    (λ c κs. omega (arith, room (c .before .before .before), c .before .before .loop-test .taken))
+    (λ c. omega (arith, room (c .before .before .before .before .before .before), c .before .before .before .before .before .loop-test .taken))
+    (λ c. omega arith) (λ c. omega arith) loop-again
+    (λ c. omega arith) (λ c κs. let p = c .before .before .before .before .pre in (omega (arith, c .loop-test .left), omega arith, p .2, omega (arith, p .0), c .before .loop .inv .2))
+    (λ c. omega arith) (λ c. omega arith) (λ c. omega arith) (λ c κs. room (c .before .before .before))
+    (λ c. kept-by (c .before .before .put-number2 .ensures) ∙ c .before .before .before .before .before .before .loop .inv .1) returns)
