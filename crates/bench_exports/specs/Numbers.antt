@@ -4,13 +4,17 @@ use mathlib.Core.List.{List}
 use Rattle.octets.specs.Answers.{Said, gives, refuses}
 use Rattle.octets.specs.Refusals.{refusalNumber}
 use Rattle.gsm7.specs.Packing.{SaidCounts}
-use Rattle.reassembly.specs.Calls.{SaidPart}
+use Rattle.reassembly.specs.Calls.{SaidPart, Taken, whole, notOpen, notWhole}
 use Rattle.columns.specs.Answers.{SaidStrings}
 
 -- of an outcome, with a count beside it
 abbrev pub numbered : Said Unit → ℕ → ℕ
 numbered (gives x) n = n
 numbered (refuses why) n = 256 + refusalNumber why
+
+-- of a reader's outcome, with a count beside it; and what goes to a lent array
+abbrev pub readNumber : Said Unit → ℕ → List ℕ → ℕ × List ℕ
+readNumber said n held = (numbered said n, held)
 
 -- of a writer's answer
 abbrev pub countNumber : Said ℕ → ℕ
@@ -36,3 +40,14 @@ emptiedNumber r = (numbered (r .0) 0, r .1)
 -- of a part that is accepted: how many are missing; and the store
 abbrev pub acceptedNumber : SaidPart × List ℕ → ℕ × List ℕ
 acceptedNumber r = (numbered (r .0 .0) (r .0 .5), r .1)
+
+-- of a message that is taken: its octets, none where it is not open or not whole
+abbrev pub messageNumber : Said Taken → ℕ
+messageNumber (gives (whole dcs n)) = n
+messageNumber (gives notOpen) = 0
+messageNumber (gives notWhole) = 0
+messageNumber (refuses why) = 256 + refusalNumber why
+
+-- and both lent lists
+abbrev pub takenNumber : Said Taken × List ℕ × List ℕ → ℕ × List ℕ × List ℕ
+takenNumber r = (messageNumber (r .0), r .1, r .2)

@@ -7,7 +7,7 @@ use Rattle.bench_exports.proofs.tpdu_rewrite_deliver_report.Statement.{
 use Rattle.bench_exports.proofs.tpdu_rewrite_deliver_report.Tie as tie
 
 returns : tie.Need-returns
-returns c = rw (c .written .ensures) (ap lentNumber (c .before .before .before .canonical-deliver-report-error .ensures))
+returns c = rw (c .written .ensures) (ap lentNumber (c .before .before .before .canonical-deliver-report-ack .ensures))
 
 pub tpdu-rewrite-deliver-report-spec : {M : Type 1} → statement M
 tpdu-rewrite-deliver-report-spec = tie.close (tie.spec (λ c κs. search needs) (λ c κs. search needs) (λ c. search needs) returns)
