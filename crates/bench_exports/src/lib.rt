@@ -4,6 +4,7 @@
 ghost use mathlib.Core.Path.{_≡_};
 ghost use mathlib.Core.Bool.{true};
 ghost use mathlib.Core.List.{[]};
+ghost use lib.ListN.{replicate};
 ghost use Rattle.octets.specs.Answers.{refuses, outcomeSays, writtenSays};
 ghost use Rattle.octets.specs.Lent.{lend};
 ghost use Rattle.gsm7.specs.Packing.{packing, notPacked};
@@ -19,6 +20,9 @@ ghost use Rattle.time.specs.Timestamp.{timestamp};
 ghost use Rattle.address.specs.Address.{encoding};
 ghost use Rattle.layout.specs.Demand.{rewriting};
 ghost use Rattle.layout.specs.Layout.{read, answer};
+ghost use Rattle.parameters.specs.declared.OptionalOctet.the-variants.{Absent, Present};
+ghost use Rattle.parameters.specs.declared.RpOutcome.the-variants.{RpAck};
+ghost use Rattle.validity_period.specs.declared.ValidityPeriod.the-variants.{Relative};
 ghost use Rattle.submit.specs.Submit.{submit, submitting, octetsTaken, blank as blankSubmit};
 ghost use Rattle.deliver.specs.Deliver.{deliver, delivering, blank as blankDeliver};
 ghost use Rattle.status_report.specs.StatusReport.{statusReport, statusReporting, blank as blankStatusReport};
@@ -27,14 +31,21 @@ ghost use Rattle.deliver_report.specs.DeliverReport.{ack as deliverReportAck, d
 ghost use Rattle.bench_exports.specs.Numbers.{numbered, readNumber, countNumber, lentNumber, packedNumber, emptiedNumber, acceptedNumber, stringsNumber, messageNumber, takenNumber};
 use tpdu::HeaderElements;
 use tpdu::MessageTaken;
+use tpdu::OptionalOctet;
 use tpdu::Outcome;
 use tpdu::Reference;
 use tpdu::RelayAddress;
+use tpdu::RpOutcome;
 use tpdu::SMSAddress;
 use tpdu::SmsDeliver;
 use tpdu::SmsDeliverReport;
 use tpdu::SmsStatusReport;
+use tpdu::SmsSubmit;
 use tpdu::SmsSubmitReport;
+use tpdu::SubmitText;
+use tpdu::Time;
+use tpdu::UserData;
+use tpdu::ValidityPeriod;
 use tpdu::Written;
 
 // The number of an outcome with a count beside it.
@@ -391,4 +402,249 @@ pub extern "C" fn tpdu_take_message(
         address_length: length,
     };
     message_octets(tpdu::take_message(store, a, Reference::Eight(reference), total, out))
+}
+
+// A message of its parts, written; the arrays hold what their lengths say.
+#[no_mangle]
+pub extern "C" fn tpdu_write_deliver(
+    tp_rp: bool,
+    tp_udhi: bool,
+    tp_sri: bool,
+    tp_lp: bool,
+    tp_mms: bool,
+    tp_mti: u8,
+    ton: u8,
+    npi: u8,
+    address: &[u8; 290],
+    address_length: usize,
+    tp_pid: u8,
+    tp_dcs: u8,
+    time: &[u8; 14],
+    tp_user_data_length: u8,
+    user_data: &[u8; 255],
+    length: usize,
+    out: &mut [u8],
+) -> usize
+    ensures { λ r. ⌜ (r, now (out .exit)) ≡ lentNumber (lend refuses (delivering (record { «tp_rp» = «tp_rp»; «tp_udhi» = «tp_udhi»; «tp_sri» = «tp_sri»; «tp_lp» = «tp_lp»; «tp_mms» = «tp_mms»; «tp_mti» = «tp_mti»; «tp_originating_address» = record { ton = ton; npi = npi; address = now (address .entry); «address_length» = «address_length» }; «tp_pid» = «tp_pid»; «tp_dcs» = «tp_dcs»; «tp_service_centre_timestamp» = record { digits = now (time .entry); length = 14 }; «tp_user_data_length» = «tp_user_data_length»; «tp_user_data» = record { octets = now («user_data» .entry); length = length } })) (now (out .entry))) ⌝ }
+{
+    let text = *address;
+    let number = SMSAddress {
+        ton,
+        npi,
+        address: text,
+        address_length,
+    };
+    let digits = *time;
+    let sent = Time { digits, length: 14 };
+    let octets = *user_data;
+    let held = UserData { length, octets };
+    let m = SmsDeliver {
+        tp_rp,
+        tp_udhi,
+        tp_sri,
+        tp_lp,
+        tp_mms,
+        tp_mti,
+        tp_originating_address: number,
+        tp_pid,
+        tp_dcs,
+        tp_service_centre_timestamp: sent,
+        tp_user_data_length,
+        tp_user_data: held,
+    };
+    written(m.encode(out))
+}
+
+#[no_mangle]
+pub extern "C" fn tpdu_write_status_report(
+    tp_udhi: bool,
+    tp_srq: bool,
+    tp_lp: bool,
+    tp_mms: bool,
+    tp_mr: u8,
+    ton: u8,
+    npi: u8,
+    address: &[u8; 290],
+    address_length: usize,
+    sent: &[u8; 14],
+    done: &[u8; 14],
+    tp_status: u8,
+    user_data: &[u8; 255],
+    length: usize,
+    out: &mut [u8],
+) -> usize
+    ensures { λ r. ⌜ (r, now (out .exit)) ≡ lentNumber (lend refuses (statusReporting (record { «tp_udhi» = «tp_udhi»; «tp_srq» = «tp_srq»; «tp_lp» = «tp_lp»; «tp_mms» = «tp_mms»; «tp_mr» = «tp_mr»; «tp_recipient_address» = record { ton = ton; npi = npi; address = now (address .entry); «address_length» = «address_length» }; «tp_service_centre_timestamp» = record { digits = now (sent .entry); length = 14 }; «tp_discharge_time» = record { digits = now (done .entry); length = 14 }; «tp_status» = «tp_status»; «tp_parameter_indicator» = Absent; «tp_pid» = Absent; «tp_dcs» = Absent; «tp_user_data_length» = Absent; «tp_user_data» = record { octets = now («user_data» .entry); length = length } })) (now (out .entry))) ⌝ }
+{
+    let text = *address;
+    let number = SMSAddress {
+        ton,
+        npi,
+        address: text,
+        address_length,
+    };
+    let sent_digits = *sent;
+    let first = Time {
+        digits: sent_digits,
+        length: 14,
+    };
+    let done_digits = *done;
+    let second = Time {
+        digits: done_digits,
+        length: 14,
+    };
+    let octets = *user_data;
+    let held = UserData { length, octets };
+    let m = SmsStatusReport {
+        tp_udhi,
+        tp_srq,
+        tp_lp,
+        tp_mms,
+        tp_mr,
+        tp_recipient_address: number,
+        tp_service_centre_timestamp: first,
+        tp_discharge_time: second,
+        tp_status,
+        tp_parameter_indicator: OptionalOctet::Absent,
+        tp_pid: OptionalOctet::Absent,
+        tp_dcs: OptionalOctet::Absent,
+        tp_user_data_length: OptionalOctet::Absent,
+        tp_user_data: held,
+    };
+    written(m.encode(out))
+}
+
+#[no_mangle]
+pub extern "C" fn tpdu_write_submit_report(
+    tp_udhi: u8,
+    tp_parameter_indicator: u8,
+    time: &[u8; 14],
+    pid: u8,
+    dcs: u8,
+    udl: u8,
+    user_data: &[u8; 255],
+    length: usize,
+    out: &mut [u8],
+) -> usize
+    ensures { λ r. ⌜ (r, now (out .exit)) ≡ lentNumber (lend refuses (submitReporting (record { «tp_udhi» = «tp_udhi»; «tp_failure_cause» = Absent; «tp_parameter_indicator» = «tp_parameter_indicator»; «tp_service_centre_timestamp» = record { digits = now (time .entry); length = 14 }; «tp_pid» = Present pid; «tp_dcs» = Present dcs; «tp_user_data_length» = Present udl; «tp_user_data» = record { octets = now («user_data» .entry); length = length }; «rp_outcome» = RpAck })) (now (out .entry))) ⌝ }
+{
+    let digits = *time;
+    let sent = Time { digits, length: 14 };
+    let octets = *user_data;
+    let held = UserData { length, octets };
+    let m = SmsSubmitReport {
+        tp_udhi,
+        tp_failure_cause: OptionalOctet::Absent,
+        tp_parameter_indicator,
+        tp_service_centre_timestamp: sent,
+        tp_pid: OptionalOctet::Present(pid),
+        tp_dcs: OptionalOctet::Present(dcs),
+        tp_user_data_length: OptionalOctet::Present(udl),
+        tp_user_data: held,
+        rp_outcome: RpOutcome::RpAck,
+    };
+    written(m.encode(out))
+}
+
+#[no_mangle]
+pub extern "C" fn tpdu_write_deliver_report(
+    tp_udhi: bool,
+    tp_parameter_indicator: u8,
+    pid: u8,
+    dcs: u8,
+    udl: u8,
+    user_data: &[u8; 255],
+    length: usize,
+    out: &mut [u8],
+) -> usize
+    ensures { λ r. ⌜ (r, now (out .exit)) ≡ lentNumber (lend refuses (deliverReporting (record { «tp_udhi» = «tp_udhi»; «tp_failure_cause» = Absent; «tp_parameter_indicator» = «tp_parameter_indicator»; «tp_pid» = Present pid; «tp_dcs» = Present dcs; «tp_user_data_length» = Present udl; «tp_user_data» = record { octets = now («user_data» .entry); length = length }; «rp_outcome» = RpAck })) (now (out .entry))) ⌝ }
+{
+    let octets = *user_data;
+    let held = UserData { length, octets };
+    let m = SmsDeliverReport {
+        tp_udhi,
+        tp_failure_cause: OptionalOctet::Absent,
+        tp_parameter_indicator,
+        tp_pid: OptionalOctet::Present(pid),
+        tp_dcs: OptionalOctet::Present(dcs),
+        tp_user_data_length: OptionalOctet::Present(udl),
+        tp_user_data: held,
+        rp_outcome: RpOutcome::RpAck,
+    };
+    written(m.encode(out))
+}
+
+// The validity period is relative.
+#[no_mangle]
+pub extern "C" fn tpdu_write_submit(
+    tp_rp: bool,
+    tp_udhi: bool,
+    tp_srr: bool,
+    tp_mti: u8,
+    tp_rd: bool,
+    tp_vpf: u8,
+    tp_mr: u8,
+    ton: u8,
+    npi: u8,
+    address: &[u8; 290],
+    address_length: usize,
+    tp_pid: u8,
+    tp_dcs: u8,
+    period: u8,
+    tp_user_data_length: u8,
+    user_data: &[u8; 255],
+    length: usize,
+    has_user_data_header: bool,
+    header: &[u8; 255],
+    header_length: usize,
+    text: &[u8; 510],
+    text_length: usize,
+    out: &mut [u8],
+) -> usize
+    ensures { λ r. ⌜ (r, now (out .exit)) ≡ lentNumber (lend refuses (submitting (record { «tp_rp» = «tp_rp»; «tp_udhi» = «tp_udhi»; «tp_srr» = «tp_srr»; «tp_mti» = «tp_mti»; «tp_rd» = «tp_rd»; «tp_vpf» = «tp_vpf»; «tp_mr» = «tp_mr»; «has_destination_address» = true; «tp_destination_address» = record { ton = ton; npi = npi; address = now (address .entry); «address_length» = «address_length» }; «tp_pid» = «tp_pid»; «tp_dcs» = «tp_dcs»; «tp_validity_period» = Relative period; «validity_period_digits» = record { digits = replicate 14 0; length = 0 }; «validity_period_octets» = replicate 7 0; «tp_user_data_length» = «tp_user_data_length»; «tp_user_data_raw» = record { octets = now («user_data» .entry); length = length }; «has_user_data_header» = «has_user_data_header»; «tp_user_data_header» = record { octets = now (header .entry); length = «header_length» }; «tp_user_data» = record { octets = now (text .entry); length = «text_length» } })) (now (out .entry))) ⌝ }
+{
+    let number_text = *address;
+    let number = SMSAddress {
+        ton,
+        npi,
+        address: number_text,
+        address_length,
+    };
+    let none = Time {
+        digits: [0u8; 14],
+        length: 0,
+    };
+    let octets = *user_data;
+    let raw = UserData { length, octets };
+    let header_octets = *header;
+    let front = UserData {
+        length: header_length,
+        octets: header_octets,
+    };
+    let text_octets = *text;
+    let shown = SubmitText {
+        octets: text_octets,
+        length: text_length,
+    };
+    let m = SmsSubmit {
+        tp_rp,
+        tp_udhi,
+        tp_srr,
+        tp_mti,
+        tp_rd,
+        tp_vpf,
+        tp_mr,
+        has_destination_address: true,
+        tp_destination_address: number,
+        tp_pid,
+        tp_dcs,
+        tp_validity_period: ValidityPeriod::Relative(period),
+        validity_period_digits: none,
+        validity_period_octets: [0u8; 7],
+        tp_user_data_length,
+        tp_user_data_raw: raw,
+        has_user_data_header,
+        tp_user_data_header: front,
+        tp_user_data: shown,
+    };
+    written(m.encode(out))
 }
