@@ -18,7 +18,6 @@ ghost use Rattle.reassembly.specs.Calls.{emptied, accepting, takingBy, takenSay
 ghost use Rattle.columns.specs.Answers.{writing, reading, lendBoth};
 ghost use Rattle.time.specs.Timestamp.{timestamp};
 ghost use Rattle.address.specs.Address.{encoding};
-ghost use Rattle.layout.specs.Demand.{rewriting};
 ghost use Rattle.layout.specs.Layout.{read, answer};
 ghost use Rattle.parameters.specs.declared.OptionalOctet.the-variants.{Absent, Present};
 ghost use Rattle.parameters.specs.declared.RpOutcome.the-variants.{RpAck};
@@ -28,7 +27,7 @@ ghost use Rattle.deliver.specs.Deliver.{deliver, delivering, blank as blankDeli
 ghost use Rattle.status_report.specs.StatusReport.{statusReport, statusReporting, blank as blankStatusReport};
 ghost use Rattle.submit_report.specs.SubmitReport.{ack as submitReportAck, submitReporting, blank as blankSubmitReport};
 ghost use Rattle.deliver_report.specs.DeliverReport.{ack as deliverReportAck, deliverReporting, blank as blankDeliverReport};
-ghost use Rattle.bench_exports.specs.Numbers.{numbered, readNumber, countNumber, lentNumber, packedNumber, emptiedNumber, acceptedNumber, stringsNumber, messageNumber, takenNumber};
+ghost use Rattle.bench_exports.specs.Numbers.{numbered, readNumber, deliverNumber, submitNumber, statusReportNumber, submitReportNumber, elementsNumber, countNumber, lentNumber, packedNumber, emptiedNumber, acceptedNumber, stringsNumber, messageNumber, takenNumber};
 use tpdu::HeaderElements;
 use tpdu::MessageTaken;
 use tpdu::OptionalOctet;
@@ -68,39 +67,80 @@ fn written(w: Written) -> usize
     }
 }
 
-// The number of octets of user data, and the octets.
+// The number of octets of user data, and the arrays of the message.
 #[no_mangle]
-pub extern "C" fn tpdu_read_deliver(data: &[u8], user_data: &mut [u8; 255]) -> usize
-    ensures { λ r. ⌜ (let a = answer blankDeliver (read deliver (now («data» .entry))) in (r, now («user_data» .exit)) ≡ readNumber (a .0) (a .1 .«tp_user_data» .length) (a .1 .«tp_user_data» .octets)) ⌝ }
+pub extern "C" fn tpdu_read_deliver(
+    data: &[u8],
+    address: &mut [u8; 290],
+    time: &mut [u8; 14],
+    user_data: &mut [u8; 255],
+) -> usize
+    ensures { λ r. ⌜ (r, now (address .exit), now (time .exit), now («user_data» .exit)) ≡ deliverNumber (answer blankDeliver (read deliver (now («data» .entry)))) ⌝ }
 {
     let read = SmsDeliver::decode(data);
     let outcome = read.outcome;
+    let from = read.message.tp_originating_address;
+    let text = from.address;
+    *address = text;
+    let sent = read.message.tp_service_centre_timestamp;
+    let digits = sent.digits;
+    *time = digits;
     let held = read.message.tp_user_data;
     let octets = held.octets;
     *user_data = octets;
     taken(outcome, held.length)
 }
 
-// The number of octets read, and the text.
+// The number of octets read, and the arrays of the message, without those of its validity period.
 #[no_mangle]
-pub extern "C" fn tpdu_read_submit(data: &[u8], text: &mut [u8; 510]) -> usize
-    ensures { λ r. ⌜ (let x = read submit (now («data» .entry)) in (r, now (text .exit)) ≡ readNumber (answer blankSubmit x .0) (octetsTaken x) (answer blankSubmit x .1 .«tp_user_data» .octets)) ⌝ }
+pub extern "C" fn tpdu_read_submit(
+    data: &[u8],
+    address: &mut [u8; 290],
+    user_data: &mut [u8; 255],
+    header: &mut [u8; 255],
+    text: &mut [u8; 510],
+) -> usize
+    ensures { λ r. ⌜ (let x = read submit (now («data» .entry)) in (r, now (address .exit), now («user_data» .exit), now (header .exit), now (text .exit)) ≡ submitNumber (answer blankSubmit x) (octetsTaken x)) ⌝ }
 {
     let read = tpdu::decode_sms_submit_tpdu(data);
     let outcome = read.outcome;
-    let held = read.message.tp_user_data;
-    let octets = held.octets;
-    *text = octets;
+    let to = read.message.tp_destination_address;
+    let digits = to.address;
+    *address = digits;
+    let raw = read.message.tp_user_data_raw;
+    let raw_octets = raw.octets;
+    *user_data = raw_octets;
+    let front = read.message.tp_user_data_header;
+    let front_octets = front.octets;
+    *header = front_octets;
+    let shown = read.message.tp_user_data;
+    let shown_octets = shown.octets;
+    *text = shown_octets;
     taken(outcome, read.octets_read)
 }
 
-// The number of octets of user data, and the octets.
+// The number of octets of user data, and the arrays of the message.
 #[no_mangle]
-pub extern "C" fn tpdu_read_status_report(data: &[u8], user_data: &mut [u8; 255]) -> usize
-    ensures { λ r. ⌜ (let a = answer blankStatusReport (read statusReport (now («data» .entry))) in (r, now («user_data» .exit)) ≡ readNumber (a .0) (a .1 .«tp_user_data» .length) (a .1 .«tp_user_data» .octets)) ⌝ }
+pub extern "C" fn tpdu_read_status_report(
+    data: &[u8],
+    address: &mut [u8; 290],
+    sent: &mut [u8; 14],
+    done: &mut [u8; 14],
+    user_data: &mut [u8; 255],
+) -> usize
+    ensures { λ r. ⌜ (r, now (address .exit), now (sent .exit), now (done .exit), now («user_data» .exit)) ≡ statusReportNumber (answer blankStatusReport (read statusReport (now («data» .entry)))) ⌝ }
 {
     let read = SmsStatusReport::decode(data);
     let outcome = read.outcome;
+    let to = read.message.tp_recipient_address;
+    let text = to.address;
+    *address = text;
+    let first = read.message.tp_service_centre_timestamp;
+    let first_digits = first.digits;
+    *sent = first_digits;
+    let second = read.message.tp_discharge_time;
+    let second_digits = second.digits;
+    *done = second_digits;
     let held = read.message.tp_user_data;
     let octets = held.octets;
     *user_data = octets;
@@ -108,11 +148,18 @@ pub extern "C" fn tpdu_read_status_report(data: &[u8], user_data: &mut [u8; 255]
 }
 
 #[no_mangle]
-pub extern "C" fn tpdu_read_submit_report(data: &[u8], user_data: &mut [u8; 255]) -> usize
-    ensures { λ r. ⌜ (let a = answer blankSubmitReport (read submitReportAck (now («data» .entry))) in (r, now («user_data» .exit)) ≡ readNumber (a .0) (a .1 .«tp_user_data» .length) (a .1 .«tp_user_data» .octets)) ⌝ }
+pub extern "C" fn tpdu_read_submit_report(
+    data: &[u8],
+    time: &mut [u8; 14],
+    user_data: &mut [u8; 255],
+) -> usize
+    ensures { λ r. ⌜ (r, now (time .exit), now («user_data» .exit)) ≡ submitReportNumber (answer blankSubmitReport (read submitReportAck (now («data» .entry)))) ⌝ }
 {
     let read = SmsSubmitReport::decode_for_rp_ack(data);
     let outcome = read.outcome;
+    let sent = read.message.tp_service_centre_timestamp;
+    let digits = sent.digits;
+    *time = digits;
     let held = read.message.tp_user_data;
     let octets = held.octets;
     *user_data = octets;
@@ -129,42 +176,6 @@ pub extern "C" fn tpdu_read_deliver_report(data: &[u8], user_data: &mut [u8; 255
     let octets = held.octets;
     *user_data = octets;
     taken(outcome, held.length)
-}
-
-// Read, and written back.
-#[no_mangle]
-pub extern "C" fn tpdu_rewrite_deliver(data: &[u8], out: &mut [u8]) -> usize
-    ensures { λ r. ⌜ (r, now (out .exit)) ≡ lentNumber (lend refuses (rewriting delivering (read deliver (now («data» .entry)))) (now (out .entry))) ⌝ }
-{
-    written(tpdu::canonical_deliver(data, out))
-}
-
-#[no_mangle]
-pub extern "C" fn tpdu_rewrite_submit(data: &[u8], out: &mut [u8]) -> usize
-    ensures { λ r. ⌜ (r, now (out .exit)) ≡ lentNumber (lend refuses (rewriting submitting (read submit (now («data» .entry)))) (now (out .entry))) ⌝ }
-{
-    written(tpdu::canonical_submit(data, out))
-}
-
-#[no_mangle]
-pub extern "C" fn tpdu_rewrite_status_report(data: &[u8], out: &mut [u8]) -> usize
-    ensures { λ r. ⌜ (r, now (out .exit)) ≡ lentNumber (lend refuses (rewriting statusReporting (read statusReport (now («data» .entry)))) (now (out .entry))) ⌝ }
-{
-    written(tpdu::canonical_status_report(data, out))
-}
-
-#[no_mangle]
-pub extern "C" fn tpdu_rewrite_submit_report(data: &[u8], out: &mut [u8]) -> usize
-    ensures { λ r. ⌜ (r, now (out .exit)) ≡ lentNumber (lend refuses (rewriting submitReporting (read submitReportAck (now («data» .entry)))) (now (out .entry))) ⌝ }
-{
-    written(tpdu::canonical_submit_report_ack(data, out))
-}
-
-#[no_mangle]
-pub extern "C" fn tpdu_rewrite_deliver_report(data: &[u8], out: &mut [u8]) -> usize
-    ensures { λ r. ⌜ (r, now (out .exit)) ≡ lentNumber (lend refuses (rewriting deliverReporting (read deliverReportAck (now («data» .entry)))) (now (out .entry))) ⌝ }
-{
-    written(tpdu::canonical_deliver_report_ack(data, out))
 }
 
 // The number of octets packed.
@@ -296,14 +307,23 @@ pub extern "C" fn tpdu_digits(
     taken(outcome, 14)
 }
 
-// The number of elements of a header, and their values.
+// The number of elements of a header, and their arrays.
 #[no_mangle]
-pub extern "C" fn tpdu_read_elements(header: &[u8], values: &mut [u8; 253]) -> usize
-    ensures { λ r. ⌜ (let a = elementsRead (now (header .entry)) in (r, now (values .exit)) ≡ readNumber (a .0) (a .1 .count) (a .1 .octets)) ⌝ }
+pub extern "C" fn tpdu_read_elements(
+    header: &[u8],
+    identifiers: &mut [u8; 127],
+    lengths: &mut [u8; 127],
+    values: &mut [u8; 253],
+) -> usize
+    ensures { λ r. ⌜ (r, now (identifiers .exit), now (lengths .exit), now (values .exit)) ≡ elementsNumber (elementsRead (now (header .entry))) ⌝ }
 {
     let read = tpdu::read_header_elements(header);
     let outcome = read.outcome;
     let held = read.elements;
+    let given = held.identifiers;
+    *identifiers = given;
+    let sizes = held.lengths;
+    *lengths = sizes;
     let octets = held.octets;
     *values = octets;
     taken(outcome, held.count)

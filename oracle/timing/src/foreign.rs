@@ -5,10 +5,30 @@ type In = *const u8;
 type Out = *mut u8;
 
 extern "C" {
-    pub fn tpdu_read_deliver(data: In, length: usize, user_data: Out) -> usize;
-    pub fn tpdu_read_submit(data: In, length: usize, text: Out) -> usize;
-    pub fn tpdu_read_status_report(data: In, length: usize, user_data: Out) -> usize;
-    pub fn tpdu_read_submit_report(data: In, length: usize, user_data: Out) -> usize;
+    pub fn tpdu_read_deliver(
+        data: In,
+        length: usize,
+        address: Out,
+        time: Out,
+        user_data: Out,
+    ) -> usize;
+    pub fn tpdu_read_submit(
+        data: In,
+        length: usize,
+        address: Out,
+        user_data: Out,
+        header: Out,
+        text: Out,
+    ) -> usize;
+    pub fn tpdu_read_status_report(
+        data: In,
+        length: usize,
+        address: Out,
+        sent: Out,
+        done: Out,
+        user_data: Out,
+    ) -> usize;
+    pub fn tpdu_read_submit_report(data: In, length: usize, time: Out, user_data: Out) -> usize;
     pub fn tpdu_read_deliver_report(data: In, length: usize, user_data: Out) -> usize;
     pub fn tpdu_write_deliver(
         tp_rp: bool,
@@ -99,14 +119,7 @@ extern "C" {
     ) -> usize;
     pub fn tpdu_pack(text: In, length: usize, out: Out, room: usize) -> usize;
     pub fn tpdu_unpack(data: In, length: usize, septets: usize, text: Out) -> usize;
-    pub fn tpdu_address(
-        ton: u8,
-        npi: u8,
-        text: In,
-        length: usize,
-        out: Out,
-        room: usize,
-    ) -> usize;
+    pub fn tpdu_address(ton: u8, npi: u8, text: In, length: usize, out: Out, room: usize) -> usize;
     pub fn tpdu_read_relay_address(data: In, length: usize, digits: Out) -> usize;
     pub fn tpdu_write_relay_address(
         ton: u8,
@@ -126,13 +139,8 @@ extern "C" {
         zone: i8,
         digits: Out,
     ) -> usize;
-    pub fn tpdu_concatenate(
-        text: In,
-        length: usize,
-        reference: u8,
-        out: Out,
-        room: usize,
-    ) -> usize;
+    pub fn tpdu_concatenate(text: In, length: usize, reference: u8, out: Out, room: usize)
+        -> usize;
     pub fn tpdu_ucs2_to_gsm7(ucs2: In, length: usize, out: Out, room: usize) -> usize;
     pub fn tpdu_gsm7_to_ucs2(
         data: In,
@@ -141,7 +149,13 @@ extern "C" {
         out: Out,
         room: usize,
     ) -> usize;
-    pub fn tpdu_read_elements(header: In, length: usize, values: Out) -> usize;
+    pub fn tpdu_read_elements(
+        header: In,
+        length: usize,
+        identifiers: Out,
+        lengths: Out,
+        values: Out,
+    ) -> usize;
     pub fn tpdu_write_elements(
         count: usize,
         identifiers: In,

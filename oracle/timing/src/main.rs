@@ -66,9 +66,11 @@ fn nanoseconds(time: f64) -> String {
 fn row(work: &str, rust: Side, port: Side, plain: Option<Side>) {
     let mut sides: Vec<Side> = [rust, port].into_iter().chain(plain).collect();
     let times = least(&mut sides);
-    let plain = times.get(2).map_or("".to_string(), |&time| nanoseconds(time));
+    let plain = times
+        .get(2)
+        .map_or(" ".to_string(), |&time| format!(" {} ", nanoseconds(time)));
     println!(
-        "| {work} | {} | {} | {plain} | {:.1} |",
+        "| {work} | {} | {} |{plain}| {:.1} |",
         nanoseconds(times[0]),
         nanoseconds(times[1]),
         times[0] / times[1]
@@ -79,11 +81,10 @@ fn row(work: &str, rust: Side, port: Side, plain: Option<Side>) {
 fn row_without(work: &str, port: Side, plain: Option<Side>) {
     let mut sides: Vec<Side> = [port].into_iter().chain(plain).collect();
     let times = least(&mut sides);
-    let (plain, ratio) = match times.get(1) {
-        Some(&time) => (nanoseconds(time), format!("{:.1}", time / times[0])),
-        None => ("".to_string(), "".to_string()),
-    };
-    println!("| {work} | {} | {plain} | {ratio} |", nanoseconds(times[0]));
+    let plain = times.get(1).map_or(" | ".to_string(), |&time| {
+        format!(" {} | {:.1} ", nanoseconds(time), time / times[0])
+    });
+    println!("| {work} | {} |{plain}|", nanoseconds(times[0]));
 }
 
 /// Octets at the front of an array of zeros.
@@ -93,15 +94,24 @@ fn array<const N: usize>(octets: &[u8]) -> [u8; N] {
     array
 }
 
-type PortRead = unsafe extern "C" fn(*const u8, usize, *mut u8) -> usize;
+/// Where the arrays of a message that the port reads go to. Its user data, as text where the port
+/// gives text, are at the start.
+const ADDRESS_AT: usize = 1024;
+const TIME_AT: usize = 1536;
+const LATER_AT: usize = 1600;
+const RAW_AT: usize = 2048;
+const HEADER_AT: usize = 2560;
 
-/// A message read, and written again; `user_data` is what the port's reader gives beside its number.
+/// Octets that have to be at a place.
+type Held<'a> = (usize, &'a [u8]);
+
+/// A message read, and written again; `held` says what the port's reader has to give.
 fn time_message<R>(
     name: &str,
     data: &[u8],
     read: impl Fn(&[u8]) -> Result<R, Error>,
-    user_data: impl Fn(&R) -> &[u8],
-    port_read: PortRead,
+    held: impl Fn(&R) -> Vec<Held>,
+    port_read: impl Fn(&[u8], *mut u8) -> usize,
     write: impl Fn(&R) -> Result<Vec<u8>, Error>,
     port_write: impl Fn(&R, *mut u8) -> usize,
 ) {
@@ -109,21 +119,72 @@ fn time_message<R>(
     row(
         &format!("read {name}"),
         made(|| read(black_box(data)).unwrap()),
-        into(&mut given, |out| unsafe { port_read(black_box(data.as_ptr()), data.len(), out) }),
+        into(&mut given, |out| port_read(black_box(data), out)),
         None,
     );
     let record = read(data).unwrap();
-    let expected = user_data(&record);
     assert!(given.number < REFUSED, "{name}: the port refuses it");
-    assert_eq!(&given.octets[..expected.len()], expected, "{name}: what is read differs");
+    for (at, octets) in held(&record) {
+        assert_eq!(
+            &given.octets[at..at + octets.len()],
+            octets,
+            "{name}: what is read differs"
+        );
+    }
     row(
         &format!("write {name}"),
         made(|| write(black_box(&record)).unwrap()),
         into(&mut given, |out| port_write(black_box(&record), out)),
         None,
     );
-    assert_eq!(given.counted(), data, "{name}: what the port writes differs");
-    assert_eq!(write(&record).unwrap(), data, "{name}: what the Rust writes differs");
+    assert_eq!(
+        given.counted(),
+        data,
+        "{name}: what the port writes differs"
+    );
+    assert_eq!(
+        write(&record).unwrap(),
+        data,
+        "{name}: what the Rust writes differs"
+    );
+}
+
+fn port_read_deliver(data: &[u8], out: *mut u8) -> usize {
+    unsafe {
+        tpdu_read_deliver(
+            data.as_ptr(),
+            data.len(),
+            out.add(ADDRESS_AT),
+            out.add(TIME_AT),
+            out,
+        )
+    }
+}
+
+fn port_read_submit(data: &[u8], out: *mut u8) -> usize {
+    unsafe {
+        tpdu_read_submit(
+            data.as_ptr(),
+            data.len(),
+            out.add(ADDRESS_AT),
+            out.add(RAW_AT),
+            out.add(HEADER_AT),
+            out,
+        )
+    }
+}
+
+fn port_read_status_report(data: &[u8], out: *mut u8) -> usize {
+    unsafe {
+        tpdu_read_status_report(
+            data.as_ptr(),
+            data.len(),
+            out.add(ADDRESS_AT),
+            out.add(TIME_AT),
+            out.add(LATER_AT),
+            out,
+        )
+    }
 }
 
 fn read_submit(data: &[u8]) -> Result<SmsSubmit, Error> {
@@ -155,7 +216,11 @@ impl Arrays {
 
 fn deliver_arrays(m: &SmsDeliver) -> Box<Arrays> {
     let sent = &m.tp_service_centre_timestamp;
-    Arrays::new(&m.tp_originating_address.address, [sent, ""], &m.tp_user_data)
+    Arrays::new(
+        &m.tp_originating_address.address,
+        [sent, ""],
+        &m.tp_user_data,
+    )
 }
 
 fn write_deliver(m: &SmsDeliver, arrays: &Arrays, out: *mut u8) -> usize {
@@ -282,6 +347,9 @@ const DIGITS: &str = "31624578901";
 const TIME: [u8; 7] = [0x42, 0x20, 0x51, 0x21, 0x03, 0x54, 0x00];
 const LATER: [u8; 7] = [0x42, 0x20, 0x51, 0x22, 0x13, 0x54, 0x00];
 
+/// Text with characters of one, two and three octets, some of them of the extension table.
+const MIXED: &str = "Größe: 4 um, 80 € [Rolle 3]. Perché? Cosi è gia {~} detruit; ¿que? Ñandu Åse Øre Ærø. Zwölf Öfen. ";
+
 /// ASCII text of this length.
 fn words(length: usize) -> String {
     "Damp board at reel 3, call the second lead. ".repeat(12)[..length].to_string()
@@ -293,8 +361,14 @@ fn time_deliver(name: &str, data: &[u8]) {
         name,
         data,
         SmsDeliver::decode,
-        |m| &m.tp_user_data,
-        tpdu_read_deliver,
+        |m| {
+            vec![
+                (0, &m.tp_user_data[..]),
+                (ADDRESS_AT, m.tp_originating_address.address.as_bytes()),
+                (TIME_AT, m.tp_service_centre_timestamp.as_bytes()),
+            ]
+        },
+        port_read_deliver,
         SmsDeliver::encode,
         |m, out| write_deliver(m, &arrays, out),
     );
@@ -313,8 +387,21 @@ fn time_submit(name: &str, data: &[u8]) {
         name,
         data,
         read_submit,
-        |m| &m.tp_user_data,
-        tpdu_read_submit,
+        |m| {
+            vec![
+                (0, &m.tp_user_data[..]),
+                (
+                    ADDRESS_AT,
+                    m.tp_destination_address
+                        .as_ref()
+                        .unwrap()
+                        .address
+                        .as_bytes(),
+                ),
+                (RAW_AT, &m.tp_user_data_raw),
+            ]
+        },
+        port_read_submit,
         SmsSubmit::encode,
         |m, out| write_submit(m, &arrays, out),
     );
@@ -322,14 +409,23 @@ fn time_submit(name: &str, data: &[u8]) {
 
 fn time_status_report(data: &[u8]) {
     let m = SmsStatusReport::decode(data).unwrap();
-    let times = [m.tp_service_centre_timestamp.as_str(), m.tp_discharge_time.as_str()];
+    let times = [
+        m.tp_service_centre_timestamp.as_str(),
+        m.tp_discharge_time.as_str(),
+    ];
     let arrays = Arrays::new(&m.tp_recipient_address.address, times, &m.tp_user_data);
     time_message(
         "STATUS-REPORT",
         data,
         SmsStatusReport::decode,
-        |m| &m.tp_user_data,
-        tpdu_read_status_report,
+        |m| {
+            vec![
+                (ADDRESS_AT, m.tp_recipient_address.address.as_bytes()),
+                (TIME_AT, m.tp_service_centre_timestamp.as_bytes()),
+                (LATER_AT, m.tp_discharge_time.as_bytes()),
+            ]
+        },
+        port_read_status_report,
         SmsStatusReport::encode,
         |m, out| write_status_report(m, &arrays, out),
     );
@@ -343,8 +439,15 @@ fn time_reports(submit_report: &[u8], deliver_report: &[u8]) {
         "SUBMIT-REPORT, 20 septets",
         submit_report,
         SmsSubmitReport::decode_for_rp_ack,
-        |m| &m.tp_user_data,
-        tpdu_read_submit_report,
+        |m| {
+            vec![
+                (0, &m.tp_user_data[..]),
+                (TIME_AT, m.tp_service_centre_timestamp.as_bytes()),
+            ]
+        },
+        |data, out| unsafe {
+            tpdu_read_submit_report(data.as_ptr(), data.len(), out.add(TIME_AT), out)
+        },
         SmsSubmitReport::encode,
         |m, out| write_submit_report(m, &arrays, out),
     );
@@ -354,8 +457,8 @@ fn time_reports(submit_report: &[u8], deliver_report: &[u8]) {
         "DELIVER-REPORT, 20 septets",
         deliver_report,
         SmsDeliverReport::decode_for_rp_ack,
-        |m| &m.tp_user_data,
-        tpdu_read_deliver_report,
+        |m| vec![(0, &m.tp_user_data[..])],
+        |data, out| unsafe { tpdu_read_deliver_report(data.as_ptr(), data.len(), out) },
         SmsDeliverReport::encode,
         |m, out| write_deliver_report(m, &arrays, out),
     );
@@ -367,7 +470,13 @@ fn time_messages() {
     let (with_header, septets) = pack_gsm7_with_header(&header, &words(153)).unwrap();
     let (short, _) = pack_gsm7(&words(20)).unwrap();
     let submit = |first: u8, dcs: u8, udl: u8, user_data: &[u8]| {
-        [&[first, 7], &ADDRESS[..], &[0x00, dcs, 0xaa, udl], user_data].concat()
+        [
+            &[first, 7],
+            &ADDRESS[..],
+            &[0x00, dcs, 0xaa, udl],
+            user_data,
+        ]
+        .concat()
     };
     time_deliver("DELIVER, 140 octets", &deliver(0x04, 0x04, 140, &packed));
     time_submit("SUBMIT, 160 septets", &submit(0x31, 0x00, 160, &packed));
@@ -375,7 +484,15 @@ fn time_messages() {
         "SUBMIT, header and text",
         &submit(0x71, 0x00, septets as u8, &with_header),
     );
-    time_submit("SUBMIT, 140 octets of 8-bit data", &submit(0x31, 0x04, 140, &packed));
+    let (mixed, septets) = pack_gsm7(MIXED).unwrap();
+    time_submit(
+        "SUBMIT, mixed text",
+        &submit(0x31, 0x00, septets as u8, &mixed),
+    );
+    time_submit(
+        "SUBMIT, 140 octets of 8-bit data",
+        &submit(0x31, 0x04, 140, &packed),
+    );
     time_submit("SUBMIT, UDL 0", &submit(0x31, 0x00, 0, &[]));
     time_status_report(&[&[0x06, 7], &ADDRESS[..], &TIME, &LATER, &[0x00]].concat());
     time_reports(
@@ -385,29 +502,38 @@ fn time_messages() {
 }
 
 fn deliver(first: u8, dcs: u8, udl: u8, user_data: &[u8]) -> Vec<u8> {
-    [&[first], &ADDRESS[..], &[0x00, dcs], &TIME, &[udl], user_data].concat()
+    [
+        &[first],
+        &ADDRESS[..],
+        &[0x00, dcs],
+        &TIME,
+        &[udl],
+        user_data,
+    ]
+    .concat()
+}
+
+fn refused(work: &str, rust: Side, port: impl Fn(*mut u8) -> usize) {
+    let mut given = Given::new();
+    row(work, rust, into(&mut given, port), None);
+    assert!(REFUSED < given.number, "{work}: the port doesn't refuse it");
 }
 
 /// What both sides refuse.
 fn time_refusals() {
     let (packed, _) = pack_gsm7(&words(160)).unwrap();
     let whole = deliver(0x04, 0x04, 140, &packed);
-    let refused = |work: &str, rust: Side, port: &dyn Fn(*mut u8) -> usize| {
-        let mut given = Given::new();
-        row(work, rust, into(&mut given, port), None);
-        assert!(REFUSED < given.number, "{work}: the port doesn't refuse it");
-    };
     let cut = &whole[..whole.len() - 1];
     refused(
         "refuse a DELIVER, its last octet missing",
         made(|| SmsDeliver::decode(black_box(cut)).unwrap_err()),
-        &|out| unsafe { tpdu_read_deliver(black_box(cut.as_ptr()), cut.len(), out) },
+        |out| port_read_deliver(black_box(cut), out),
     );
     let other = &whole[..];
     refused(
         "refuse a DELIVER that is read as a SUBMIT",
         made(|| read_submit(black_box(other)).unwrap_err()),
-        &|out| unsafe { tpdu_read_submit(black_box(other.as_ptr()), other.len(), out) },
+        |out| port_read_submit(black_box(other), out),
     );
     let mut m = SmsDeliver::decode(other).unwrap();
     m.tp_originating_address.address = "3162457890x".to_string();
@@ -415,13 +541,13 @@ fn time_refusals() {
     refused(
         "refuse to write a DELIVER, a letter among its digits",
         made(|| black_box(&m).encode().unwrap_err()),
-        &|out| write_deliver(black_box(&m), &arrays, out),
+        |out| write_deliver(black_box(&m), &arrays, out),
     );
     let text = &(words(159) + "ê");
     refused(
         "refuse to pack 160 characters, the last in no table",
         made(|| pack_gsm7(black_box(text)).unwrap_err()),
-        &|out| unsafe { tpdu_pack(black_box(text.as_ptr()), text.len(), out, 255) },
+        |out| unsafe { tpdu_pack(black_box(text.as_ptr()), text.len(), out, 255) },
     );
 }
 
@@ -431,12 +557,18 @@ fn time_text(name: &str, text: &str) {
     row(
         &format!("pack {name}"),
         made(|| pack_gsm7(black_box(text)).unwrap()),
-        into(&mut port, |out| unsafe { tpdu_pack(black_box(text.as_ptr()), text.len(), out, 255) }),
+        into(&mut port, |out| unsafe {
+            tpdu_pack(black_box(text.as_ptr()), text.len(), out, 255)
+        }),
         Some(into(&mut plain, |out| unsafe {
             plain_pack(black_box(text.as_ptr()), text.len(), out)
         })),
     );
-    assert_eq!(port.counted(), packed, "{name}: what the port packs differs");
+    assert_eq!(
+        port.counted(),
+        packed,
+        "{name}: what the port packs differs"
+    );
     assert_eq!(plain.counted(), packed, "{name}: what the C packs differs");
     row(
         &format!("unpack {name}"),
@@ -448,8 +580,16 @@ fn time_text(name: &str, text: &str) {
             plain_unpack(black_box(packed.as_ptr()), septets, out)
         })),
     );
-    assert_eq!(port.counted(), text.as_bytes(), "{name}: what the port unpacks differs");
-    assert_eq!(plain.counted(), text.as_bytes(), "{name}: what the C unpacks differs");
+    assert_eq!(
+        port.counted(),
+        text.as_bytes(),
+        "{name}: what the port unpacks differs"
+    );
+    assert_eq!(
+        plain.counted(),
+        text.as_bytes(),
+        "{name}: what the C unpacks differs"
+    );
 }
 
 fn time_address(name: &str, ton: u8, npi: u8, text: &str, with_plain: bool) {
@@ -473,8 +613,15 @@ fn time_address(name: &str, ton: u8, npi: u8, text: &str, with_plain: bool) {
         }),
     );
     let expected = address.encode(false).unwrap();
-    assert_eq!(port.counted(), expected, "{name}: what the port writes differs");
-    assert!(!with_plain || plain.counted() == expected, "{name}: what the C writes differs");
+    assert_eq!(
+        port.counted(),
+        expected,
+        "{name}: what the port writes differs"
+    );
+    assert!(
+        !with_plain || plain.counted() == expected,
+        "{name}: what the C writes differs"
+    );
 }
 
 fn time_relay_writing() {
@@ -496,8 +643,16 @@ fn time_relay_writing() {
         })),
     );
     let expected = address.encode(true).unwrap();
-    assert_eq!(port.counted(), expected, "relay address: what the port writes differs");
-    assert_eq!(plain.counted(), expected, "relay address: what the C writes differs");
+    assert_eq!(
+        port.counted(),
+        expected,
+        "relay address: what the port writes differs"
+    );
+    assert_eq!(
+        plain.counted(),
+        expected,
+        "relay address: what the C writes differs"
+    );
 }
 
 fn time_digits() {
@@ -520,8 +675,16 @@ fn time_digits() {
             plain_digits(year, month, day, hour, minute, second, zone, out)
         })),
     );
-    assert_eq!(port.counted(), rust().as_bytes(), "the port's digits differ");
-    assert_eq!(plain.counted(), rust().as_bytes(), "the digits of the C differ");
+    assert_eq!(
+        port.counted(),
+        rust().as_bytes(),
+        "the port's digits differ"
+    );
+    assert_eq!(
+        plain.counted(),
+        rust().as_bytes(),
+        "the digits of the C differ"
+    );
 }
 
 /// A text of three parts, beside each part's text packed by itself.
@@ -543,14 +706,23 @@ fn time_parts() {
         into(&mut port, |out| {
             (0..3)
                 .map(|part| unsafe {
-                    tpdu_pack(black_box(text[part * 153..].as_ptr()), 153, out.add(part * 134), 134)
+                    tpdu_pack(
+                        black_box(text[part * 153..].as_ptr()),
+                        153,
+                        out.add(part * 134),
+                        134,
+                    )
                 })
                 .sum()
         }),
         Some(into(&mut plain, |out| {
             (0..3)
                 .map(|part| unsafe {
-                    plain_pack(black_box(text[part * 153..].as_ptr()), 153, out.add(part * 134))
+                    plain_pack(
+                        black_box(text[part * 153..].as_ptr()),
+                        153,
+                        out.add(part * 134),
+                    )
                 })
                 .sum()
         })),
@@ -572,7 +744,11 @@ fn time_ucs2(name: &str, text: &str) {
         })),
     );
     assert_eq!(port.counted(), packed, "{name}: the port's septets differ");
-    assert_eq!(plain.counted(), packed, "{name}: the septets of the C differ");
+    assert_eq!(
+        plain.counted(),
+        packed,
+        "{name}: the septets of the C differ"
+    );
     row_without(
         &format!("{name} to UCS2"),
         into(&mut port, |out| unsafe {
@@ -589,7 +765,12 @@ fn time_ucs2(name: &str, text: &str) {
 /// A header of these elements, by rising identifier, read and written.
 fn time_elements(name: &str, elements: &[(u8, &[u8])]) {
     let identifiers: [u8; 127] = array(&elements.iter().map(|e| e.0).collect::<Vec<u8>>());
-    let lengths: [u8; 127] = array(&elements.iter().map(|e| e.1.len() as u8).collect::<Vec<u8>>());
+    let lengths: [u8; 127] = array(
+        &elements
+            .iter()
+            .map(|e| e.1.len() as u8)
+            .collect::<Vec<u8>>(),
+    );
     let all: Vec<u8> = elements.iter().flat_map(|e| e.1).copied().collect();
     let values: [u8; 253] = array(&all);
     let mut header = vec![(2 * elements.len() + all.len()) as u8];
@@ -601,15 +782,40 @@ fn time_elements(name: &str, elements: &[(u8, &[u8])]) {
     row_without(
         &format!("read a header of {name}"),
         into(&mut port, |out| unsafe {
-            tpdu_read_elements(black_box(header.as_ptr()), header.len(), out)
+            tpdu_read_elements(
+                black_box(header.as_ptr()),
+                header.len(),
+                out,
+                out.add(127),
+                out.add(254),
+            )
         }),
         Some(into(&mut plain, |out| unsafe {
             plain_read_elements(black_box(header.as_ptr()), out, out.add(127), out.add(254))
         })),
     );
-    assert_eq!((port.number, plain.number), (elements.len(), elements.len()), "{name}: the count");
-    assert_eq!(port.octets[..all.len()], all, "{name}: the port's values differ");
-    assert_eq!(plain.octets[254..254 + all.len()], all, "{name}: the values of the C differ");
+    assert_eq!(
+        (port.number, plain.number),
+        (elements.len(), elements.len()),
+        "{name}: the count"
+    );
+    for given in [&port, &plain] {
+        assert_eq!(
+            given.octets[..elements.len()],
+            identifiers[..elements.len()],
+            "{name}"
+        );
+        assert_eq!(
+            given.octets[127..][..elements.len()],
+            lengths[..elements.len()],
+            "{name}"
+        );
+        assert_eq!(
+            given.octets[254..][..all.len()],
+            all,
+            "{name}: the values differ"
+        );
+    }
     row_without(
         &format!("write a header of {name}"),
         into(&mut port, |out| unsafe {
@@ -633,7 +839,11 @@ fn time_elements(name: &str, elements: &[(u8, &[u8])]) {
         })),
     );
     assert_eq!(port.counted(), header, "{name}: the port's header differs");
-    assert_eq!(plain.counted(), header, "{name}: the header of the C differs");
+    assert_eq!(
+        plain.counted(),
+        header,
+        "{name}: the header of the C differs"
+    );
 }
 
 fn time_relay_reading() {
@@ -649,8 +859,16 @@ fn time_relay_reading() {
         })),
     );
     assert_eq!(port.number, data.len(), "relay address: the octets read");
-    assert_eq!(&port.octets[..11], DIGITS.as_bytes(), "the port's digits differ");
-    assert_eq!(plain.counted(), DIGITS.as_bytes(), "the digits of the C differ");
+    assert_eq!(
+        &port.octets[..11],
+        DIGITS.as_bytes(),
+        "the port's digits differ"
+    );
+    assert_eq!(
+        plain.counted(),
+        DIGITS.as_bytes(),
+        "the digits of the C differ"
+    );
 }
 
 /// A part accepted and its message taken, while 16 messages are open, beside the part's DELIVER
@@ -677,12 +895,14 @@ fn time_reassembly() {
     let mut given = Given::new();
     row_without(
         "read the DELIVER of a part",
-        into(&mut given, |out| unsafe {
-            tpdu_read_deliver(black_box(second.as_ptr()), second.len(), out)
-        }),
+        into(&mut given, |out| port_read_deliver(black_box(second), out)),
         None,
     );
-    assert_eq!(given.counted(), &second[second.len() - 140..], "the part's user data differ");
+    assert_eq!(
+        given.counted(),
+        &second[second.len() - 140..],
+        "the part's user data differ"
+    );
     let accept = |store: &mut Vec<u8>| unsafe {
         tpdu_accept_part(
             black_box(store.as_mut_ptr()),
@@ -702,7 +922,11 @@ fn time_reassembly() {
     );
     assert_eq!(missing, 0, "nothing is missing");
     let before = store.clone();
-    row_without("accept a copy of it", side(|| missing = accept(&mut store)), None);
+    row_without(
+        "accept a copy of it",
+        side(|| missing = accept(&mut store)),
+        None,
+    );
     assert_eq!((missing, &store), (0, &before), "a copy changes nothing");
     let address: [u8; 290] = array(DIGITS.as_bytes());
     let reopened = |store: &mut Vec<u8>, out: *mut u8| unsafe {
@@ -726,7 +950,11 @@ fn time_reassembly() {
         side(|| number = reopened(&mut store, black_box(given.octets.as_mut_ptr()))),
         None,
     );
-    assert_eq!(&given.octets[..number], text.repeat(2).as_bytes(), "the message's text differs");
+    assert_eq!(
+        &given.octets[..number],
+        text.repeat(2).as_bytes(),
+        "the message's text differs"
+    );
     assert_eq!(store[15 * SLOT], 0, "the slot is closed");
 }
 
@@ -761,7 +989,10 @@ fn time_columns(name: &str, lengths: &[usize]) {
             );
         })),
     );
-    assert!(size <= room && block == others, "{name}: the two blocks differ");
+    assert!(
+        size <= room && block == others,
+        "{name}: the two blocks differ"
+    );
     let (mut back, mut list) = (vec![0u8; total], vec![0usize; count]);
     let (mut plain_back, mut plain_list) = (back.clone(), list.clone());
     row_without(
@@ -784,8 +1015,14 @@ fn time_columns(name: &str, lengths: &[usize]) {
             );
         })),
     );
-    assert!(back == octets && list == lengths, "{name}: what the port gives back differs");
-    assert!(plain_back == octets && plain_list == lengths, "{name}: what the C gives back differs");
+    assert!(
+        back == octets && list == lengths,
+        "{name}: what the port gives back differs"
+    );
+    assert!(
+        plain_back == octets && plain_list == lengths,
+        "{name}: what the C gives back differs"
+    );
 }
 
 fn main() {
@@ -794,9 +1031,8 @@ fn main() {
     println!("|---|---|---|---|---|");
     time_messages();
     time_refusals();
-    let mixed = "Größe: 4 um, 80 € [Rolle 3]. Perché? Cosi è gia {~} detruit; ¿que? Ñandu Åse Øre Ærø. Zwölf Öfen. ";
     time_text("160 septets", &words(160));
-    time_text("mixed text", mixed);
+    time_text("mixed text", MIXED);
     time_text("80 extension characters", &"^{}\\[~]|".repeat(10));
     time_address("11 digits", 1, 1, DIGITS, true);
     time_address("type 5", 5, 0, "Wiglanth", false);
@@ -807,8 +1043,11 @@ fn main() {
     println!("|---|---|---|---|");
     time_parts();
     time_ucs2("160 septets", &words(160));
-    time_ucs2("septets of mixed text", mixed);
-    time_elements("2 elements", &[(0x05, &[0x15, 0x81, 0x15, 0x82]), (0x08, &[1, 2, 3, 1])]);
+    time_ucs2("septets of mixed text", MIXED);
+    time_elements(
+        "2 elements",
+        &[(0x05, &[0x15, 0x81, 0x15, 0x82]), (0x08, &[1, 2, 3, 1])],
+    );
     let many: Vec<(u8, &[u8])> = (0..127).map(|i| (2 * i, &[][..])).collect();
     time_elements("127 elements", &many);
     time_relay_reading();
