@@ -128,10 +128,15 @@ static inline uint32_t next_character(struct septets *s, size_t *left)
     return escaped[next_septet(s)];
 }
 
-size_t plain_unpack(const uint8_t *data, size_t count, uint8_t *text)
+/* Septets after fill bits, as text. */
+static inline size_t unpack_after(const uint8_t *data, unsigned fill, size_t count, uint8_t *text)
 {
     struct septets s = {data, 0, 0};
     uint8_t *to = text;
+    if (fill > 0) {
+        s.held = *s.data++ >> fill;
+        s.count = 8 - fill;
+    }
     while (count > 0) {
         uint32_t c = next_character(&s, &count);
         if (c < 0x80) {
@@ -146,6 +151,11 @@ size_t plain_unpack(const uint8_t *data, size_t count, uint8_t *text)
         }
     }
     return to - text;
+}
+
+size_t plain_unpack(const uint8_t *data, size_t count, uint8_t *text)
+{
+    return unpack_after(data, 0, count, text);
 }
 
 size_t plain_ucs2_to_gsm7(const uint8_t *ucs2, size_t length, uint8_t *out)
@@ -216,6 +226,170 @@ size_t plain_digits(uint8_t year, uint8_t month, uint8_t day, uint8_t hour, uint
     if (zone < 0)
         digits[12] += digits[12] < '2' ? 8 : 15;
     return 14;
+}
+
+/* ---- messages */
+
+struct message {
+    uint8_t first, reference, ton, npi, pid, dcs, period, udl, status, indicator;
+    size_t address_length, length, header_length, text_length;
+    uint8_t address[290], time[14], later[14], user_data[255], header[255], text[510];
+};
+
+static const uint8_t *read_digits(const uint8_t *data, size_t count, uint8_t *digits)
+{
+    static const uint8_t characters[16] = "0123456789ABCDEF";
+    for (size_t i = 0; i < count; i += 2) {
+        digits[i] = characters[*data % 16];
+        if (i + 1 < count)
+            digits[i + 1] = characters[*data / 16];
+        data++;
+    }
+    return data;
+}
+
+static const uint8_t *read_address(const uint8_t *data, struct message *m)
+{
+    m->address_length = data[0];
+    m->ton = data[1] / 16 % 8;
+    m->npi = data[1] % 16;
+    return read_digits(data + 2, data[0], m->address);
+}
+
+/* From TP-UDL on. */
+static void read_user_data(const uint8_t *data, struct message *m)
+{
+    m->udl = *data++;
+    m->length = m->dcs / 4 % 4 == 0 ? (m->udl * 7 + 7) / 8 : m->udl;
+    memcpy(m->user_data, data, m->length);
+}
+
+void plain_read_deliver(const uint8_t *data, struct message *m)
+{
+    m->first = data[0];
+    data = read_address(data + 1, m);
+    m->pid = data[0];
+    m->dcs = data[1];
+    read_user_data(read_digits(data + 2, 14, m->time), m);
+}
+
+/* The text has the header before it. */
+void plain_read_submit(const uint8_t *data, struct message *m)
+{
+    m->first = data[0];
+    m->reference = data[1];
+    data = read_address(data + 2, m);
+    m->pid = data[0];
+    m->dcs = data[1];
+    m->period = data[2];
+    read_user_data(data + 3, m);
+    size_t n = m->first & 64 ? 1 + m->user_data[0] : 0;
+    m->header_length = n;
+    memcpy(m->header, m->user_data, n);
+    if (m->dcs / 4 % 4 == 0) {
+        size_t front = (n * 8 + 6) / 7;
+        memcpy(m->text, m->user_data, n);
+        m->text_length = n + unpack_after(m->user_data + n, front * 7 - n * 8, m->udl - front, m->text + n);
+    } else {
+        m->text_length = m->length;
+        memcpy(m->text, m->user_data, m->length);
+    }
+}
+
+void plain_read_status_report(const uint8_t *data, struct message *m)
+{
+    m->first = data[0];
+    m->reference = data[1];
+    data = read_address(data + 2, m);
+    data = read_digits(data, 14, m->time);
+    m->status = *read_digits(data, 14, m->later);
+}
+
+void plain_read_submit_report(const uint8_t *data, struct message *m)
+{
+    m->first = data[0];
+    m->indicator = data[1];
+    data = read_digits(data + 2, 14, m->time);
+    m->pid = data[0];
+    m->dcs = data[1];
+    read_user_data(data + 2, m);
+}
+
+void plain_read_deliver_report(const uint8_t *data, struct message *m)
+{
+    m->first = data[0];
+    m->indicator = data[1];
+    m->pid = data[2];
+    m->dcs = data[3];
+    read_user_data(data + 4, m);
+}
+
+static uint8_t *write_address(const struct message *m, uint8_t *out)
+{
+    return out + plain_address(m->ton, m->npi, m->address, m->address_length, out);
+}
+
+static uint8_t *write_user_data(const struct message *m, uint8_t *out)
+{
+    *out++ = m->udl;
+    memcpy(out, m->user_data, m->length);
+    return out + m->length;
+}
+
+size_t plain_write_deliver(const struct message *m, uint8_t *out)
+{
+    uint8_t *to = out;
+    *to++ = m->first;
+    to = write_address(m, to);
+    *to++ = m->pid;
+    *to++ = m->dcs;
+    to += put_digits(m->time, 14, to);
+    return write_user_data(m, to) - out;
+}
+
+size_t plain_write_submit(const struct message *m, uint8_t *out)
+{
+    uint8_t *to = out;
+    *to++ = m->first;
+    *to++ = m->reference;
+    to = write_address(m, to);
+    *to++ = m->pid;
+    *to++ = m->dcs;
+    *to++ = m->period;
+    return write_user_data(m, to) - out;
+}
+
+size_t plain_write_status_report(const struct message *m, uint8_t *out)
+{
+    uint8_t *to = out;
+    *to++ = m->first;
+    *to++ = m->reference;
+    to = write_address(m, to);
+    to += put_digits(m->time, 14, to);
+    to += put_digits(m->later, 14, to);
+    *to++ = m->status;
+    return to - out;
+}
+
+size_t plain_write_submit_report(const struct message *m, uint8_t *out)
+{
+    uint8_t *to = out;
+    *to++ = m->first;
+    *to++ = m->indicator;
+    to += put_digits(m->time, 14, to);
+    *to++ = m->pid;
+    *to++ = m->dcs;
+    return write_user_data(m, to) - out;
+}
+
+size_t plain_write_deliver_report(const struct message *m, uint8_t *out)
+{
+    uint8_t *to = out;
+    *to++ = m->first;
+    *to++ = m->indicator;
+    *to++ = m->pid;
+    *to++ = m->dcs;
+    return write_user_data(m, to) - out;
 }
 
 /* ---- elements of a header */

@@ -4,6 +4,41 @@
 type In = *const u8;
 type Out = *mut u8;
 
+/// A message as the plain C has it.
+#[repr(C)]
+pub struct Message {
+    pub octets: [u8; 10],
+    pub address_length: usize,
+    pub length: usize,
+    pub header_length: usize,
+    pub text_length: usize,
+    pub address: [u8; 290],
+    pub time: [u8; 14],
+    pub later: [u8; 14],
+    pub user_data: [u8; 255],
+    pub header: [u8; 255],
+    pub text: [u8; 510],
+}
+
+impl Message {
+    /// One of the arrays holds just these octets.
+    pub fn holds(&self, octets: &[u8]) -> bool {
+        let data = [
+            &self.user_data[..self.length],
+            &self.text[..self.text_length],
+        ];
+        let digits = [
+            &self.address[..self.address_length],
+            &self.time,
+            &self.later,
+        ];
+        data.into_iter().chain(digits).any(|held| held == octets)
+    }
+}
+
+pub type PlainRead = unsafe extern "C" fn(In, *mut Message);
+pub type PlainWrite = unsafe extern "C" fn(*const Message, Out) -> usize;
+
 extern "C" {
     pub fn tpdu_read_deliver(
         data: In,
@@ -196,6 +231,16 @@ extern "C" {
     ) -> usize;
 
     pub fn plain_tables();
+    pub fn plain_read_deliver(data: In, message: *mut Message);
+    pub fn plain_write_deliver(message: *const Message, out: Out) -> usize;
+    pub fn plain_read_submit(data: In, message: *mut Message);
+    pub fn plain_write_submit(message: *const Message, out: Out) -> usize;
+    pub fn plain_read_status_report(data: In, message: *mut Message);
+    pub fn plain_write_status_report(message: *const Message, out: Out) -> usize;
+    pub fn plain_read_submit_report(data: In, message: *mut Message);
+    pub fn plain_write_submit_report(message: *const Message, out: Out) -> usize;
+    pub fn plain_read_deliver_report(data: In, message: *mut Message);
+    pub fn plain_write_deliver_report(message: *const Message, out: Out) -> usize;
     pub fn plain_pack(text: In, length: usize, out: Out) -> usize;
     pub fn plain_unpack(data: In, septets: usize, text: Out) -> usize;
     pub fn plain_address(ton: u8, npi: u8, text: In, length: usize, out: Out) -> usize;

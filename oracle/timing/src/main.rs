@@ -114,13 +114,18 @@ fn time_message<R>(
     port_read: impl Fn(&[u8], *mut u8) -> usize,
     write: impl Fn(&R) -> Result<Vec<u8>, Error>,
     port_write: impl Fn(&R, *mut u8) -> usize,
+    (plain_read, plain_write): (PlainRead, PlainWrite),
 ) {
     let mut given = Given::new();
+    let mut plain = Given::new();
+    let mut message: Box<Message> = Box::new(unsafe { std::mem::zeroed() });
     row(
         &format!("read {name}"),
         made(|| read(black_box(data)).unwrap()),
         into(&mut given, |out| port_read(black_box(data), out)),
-        None,
+        Some(side(|| unsafe {
+            plain_read(black_box(data.as_ptr()), black_box(&mut *message))
+        })),
     );
     let record = read(data).unwrap();
     assert!(given.number < REFUSED, "{name}: the port refuses it");
@@ -130,12 +135,15 @@ fn time_message<R>(
             octets,
             "{name}: what is read differs"
         );
+        assert!(message.holds(octets), "{name}: what the C reads differs");
     }
     row(
         &format!("write {name}"),
         made(|| write(black_box(&record)).unwrap()),
         into(&mut given, |out| port_write(black_box(&record), out)),
-        None,
+        Some(into(&mut plain, |out| unsafe {
+            plain_write(black_box(&*message), out)
+        })),
     );
     assert_eq!(
         given.counted(),
@@ -371,6 +379,7 @@ fn time_deliver(name: &str, data: &[u8]) {
         port_read_deliver,
         SmsDeliver::encode,
         |m, out| write_deliver(m, &arrays, out),
+        (plain_read_deliver, plain_write_deliver),
     );
 }
 
@@ -404,6 +413,7 @@ fn time_submit(name: &str, data: &[u8]) {
         port_read_submit,
         SmsSubmit::encode,
         |m, out| write_submit(m, &arrays, out),
+        (plain_read_submit, plain_write_submit),
     );
 }
 
@@ -428,6 +438,7 @@ fn time_status_report(data: &[u8]) {
         port_read_status_report,
         SmsStatusReport::encode,
         |m, out| write_status_report(m, &arrays, out),
+        (plain_read_status_report, plain_write_status_report),
     );
 }
 
@@ -450,6 +461,7 @@ fn time_reports(submit_report: &[u8], deliver_report: &[u8]) {
         },
         SmsSubmitReport::encode,
         |m, out| write_submit_report(m, &arrays, out),
+        (plain_read_submit_report, plain_write_submit_report),
     );
     let m = SmsDeliverReport::decode_for_rp_ack(deliver_report).unwrap();
     let arrays = Arrays::new("", ["", ""], &m.tp_user_data);
@@ -461,6 +473,7 @@ fn time_reports(submit_report: &[u8], deliver_report: &[u8]) {
         |data, out| unsafe { tpdu_read_deliver_report(data.as_ptr(), data.len(), out) },
         SmsDeliverReport::encode,
         |m, out| write_deliver_report(m, &arrays, out),
+        (plain_read_deliver_report, plain_write_deliver_report),
     );
 }
 
