@@ -1,6 +1,7 @@
 //! The least time of a call. Each side of a row is called in short runs, and the sides take turns,
 //! so that what else the machine does falls on all of them alike; what counts is each side's best
 //! run. A run is a number of calls that takes some microseconds, or one call that takes longer.
+//! Every call of a side has the same input, so that memory is at hand and branches are foreseen.
 //! From turn to turn the runs stand at another depth of the stack, since some work is slower where
 //! the low bits of two addresses happen to agree.
 
