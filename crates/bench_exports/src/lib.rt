@@ -1,6 +1,6 @@
 // Functions over slices for a driver in another language, which times them beside the Rust (oracle/bench). Each answers
-// a number that depends on its result: a count, or 256 and the refusal's number. What is read goes to a lent array, so
-// that the compiler can't leave any of it out.
+// a number that depends on its result: a count, or 256 and the refusal's number. The arrays of what is read go to lent
+// ones, so that the compiler can't leave them out.
 ghost use mathlib.Core.Path.{_≡_};
 ghost use mathlib.Core.Bool.{true};
 ghost use mathlib.Core.List.{[]};
