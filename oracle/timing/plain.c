@@ -407,28 +407,22 @@ size_t plain_read_elements(const uint8_t *header, uint8_t *identifiers, uint8_t 
     return count;
 }
 
-/* By rising identifier: for each identifier over all elements. */
+/* In the order given, which is that of rising identifiers. */
 size_t plain_write_elements(size_t count, const uint8_t *identifiers, const uint8_t *lengths, const uint8_t *values,
                             uint8_t *out)
 {
     size_t to = 1;
-    for (size_t identifier = 0; identifier < 256; identifier++) {
-        const uint8_t *value = values;
-        for (size_t i = 0; i < count; i++) {
-            if (identifiers[i] == identifier) {
-                out[to++] = identifier;
-                out[to++] = lengths[i];
-                memcpy(out + to, value, lengths[i]);
-                to += lengths[i];
-            }
-            value += lengths[i];
-        }
+    for (size_t i = 0; i < count; i++) {
+        out[to++] = identifiers[i];
+        out[to++] = lengths[i];
+        for (size_t k = 0; k < lengths[i]; k++)
+            out[to++] = *values++;
     }
     out[0] = to - 1;
     return to;
 }
 
-/* ---- log blocks by column: column after column over all strings */
+/* ---- log blocks by column: string after string, each octet to or from the place where its column goes on */
 
 static size_t put_number(uint8_t *out, size_t at, size_t n)
 {
@@ -450,37 +444,42 @@ static size_t number_at(const uint8_t *block, size_t *at)
     return n + block[(*at)++] * weight;
 }
 
+/* Where each column starts; the last is the block's end. */
+static void find_columns(const size_t *lengths, size_t count, size_t from, size_t place[256])
+{
+    size_t ending[256] = {0}, left = count;
+    for (size_t i = 0; i < count; i++)
+        ending[lengths[i]]++;
+    for (size_t k = 0; k < 256; k++) {
+        place[k] = from;
+        left -= ending[k];
+        from += left;
+    }
+}
+
 size_t plain_to_columns(const uint8_t *octets, const size_t *lengths, size_t count, uint8_t *out)
 {
-    size_t to = put_number(out, 0, count);
+    size_t place[256], to = put_number(out, 0, count);
     for (size_t i = 0; i < count; i++)
         to = put_number(out, to, lengths[i]);
-    for (size_t k = 0; k < 255; k++) {
-        size_t start = 0;
-        for (size_t i = 0; i < count; i++) {
-            if (k < lengths[i])
-                out[to++] = octets[start + k];
-            start += lengths[i];
-        }
-    }
+    find_columns(lengths, count, to, place);
+    to = place[255];
+    for (size_t i = 0; i < count; i++)
+        for (size_t k = 0; k < lengths[i]; k++)
+            out[place[k]++] = *octets++;
     return to;
 }
 
 size_t plain_from_columns(const uint8_t *block, uint8_t *octets, size_t *lengths)
 {
-    size_t from = 0, total = 0;
+    size_t place[256], from = 0;
+    const uint8_t *start = octets;
     size_t count = number_at(block, &from);
-    for (size_t i = 0; i < count; i++) {
+    for (size_t i = 0; i < count; i++)
         lengths[i] = number_at(block, &from);
-        total += lengths[i];
-    }
-    for (size_t k = 0; k < 255; k++) {
-        size_t start = 0;
-        for (size_t i = 0; i < count; i++) {
-            if (k < lengths[i])
-                octets[start + k] = block[from++];
-            start += lengths[i];
-        }
-    }
-    return total;
+    find_columns(lengths, count, from, place);
+    for (size_t i = 0; i < count; i++)
+        for (size_t k = 0; k < lengths[i]; k++)
+            *octets++ = block[place[k]++];
+    return octets - start;
 }

@@ -82,7 +82,7 @@ fn row_without(work: &str, port: Side, plain: Option<Side>) {
     let mut sides: Vec<Side> = [port].into_iter().chain(plain).collect();
     let times = least(&mut sides);
     let plain = times.get(1).map_or(" | ".to_string(), |&time| {
-        format!(" {} | {:.1} ", nanoseconds(time), time / times[0])
+        format!(" {} | {:.2} ", nanoseconds(time), time / times[0])
     });
     println!("| {work} | {} |{plain}|", nanoseconds(times[0]));
 }
