@@ -1,7 +1,7 @@
 -- SMS-DELIVER-REPORT (TS 23.040 §9.2.2.1a): its two layouts, what its writers make of a record, and what is no part of one.
 use Prim.Native.Nat.{ℕ}
 use mathlib.Core.Path.{_≡_, refl}
-use mathlib.Core.Bool.{Bool, true, false}
+use mathlib.Core.Bool.{true, false}
 use mathlib.Core.List.{List, [], _∷_}
 use Rattle.octets.specs.Answers.{Said, outcomeSays, refuses, fine}
 use Rattle.octets.specs.Checks.{_unless_, found, checked, allFit}
@@ -13,7 +13,6 @@ use Rattle.layout.specs.Layout.{indicatorSize, kept, Layout, records, stops, re
 use Rattle.parameters.specs.Checking.{dataWithin}
 use Rattle.parameters.specs.Layout.{parameters}
 use Rattle.parameters.specs.Outcome.{outcomeAgrees}
-use Rattle.parameters.specs.Parameters.{noParameters}
 use Rattle.parameters.specs.declared.OptionalOctet.{OptionalOctet}
 use Rattle.parameters.specs.declared.OptionalOctet.the-variants.{Absent, Present}
 use Rattle.parameters.specs.declared.RpOutcome.{RpOutcome}

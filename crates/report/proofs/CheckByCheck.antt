@@ -19,7 +19,7 @@ use Rattle.parameters.specs.Optional.{held}
 use Rattle.parameters.specs.Parameters.{Parameters}
 use Rattle.parameters.specs.declared.OptionalOctet.{OptionalOctet}
 use Rattle.parameters.proofs.Laws.{one-at-most}
-use Rattle.report.specs.Report.{timeSize, octetsOf, checksWithin}
+use Rattle.report.specs.Report.{timeSize, octetsOf}
 use Rattle.report.specs.Internal.{timeIf, timeHolds, fieldsWith, making}
 
 pub timed-size : (hasTime : Bool) (digits : List ℕ) → timeHolds hasTime digits ≡ true → length (timeIf hasTime digits) ≡ timeSize hasTime

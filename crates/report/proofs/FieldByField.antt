@@ -7,7 +7,7 @@ use mathlib.Core.List.{List, [], _∷_}
 use native.Mathlib.Omega.{arith}
 use lib.Bits.{bitAnd}
 use lib.Dec.{eqb}
-use lib.ListN.{length, take, drop}
+use lib.ListN.{length}
 use Rattle.octets.specs.Answers.{Said, gives, refuses, outcomeSays}
 use Rattle.octets.specs.Each.{Octets}
 use Rattle.octets.specs.Places.{octetAt, spanAt}
@@ -17,7 +17,7 @@ use Rattle.octets.specs.declared.Refusal.{Refusal}
 use Rattle.octets.specs.declared.Refusal.the-variants.{OctetsEnd, WrongMessageType}
 use Rattle.octets.proofs.Places.{start, span-there, span-inside}
 use Rattle.layout.specs.Internal.{indicatorAt, placed}
-use Rattle.layout.specs.Layout.{any, bit, isSet, messageType, Format, one, Reached, reached, halted, readFrom, answer, replacedOf, Layout, read, records}
+use Rattle.layout.specs.Layout.{any, isSet, messageType, Format, one, Reached, reached, halted, readFrom, answer, replacedOf, Layout, read, records}
 use Rattle.layout.proofs.FirstOctet.{kept-bit}
 use Rattle.layout.proofs.Records.{read-records, answer-records, no-texts}
 use Rattle.layout.proofs.Steps.{message-goes-on, message-differs, message-ends, octet-goes-on, octet-ends, stopping-ends, stopping-differs, stopping-stops, stopping-goes-on, indicator-goes-on, indicator-ends, span-goes-on, span-ends, then-goes-on, then-ends, done-reached}

@@ -1,11 +1,10 @@
 -- What holds of the fields that a report's layout makes, and demand 3 of the records that they make.
 -- Assumes nothing.
 use Prim.Native.Nat.{ℕ, _≤_}
-use mathlib.Core.Path.{_≡_, refl, sym, ap, _∙_}
+use mathlib.Core.Path.{_≡_, refl, ap, _∙_}
 use mathlib.Core.Bool.{Bool, true, false, _||_}
 use mathlib.Core.List.{List, [], _∷_, _++_, append-nil}
 use borrow.Author.Tests.{eqb-true}
-use lib.Dec.{ltb}
 use lib.ListN.{length}
 use Rattle.octets.specs.Answers.{Said}
 use Rattle.octets.specs.Checks.{Check, _unless_, checked}
@@ -15,7 +14,7 @@ use Rattle.octets.specs.declared.Refusal.{Refusal}
 use Rattle.octets.specs.declared.Refusal.the-variants.{NotATime}
 use Rattle.octets.proofs.Checks.{check-holds, checked-then}
 use Rattle.layout.specs.Demand.{Demand3}
-use Rattle.layout.specs.Layout.{first, octet, octets, any, indicator, isSet, messageType, kept, firstOctet, Field, standsAs, joined, anyPastLimit, Format, done, _then_, reached, plain, stopping, read, canonicalOf, unwritable, records}
+use Rattle.layout.specs.Layout.{first, octet, octets, any, indicator, isSet, messageType, kept, firstOctet, Field, standsAs, joined, anyPastLimit, Format, done, _then_, reached, read, canonicalOf, unwritable, records}
 use Rattle.layout.proofs.Makes.{Makes, makes-then}
 use Rattle.layout.proofs.Demand.{Answers, Writes, Stopped, demand3, demand3-stopping, answers-plain, answers-stopping}
 use Rattle.layout.proofs.FirstOctet.{kept-type, kept-bit, kept-first}
@@ -28,7 +27,6 @@ use Rattle.parameters.specs.declared.OptionalOctet.{OptionalOctet}
 use Rattle.parameters.specs.declared.OptionalOctet.the-variants.{Absent, Present}
 use Rattle.parameters.specs.declared.RpOutcome.{RpOutcome}
 use Rattle.parameters.specs.declared.RpOutcome.the-variants.{RpAck, RpError}
-use Rattle.parameters.proofs.Agreeing.{Agreeing}
 use Rattle.parameters.proofs.Checking.{answers}
 use Rattle.parameters.proofs.Made.{Held, parameters-make, joined-append, past-append}
 use Rattle.report.specs.Report.{Fields, timeSize, format, stopped, layoutOf, octetsOf, checksWithin}

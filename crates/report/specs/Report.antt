@@ -4,10 +4,10 @@ use mathlib.Core.Path.{_≡_, refl}
 use mathlib.Core.Bool.{Bool, true, false}
 use mathlib.Core.List.{List, [], _∷_, _++_}
 use lib.ListN.{length}
-use Rattle.octets.specs.Checks.{Check, _unless_}
+use Rattle.octets.specs.Answers.{refuses, fine}
+use Rattle.octets.specs.Checks.{Check, _unless_, found}
 use Rattle.octets.specs.declared.Refusal.the-variants.{NotATime}
-use Rattle.coding.specs.Coding.{codingOf, characterSet, dataOctets}
-use Rattle.layout.specs.Layout.{octets, any, indicator, isSet, kept, leading, firstOctet, indicatorSize, Format, field, done, _then_, message, reached, halted, after, reading, readFrom, fieldsOf, Layout, plain, stopping, stops, read, canonicalOf}
+use Rattle.layout.specs.Layout.{octets, any, indicator, isSet, leading, firstOctet, Format, field, done, _then_, message, Layout, plain, stopping}
 use Rattle.parameters.specs.Checking.{indicatorChecks, dataWithin}
 use Rattle.parameters.specs.Layout.{announced, parameters}
 use Rattle.parameters.specs.Optional.{octetsHeld}
@@ -72,3 +72,9 @@ abbrev pub checksWithin : ℕ → Bool → Fields → List Check
 checksWithin limit timeHolds x =
     let p = x .parameters in
     indicatorChecks (x .indicator) (p .pid) (p .dcs) (p .udl) ++ ((NotATime unless timeHolds) ∷ dataWithin limit (p .dcs) (p .udl) (length (p .ud)))
+
+-- the octets of the stopped DELIVER-REPORT, and of a SUBMIT-REPORT with UDHI and PID 11 whose time is left out; the checks of the first with a time that is one, and isn't
+known-written : (octetsOf 0 stopped ≡ 0x00 ∷ 0xff ∷ 0x00 ∷ []) × (octetsOf 1 (record { outcome = RpAck; udhi = true; cause = Absent; indicator = 0x01; scts = []; parameters = record { pid = Present 0x11; dcs = Absent; udl = Absent; ud = [] } }) ≡ 0x41 ∷ 0x01 ∷ 0x11 ∷ [])
+    × (found (checksWithin 140 true stopped) ≡ fine) × (found (checksWithin 140 false stopped) ≡ refuses NotATime)
+unfolding firstOctet indicatorChecks dataWithin
+known-written = (refl, refl, refl, refl)

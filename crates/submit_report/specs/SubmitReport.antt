@@ -1,7 +1,7 @@
 -- SMS-SUBMIT-REPORT (TS 23.040 §9.2.2.2a): its two layouts, what its writers make of a record, and what is no part of one.
 use Prim.Native.Nat.{ℕ}
 use mathlib.Core.Path.{_≡_, refl}
-use mathlib.Core.Bool.{Bool, true, false}
+use mathlib.Core.Bool.{true}
 use mathlib.Core.List.{List, [], _∷_}
 use lib.Dec.{leb, eqb}
 use Rattle.octets.specs.Answers.{Said, outcomeSays, refuses, fine}
@@ -17,7 +17,6 @@ use Rattle.layout.specs.Layout.{indicatorSize, kept, Layout, records, stops, re
 use Rattle.parameters.specs.Checking.{dataWithin}
 use Rattle.parameters.specs.Layout.{parameters}
 use Rattle.parameters.specs.Outcome.{outcomeAgrees}
-use Rattle.parameters.specs.Parameters.{noParameters}
 use Rattle.parameters.specs.declared.OptionalOctet.{OptionalOctet}
 use Rattle.parameters.specs.declared.OptionalOctet.the-variants.{Absent, Present}
 use Rattle.parameters.specs.declared.RpOutcome.{RpOutcome}

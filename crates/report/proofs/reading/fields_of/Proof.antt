@@ -1,6 +1,6 @@
 -- `report::reading::fields_of` meets its contract: first octet and cause, then the rest.
 -- Assumes nothing.
-use mathlib.Core.Path.{refl, sym, ap, _∙_}
+use mathlib.Core.Path.{sym, ap, _∙_}
 use borrow.Author.Needs.{needs}
 use Rattle.octets.specs.Answers.{octetSays}
 use Rattle.report.proofs.FieldByField.{refused-found, stopped-found, no-first, other-type, ack-goes-on, error-stops, no-cause, error-goes-on}
