@@ -1,4 +1,6 @@
 // Addresses (TS 23.040 §9.1.2.5).
+#![tactic(auto)]
+
 pub mod writing;
 
 ghost use Rattle.std.specs.Prelude.{◌≡◌, [], map, ◌+◌, ◌/◌, ◌≤◌, ◌<◌, length, get_or, take, drop};

@@ -1,4 +1,6 @@
 // Prints the default alphabet and its extension table, a line for each code, for people with phones to test.
+#![tactic(auto)]
+
 use libc::STDOUT_FILENO;
 use tpdu::ALPHABET_OCTETS;
 

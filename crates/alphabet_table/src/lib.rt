@@ -1,4 +1,6 @@
 // The default alphabet and its extension table (TS 23.038 §6.2.1), a line for each code, for people with phones to test.
+#![tactic(auto)]
+
 ghost use Rattle.std.specs.Prelude.{◌≡◌, ◌+◌, ◌≤◌, length};
 ghost use Rattle.octets.specs.Answers.{gives, refuses, written_says};
 ghost use Rattle.octets.specs.Lent.{Wrote, made, lend};

@@ -1,4 +1,6 @@
 // The answers to requests: a reader's record, a writer's octets, conversions that need no message, and parts gathered.
+#![tactic(auto)]
+
 mod blocks;
 pub mod conversions;
 mod elements;

@@ -1,6 +1,8 @@
 // Functions over slices for a driver in another language, which times them beside the Rust (oracle/bench). Each answers
 // a number that depends on its result: a count, or 256 and the refusal's number. The arrays of what is read go to lent
 // ones, so that the compiler can't leave them out.
+#![tactic(auto)]
+
 ghost use Rattle.std.specs.Prelude.{◌≡◌, true, [], replicate};
 ghost use Rattle.octets.specs.Answers.{refuses, outcome_says, written_says};
 ghost use Rattle.octets.specs.Lent.{lend};

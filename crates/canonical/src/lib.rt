@@ -1,4 +1,6 @@
 // Reading and writing back: the canonical octets of a message.
+#![tactic(auto)]
+
 ghost use Rattle.std.specs.Prelude.{◌≡◌};
 ghost use Rattle.octets.specs.Answers.{refuses, written_says};
 ghost use Rattle.octets.specs.Lent.{lend};

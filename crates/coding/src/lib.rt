@@ -1,4 +1,6 @@
 // TP-Data-Coding-Scheme (TS 23.038 §4), and what TP-User-Data-Length counts.
+#![tactic(auto)]
+
 ghost use Rattle.std.specs.Prelude.{◌≡◌, [], ◌≤◌, length};
 ghost use Rattle.octets.specs.Answers.{checked_says};
 ghost use Rattle.octets.specs.Checks.{found};

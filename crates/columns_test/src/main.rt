@@ -1,5 +1,7 @@
 // The largest log block, 1,000 strings of 255 octets, there and back; and lengths that pass the octets lent. A line of
 // `tpdutool` has no room for the first and can't say the second.
+#![tactic(auto)]
+
 use libc::STDOUT_FILENO;
 use tpdu::{Outcome, Written};
 

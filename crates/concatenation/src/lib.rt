@@ -1,4 +1,6 @@
 // A text in the parts of a concatenated short message (TS 23.040 §9.2.3.24.1).
+#![tactic(auto)]
+
 ghost use Rattle.std.specs.Prelude.{◌≡◌, ◌+◌, ◌<◌, ◌≤◌, [], length};
 ghost use Rattle.octets.specs.Answers.{fine};
 ghost use Rattle.octets.specs.Lent.{lend, Wrote};

@@ -1,4 +1,6 @@
 // A cursor: octets and a place in them. Messages that lie one after the other are read through it in turn.
+#![tactic(auto)]
+
 pub mod from_place;
 
 ghost use Rattle.std.specs.Prelude.{◌≡◌};

@@ -1,4 +1,6 @@
 // SMS-DELIVER (TS 23.040 §9.2.2.1).
+#![tactic(auto)]
+
 pub mod reading;
 pub mod writing;
 

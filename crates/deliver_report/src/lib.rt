@@ -1,4 +1,6 @@
 // SMS-DELIVER-REPORT (TS 23.040 §9.2.2.1a), the acknowledgement of an SMS-DELIVER or SMS-STATUS-REPORT.
+#![tactic(auto)]
+
 ghost use Rattle.std.specs.Prelude.{◌≡◌};
 ghost use Rattle.octets.specs.Answers.{refuses, written_says};
 ghost use Rattle.octets.specs.Lent.{lend};

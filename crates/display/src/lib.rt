@@ -1,4 +1,6 @@
 // Messages shown for people: the kind of message, and a line for each field that is there.
+#![tactic(auto)]
+
 mod lines;
 mod user_data;
 

@@ -1,5 +1,7 @@
 // A program to start from: reads an SMS-DELIVER, says what is in it, and writes two SMS-SUBMITs to its sender.
 // All names of the library are those of its face, `tpdu`; crates.txt lists beside it the crates of the types used here.
+#![tactic(auto)]
+
 use libc::STDOUT_FILENO;
 use tpdu::{Outcome, SMSAddress, UserData};
 

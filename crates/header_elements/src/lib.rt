@@ -1,4 +1,6 @@
 // Elements of a user data header (TS 23.040 §9.2.3.24).
+#![tactic(auto)]
+
 ghost use Rattle.std.specs.Prelude.{◌≡◌, ◌∷◌, ◌+◌, ◌*◌, ◌≤◌, length, get_or, drop, replicate};
 ghost use Rattle.octets.specs.Answers.{refuses, outcome_says, written_says};
 ghost use Rattle.octets.specs.Lent.{lend, Wrote};

@@ -1,4 +1,6 @@
 // Messages as data: a layout's strings, its reader and canonical octets (specs/, proofs/); and the first octet of a message.
+#![tactic(auto)]
+
 ghost use Rattle.std.specs.Prelude.{◌≡◌, [], ◌∷◌, ◌<◌};
 ghost use Rattle.layout.specs.Layout.{first_octet};
 

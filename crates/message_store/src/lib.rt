@@ -1,4 +1,6 @@
 // The store that the caller lends for the parts of concatenated short messages: its slots, what stands in them, and what is shown of a message.
+#![tactic(auto)]
+
 ghost use Rattle.std.specs.Prelude.{◌≡◌, [], ◌+◌, ◌≤◌, length};
 ghost use Rattle.octets.specs.Arrays.{pad};
 ghost use Rattle.octets.specs.Lent.{Wrote};

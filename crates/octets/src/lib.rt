@@ -1,4 +1,6 @@
 // What the whole codec shares: the refusals, arrays with a length, writing to a lent buffer, and reading at a place.
+#![tactic(auto)]
+
 ghost use Rattle.std.specs.Prelude.{◌≡◌, ◌+◌, ◌≤◌, length, [], ◌∷◌};
 ghost use Rattle.octets.specs.Choice.{flag as flagWeight};
 ghost use Rattle.octets.specs.Refusals.{refusal_number};

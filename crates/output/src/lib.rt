@@ -1,5 +1,7 @@
 // The output: a buffer that octets and numbers are appended to. A function takes the place to write at, and gives the
 // place after what it wrote.
+#![tactic(auto)]
+
 pub mod hexadecimal;
 
 ghost use Rattle.std.specs.Prelude.{◌≡◌};

@@ -1,5 +1,7 @@
 // The shift page of records that no reader gives, so that no request of `tpdutool` reaches them: lengths that pass their
 // arrays, times that are none, small letters; and outputs that are too short. The answers are said, and pages shown.
+#![tactic(auto)]
+
 use libc::STDOUT_FILENO;
 use tpdu::{SmsStatusReport, Time, Written};
 

@@ -1,5 +1,7 @@
 // What the reports share: an octet of a record that may be absent (a parameter, the cause, an indicator), and the outcome
 // that carries a report.
+#![tactic(auto)]
+
 pub mod reading;
 pub mod writing;
 

@@ -1,4 +1,6 @@
 // What numbers a part of a concatenated short message (TS 23.040 §9.2.3.24.1, §9.2.3.24.8).
+#![tactic(auto)]
+
 ghost use Rattle.std.specs.Prelude.{◌≡◌, ◌≤◌, length};
 ghost use Rattle.header_elements.specs.Elements.{element, elements_of};
 ghost use Rattle.part_number.specs.Numbering.{numbering_of, or_else, in_range, by_elements, numbering_in, number_says};

@@ -1,5 +1,7 @@
 // The longest text that is sent in parts, and a text that is one letter too long: a line of `tpdutool` has no room for
 // them. The answers are said, and what the first and the last part tell of themselves.
+#![tactic(auto)]
+
 use libc::STDOUT_FILENO;
 use tpdu::Outcome;
 

@@ -1,4 +1,6 @@
 // Parts of concatenated short messages (TS 23.040 §9.2.3.24.1, §9.2.3.24.8), gathered as they come in a store that the caller lends.
+#![tactic(auto)]
+
 ghost use Rattle.std.specs.Prelude.{◌≡◌, ◌≤◌, length};
 ghost use Rattle.octets.specs.Answers.{outcome_says};
 ghost use Rattle.layout.specs.Layout.{read_from};

@@ -1,4 +1,6 @@
 // Addresses of the relay layer (TS 24.011 §8.2.5).
+#![tactic(auto)]
+
 ghost use Rattle.std.specs.Prelude.{◌≡◌, ◌+◌, ◌/◌, ◌≤◌, length};
 ghost use Rattle.octets.specs.Answers.{refuses, outcome_says, written_says, checked_says};
 ghost use Rattle.octets.specs.Checks.{found, checked};

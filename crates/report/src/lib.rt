@@ -1,4 +1,6 @@
 // What SMS-DELIVER-REPORT and SMS-SUBMIT-REPORT share (TS 23.040 §9.2.2.1a, §9.2.2.2a): all but TP-MTI and the time.
+#![tactic(auto)]
+
 pub mod reading;
 pub mod writing;
 

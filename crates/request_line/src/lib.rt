@@ -1,4 +1,6 @@
 // The line of a request: what its fields may hold, header elements, the keys of a record, and why a line isn't well formed.
+#![tactic(auto)]
+
 pub mod elements;
 pub mod keys;
 pub mod reasons;

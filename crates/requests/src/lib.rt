@@ -1,4 +1,6 @@
 // The program tpdutool: requests on standard input, a line each, are answered on standard output (docs/REQUESTS.md).
+#![tactic(auto)]
+
 mod lines;
 mod page;
 mod request;

@@ -1,4 +1,6 @@
 // Septets in octets (TS 23.038 §6.1.2.1.1).
+#![tactic(auto)]
+
 ghost use Rattle.std.specs.Prelude.{◌≡◌, ℕ, ◌+◌, ◌*◌, ◌^◌, ◌<◌, ◌≤◌, length, get_or, take, drop};
 ghost use Rattle.octets.specs.Lent.{Wrote};
 ghost use Rattle.septets.specs.Septets.{number_of, lowest_digits, Digits, bit_place, bit_of, place_after, septet_from, in_window, octet_count, packed_septets, header_septets};

@@ -1,4 +1,6 @@
 // The shift page: status reports in lines of 38 characters and a line feed.
+#![tactic(auto)]
+
 ghost use Rattle.std.specs.Prelude.{◌≡◌, [], ◌∷◌, ◌++◌, map, ◌+◌, ◌*◌, ◌≤◌, length, take};
 ghost use Rattle.octets.specs.Answers.{fine, refuses, checked_says, written_says};
 ghost use Rattle.octets.specs.Checks.{found};

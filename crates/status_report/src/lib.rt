@@ -1,4 +1,6 @@
 // SMS-STATUS-REPORT (TS 23.040 §9.2.2.3).
+#![tactic(auto)]
+
 pub mod reading;
 pub mod writing;
 

@@ -1,6 +1,8 @@
 // What the store of `tpdutool` never shows, since only the calls write it and it is long enough: a store that is one octet
 // too short or whose length fields pass their arrays (refusal 1), and an output that is one octet too short (23), after
 // which the message is still there. The answers are said.
+#![tactic(auto)]
+
 use libc::STDOUT_FILENO;
 use tpdu::{MessageDropped, MessageTaken, Outcome, Reference, Refusal, SMSAddress};
 

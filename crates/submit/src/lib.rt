@@ -1,4 +1,6 @@
 // SMS-SUBMIT (TS 23.040 §9.2.2.2).
+#![tactic(auto)]
+
 pub mod reading;
 pub mod writing;
 

@@ -1,4 +1,6 @@
 // SMS-SUBMIT-REPORT (TS 23.040 §9.2.2.2a), the acknowledgement of an SMS-SUBMIT or SMS-COMMAND.
+#![tactic(auto)]
+
 ghost use Rattle.std.specs.Prelude.{◌≡◌, ◌+◌, ◌≤◌, length, take, drop};
 ghost use Rattle.octets.specs.Answers.{refuses, written_says};
 ghost use Rattle.octets.specs.Lent.{lend};

@@ -1,4 +1,6 @@
 // Times (TS 23.040 §9.2.3.11): fourteen digits and seven octets.
+#![tactic(auto)]
+
 pub mod timestamp;
 
 ghost use Rattle.std.specs.Prelude.{◌≡◌, true, [], ◌+◌, ◌≤◌, ◌<◌, length, take, drop};

@@ -1,5 +1,7 @@
 // SMS transfer-layer codec (TS 23.040, TS 23.038), the face: every public function and type, nothing else. What the Rust
 // crate tpdu has too stands under its names.
+#![tactic(auto)]
+
 pub use address::SMSAddress;
 pub use alphabet_table::{ALPHABET_OCTETS, alphabet_lines};
 pub use canonical::{

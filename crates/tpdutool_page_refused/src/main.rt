@@ -1,4 +1,6 @@
 // The program tpdutool again, with the argument `page`: its stored run of lines that are told, and of 100 reports.
+#![tactic(auto)]
+
 fn main() {
     requests::run();
 }

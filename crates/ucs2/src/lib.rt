@@ -1,4 +1,6 @@
 // UCS2 user data to packed septets and back (TS 23.038 §6.2.1, §6.2.3).
+#![tactic(auto)]
+
 ghost use Rattle.std.specs.Prelude.{◌≡◌, ◌+◌, ◌/◌, ◌%◌, ◌≤◌, [], ◌∷◌, length};
 ghost use Rattle.octets.specs.Answers.{refuses, written_says};
 ghost use Rattle.octets.specs.Lent.{lend, Wrote};

@@ -1,4 +1,6 @@
 // Text after a user data header, in 7-bit coding (TS 23.040 §9.2.3.24).
+#![tactic(auto)]
+
 ghost use Rattle.std.specs.Prelude.{◌≡◌, ◌≤◌, ◌<◌, length, take, drop};
 ghost use Rattle.octets.specs.Lent.{lend};
 ghost use Rattle.octets.specs.declared.Refusal.TheVariants.{LengthTooLarge, HeaderNotWhole, HeaderPassesCount, TooFewOctets};

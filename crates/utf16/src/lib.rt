@@ -1,4 +1,6 @@
 // Text in the output as UTF-8, given as UTF-8 or UTF-16. Control characters are spelled out: a text stays on its line.
+#![tactic(auto)]
+
 ghost use Rattle.std.specs.Prelude.{◌≡◌, ◌+◌, ◌*◌, ◌<◌, ◌≤◌, take};
 ghost use Rattle.utf16.specs.Characters.{utf8 as utf8_of, character_of, first_character, replacement as theReplacement};
 

@@ -1,4 +1,6 @@
 // The validity period (TS 23.040 §9.2.3.3, §9.2.3.12).
+#![tactic(auto)]
+
 ghost use Rattle.std.specs.Prelude.{◌≡◌, true, ◌+◌, ◌≤◌, length};
 ghost use Rattle.octets.specs.Lent.{Wrote};
 ghost use Rattle.octets.specs.Arrays.{pad};

@@ -1,0 +1,17 @@
+use Prim.Native.Nat.{suc, ◌+◌, ◌-◌, ◌≤◌}
+use mathlib.Core.Path.{◌≡◌, refl}
+use native.Mathlib.Omega.{arith}
+use native.Mathlib.Nat.{add-zero, add_assoc, sub-zero}
+use lib.ListN.{length, length-set}
+use lib.Seq.{sets}
+use Rattle.octets.proofs.Laws.{Left, left_start, left_step, left_end, wrote_one}
+use Rattle.septets.specs.Septets.{lowest_digits}
+use Rattle.septets.proofs.Number.{length_digits}
+use Rattle.septets.proofs.put_number.Given as goal
+
+abbrev pub invariant-loop-j : goal.invariant-loop-j
+invariant-loop-j l =
+    (l.j ≤ l.n) × (length l.out ≡ length l.initial.out) × Left (sets l.initial.out l.at (lowest_digits 8 l.n l.number)) (l.at + length (lowest_digits 8 l.n l.number)) l.out (l.at + l.j) (lowest_digits 8 (l.n - l.j) l.rest)
+
+abbrev pub decreases-loop-j : goal.decreases-loop-j
+decreases-loop-j l = l.n - l.j
