@@ -16,7 +16,7 @@ use gsm7::decode::TextPut;
 use octets::{Octet, Place, Refusal, Span, Written};
 
 // An SMS address. `address` holds digits, and text with type of number 5.
-#[derive(Drop)]
+#[derive(Clone, Copy)]
 pub struct SMSAddress {
     pub ton: u8,
     pub npi: u8,
@@ -25,7 +25,7 @@ pub struct SMSAddress {
 }
 
 // An address that was read, and the number of escapes in its text that led to no character of the extension table.
-#[derive(Drop)]
+#[derive(Clone, Copy)]
 pub struct AddressRead {
     pub address: SMSAddress,
     pub replaced: usize,

@@ -15,7 +15,7 @@ use octets::{Refusal, Written};
 pub const TYPE_OF_NUMBER_ALPHANUMERIC: u8 = 5;
 
 // Whether an address can be written: its length octet, or the refusal.
-#[derive(Drop)]
+#[derive(Clone, Copy)]
 pub enum AddressCheck {
     Fine(usize),
     Refused(Refusal),

@@ -11,7 +11,7 @@ use tpdu::{
 };
 
 // The seven readers; `Unknown` for a name that is none of theirs.
-#[derive(Drop)]
+#[derive(Clone, Copy)]
 pub enum Reader {
     Deliver,
     Submit,

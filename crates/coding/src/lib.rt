@@ -8,7 +8,7 @@ ghost use Rattle.coding.specs.Coding.{coding_of, data_octets, data_with, data_wi
 
 use octets::{Checked, Refusal};
 
-#[derive(Drop)]
+#[derive(Clone, Copy)]
 pub enum UserDataCoding {
     Gsm7Bit,
     EightBit,
@@ -57,7 +57,7 @@ pub fn user_data_octets(coding: UserDataCoding, length: u8) -> usize
 }
 
 // TP-User-Data as a record holds them: how many octets there are, and the octets.
-#[derive(Drop)]
+#[derive(Clone, Copy)]
 pub struct UserData {
     pub length: usize,
     pub octets: [u8; 255],

@@ -14,7 +14,7 @@ ghost use Rattle.columns.specs.Internal.{longer_than, sizes_says, sizes_of, Numb
 use octets::{Outcome, Refusal, Written};
 
 // What a block held: how many strings, and how many octets they have together.
-#[derive(Drop)]
+#[derive(Clone, Copy)]
 pub struct Strings {
     pub outcome: Outcome,
     pub strings: usize,
@@ -22,21 +22,21 @@ pub struct Strings {
 }
 
 // How many octets strings of some lengths have together, and how many the lengths take in a block.
-#[derive(Drop)]
+#[derive(Clone, Copy)]
 enum Sizes {
     All { octets: usize, lengths: usize },
     TooLarge,
 }
 
 // A number of a block, and the place after it; a number past two groups is too large for any place of a block.
-#[derive(Drop)]
+#[derive(Clone, Copy)]
 enum Number {
     Read(usize, usize),
     Bad,
 }
 
 // How many octets the strings of a block have together, and the place after their lengths.
-#[derive(Drop)]
+#[derive(Clone, Copy)]
 enum Lengths {
     Read(usize, usize),
     Bad,

@@ -15,7 +15,7 @@ use gsm7::encode::{Scalar, Scanned};
 use octets::{Outcome, Refusal};
 
 // How many octets were written, and how many messages they are.
-#[derive(Drop)]
+#[derive(Clone, Copy)]
 pub struct Concatenated {
     pub outcome: Outcome,
     pub octets: usize,
@@ -23,14 +23,14 @@ pub struct Concatenated {
 }
 
 // A part of a text: how many septets it has, and where the next part starts.
-#[derive(Drop)]
+#[derive(Clone, Copy)]
 enum Stored {
     Part(usize, usize),
     NotCoded,
 }
 
 // How many septets a text has, how many parts they are cut into, and how many septets the last of these has.
-#[derive(Drop)]
+#[derive(Clone, Copy)]
 enum Counted {
     All {
         septets: usize,

@@ -15,7 +15,7 @@ use submit::SubmitRead;
 use submit_report::{SmsSubmitReport, SubmitReportRead};
 
 // The octet at a place and the place after it; a refusal where the octets end.
-#[derive(Drop)]
+#[derive(Clone, Copy)]
 pub enum OctetRead {
     Read(u8, usize),
     Refused(Refusal),

@@ -18,7 +18,7 @@ use status_report::StatusReportRead;
 use submit::SubmitRead;
 use submit_report::SubmitReportRead;
 
-#[derive(Drop)]
+#[derive(Clone, Copy)]
 pub struct Cursor<'a> {
     pub octets: &'a [u8],
     pub place: usize,

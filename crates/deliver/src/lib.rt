@@ -19,7 +19,7 @@ use layout::MTI_DELIVER;
 use octets::{Outcome, Refusal, Written};
 use time::Time;
 
-#[derive(Drop)]
+#[derive(Clone, Copy)]
 pub struct SmsDeliver {
     pub tp_rp: bool,
     pub tp_udhi: bool,
@@ -36,7 +36,7 @@ pub struct SmsDeliver {
 }
 
 // What reading gives: the message, blank on a refusal, and the number of escapes in its text that led to no character of the extension table.
-#[derive(Drop)]
+#[derive(Clone, Copy)]
 pub struct DeliverRead {
     pub outcome: Outcome,
     pub message: SmsDeliver,

@@ -9,7 +9,7 @@ use layout::MTI_DELIVER;
 use octets::{Octet, Place, Refusal, Span};
 
 // The fields of one octet, and where the others start: the address, the time, and so many octets of user data.
-#[derive(Drop)]
+#[derive(Clone, Copy)]
 pub struct DeliverFields {
     pub first: u8,
     pub address: usize,
@@ -22,7 +22,7 @@ pub struct DeliverFields {
 }
 
 // The fields if they are all there, or the refusal.
-#[derive(Drop)]
+#[derive(Clone, Copy)]
 pub enum DeliverFound {
     Whole(DeliverFields),
     Refused(Refusal),

@@ -19,7 +19,7 @@ const RP_ACK_USER_DATA_OCTETS: usize = 159;
 
 const RP_ERROR_USER_DATA_OCTETS: usize = 158;
 
-#[derive(Drop)]
+#[derive(Clone, Copy)]
 pub struct SmsDeliverReport {
     pub tp_udhi: bool,
     pub tp_failure_cause: OptionalOctet,
@@ -32,7 +32,7 @@ pub struct SmsDeliverReport {
 }
 
 // What reading gives: the message, blank on a refusal, and the number of escapes in its text that led to no character of the extension table. The kind has no text: 0.
-#[derive(Drop)]
+#[derive(Clone, Copy)]
 pub struct DeliverReportRead {
     pub outcome: Outcome,
     pub message: SmsDeliverReport,

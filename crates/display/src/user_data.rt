@@ -8,7 +8,7 @@ use wording::labels;
 use wording::refusals::refusal_number;
 
 // User data that were shown: the place after them, and how many escapes were replaced in their text.
-#[derive(Drop)]
+#[derive(Clone, Copy)]
 pub struct Shown {
     pub end: usize,
     pub replaced: usize,

@@ -26,7 +26,7 @@ pub const ALPHABET: [u16; 128] = [
 ];
 
 // A row of the extension table: what follows the escape, and the character.
-#[derive(Drop)]
+#[derive(Clone, Copy)]
 pub struct Extension {
     pub code: u8,
     pub character: u16,
@@ -77,7 +77,7 @@ const EXTENSION: [Extension; 10] = [
 ];
 
 // The text of counted septets, and the number of escapes in them that led to no character of the extension table.
-#[derive(Drop)]
+#[derive(Clone, Copy)]
 pub struct Unpacked {
     pub outcome: Outcome,
     pub text: [u8; 510],
@@ -86,14 +86,14 @@ pub struct Unpacked {
 }
 
 // Text that was written: the place after it, and the number of escapes in it that led to no character of the extension table.
-#[derive(Drop)]
+#[derive(Clone, Copy)]
 pub struct TextPut {
     pub end: usize,
     pub replaced: usize,
 }
 
 // The character of a code that follows an escape; `replaced` is 1 where it is none of the extension table, else 0.
-#[derive(Drop)]
+#[derive(Clone, Copy)]
 pub struct AfterEscape {
     pub character: u16,
     pub replaced: usize,

@@ -33,7 +33,7 @@ const GREEK_CODES: [u8; 23] = [
 ];
 
 // The septets of a character.
-#[derive(Drop)]
+#[derive(Clone, Copy)]
 pub enum Code {
     Single(u8),
     Escaped(u8),
@@ -41,14 +41,14 @@ pub enum Code {
 }
 
 // A character of UTF-8, and the number of its octets.
-#[derive(Drop)]
+#[derive(Clone, Copy)]
 pub enum Scalar {
     Read(u16, usize),
     Broken,
 }
 
 // How many septets a text has.
-#[derive(Drop)]
+#[derive(Clone, Copy)]
 pub enum Scanned {
     Counted(usize),
     NotCoded,

@@ -10,7 +10,7 @@ use crate::encode::Scanned;
 use octets::{Outcome, Refusal};
 
 // How many octets were written, and the number of septets that TP-User-Data-Length counts.
-#[derive(Drop)]
+#[derive(Clone, Copy)]
 pub struct Packed {
     pub outcome: Outcome,
     pub octets: usize,

@@ -12,7 +12,7 @@ ghost use Rattle.header_elements.specs.Internal.{Firsts, Nexts, Starts};
 use octets::{Outcome, Refusal, Written};
 
 // Elements: identifiers, lengths, and the values end to end. A header has at most 127 elements and 253 octets of values.
-#[derive(Drop)]
+#[derive(Clone, Copy)]
 pub struct HeaderElements {
     pub count: usize,
     pub identifiers: [u8; 127],
@@ -21,7 +21,7 @@ pub struct HeaderElements {
 }
 
 // What reading gives: the elements, none on a refusal.
-#[derive(Drop)]
+#[derive(Clone, Copy)]
 pub struct ElementsRead {
     pub outcome: Outcome,
     pub elements: HeaderElements,

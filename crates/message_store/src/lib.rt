@@ -12,7 +12,7 @@ use coding::UserDataCoding;
 use part_number::Reference;
 
 // Numbers that are missing.
-#[derive(Drop)]
+#[derive(Clone, Copy)]
 pub struct Missing {
     pub numbers: [u8; 8],
     pub count: usize,

@@ -10,7 +10,7 @@ ghost use Rattle.octets.specs.Lent.{Wrote};
 ghost use Rattle.octets.specs.Places.{octet_at, span_at};
 
 // Why an input is not taken.
-#[derive(Drop)]
+#[derive(Clone, Copy)]
 pub enum Refusal {
     LengthTooLarge,
     OctetsEnd,
@@ -97,21 +97,21 @@ impl Refusal {
 }
 
 // How a public function ended.
-#[derive(Drop)]
+#[derive(Clone, Copy)]
 pub enum Outcome {
     Done,
     Refused(Refusal),
 }
 
 // How a writer ended: the number of octets written, or the refusal.
-#[derive(Drop)]
+#[derive(Clone, Copy)]
 pub enum Written {
     Done(usize),
     Refused(Refusal),
 }
 
 // What a writer's checks find.
-#[derive(Drop)]
+#[derive(Clone, Copy)]
 pub enum Checked {
     Fine,
     Against(Refusal),
@@ -157,20 +157,20 @@ pub fn flag(on: bool, weight: u8) -> u8
 }
 
 // A place in a message; every read hands back the next one.
-#[derive(Drop)]
+#[derive(Clone, Copy)]
 pub struct Place {
     pub at: usize,
 }
 
 // The octet at a place, and the place after it.
-#[derive(Drop)]
+#[derive(Clone, Copy)]
 pub enum Octet {
     Read(u8, Place),
     Ended,
 }
 
 // Octets that are all there: where they start, and the place after them.
-#[derive(Drop)]
+#[derive(Clone, Copy)]
 pub enum Span {
     There(usize, Place),
     Ended,

@@ -7,7 +7,7 @@ ghost use Rattle.output.specs.Hexadecimal.{lower_digit, hex_text, digit_value, i
 use crate::Output;
 
 // What reading gives: the number of octets, or why there are none.
-#[derive(Drop)]
+#[derive(Clone, Copy)]
 pub enum HexRead {
     Octets(usize),
     NotHex,

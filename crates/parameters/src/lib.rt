@@ -10,14 +10,14 @@ ghost use Rattle.octets.specs.Lent.{Wrote};
 ghost use Rattle.parameters.specs.Optional.{octets_held, held, or_zero};
 ghost use Rattle.parameters.specs.Outcome.{outcome_agrees};
 
-#[derive(Drop)]
+#[derive(Clone, Copy)]
 pub enum OptionalOctet {
     Absent,
     Present(u8),
 }
 
 // What carries a report: an RP-ACK, or an RP-ERROR, which alone has a cause.
-#[derive(Drop)]
+#[derive(Clone, Copy)]
 pub enum RpOutcome {
     RpAck,
     RpError,

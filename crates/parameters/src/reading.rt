@@ -10,14 +10,14 @@ use crate::OptionalOctet;
 use octets::{Octet, Place, Span};
 
 // A parameter that was announced or not, and the place after it.
-#[derive(Drop)]
+#[derive(Clone, Copy)]
 pub enum OptionalRead {
     Read(OptionalOctet, Place),
     Ended,
 }
 
 // PID, DCS, UDL, how many octets the user data have, and the place after these.
-#[derive(Drop)]
+#[derive(Clone, Copy)]
 pub enum ParametersRead {
     Read(OptionalOctet, OptionalOctet, OptionalOctet, usize, Place),
     Ended,

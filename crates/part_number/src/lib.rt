@@ -9,21 +9,21 @@ ghost use Rattle.part_number.specs.Internal.{seen_as};
 use octets::Refusal;
 
 // The reference of a concatenated message, with its width.
-#[derive(Drop)]
+#[derive(Clone, Copy)]
 pub enum Reference {
     Eight(u8),
     Sixteen(u16),
 }
 
 // What user data say of the part that they are: reference, total and number; or why they are none.
-#[derive(Drop)]
+#[derive(Clone, Copy)]
 pub enum PartNumber {
     Numbered(Reference, u8, u8),
     Unnumbered(Refusal),
 }
 
 // What the elements so far say: width 0 where none numbers a part.
-#[derive(Drop)]
+#[derive(Clone, Copy)]
 struct Seen {
     width: u8,
     reference: u16,

@@ -24,7 +24,7 @@ pub const STORE_OCTETS: usize = 37696;
 pub const MESSAGE_OCTETS: usize = 4080;
 
 // What accepting a part answers: its reference, total and number, and the numbers of its message that are still missing.
-#[derive(Drop)]
+#[derive(Clone, Copy)]
 pub struct PartAccepted {
     pub outcome: Outcome,
     pub reference: Reference,
@@ -35,7 +35,7 @@ pub struct PartAccepted {
 }
 
 // What taking a message answers: its coding scheme and the number of octets written; or that it is not open, or not whole.
-#[derive(Drop)]
+#[derive(Clone, Copy)]
 pub enum MessageTaken {
     Whole(u8, usize),
     NotOpen,
@@ -44,7 +44,7 @@ pub enum MessageTaken {
 }
 
 // What dropping a message answers.
-#[derive(Drop)]
+#[derive(Clone, Copy)]
 pub enum MessageDropped {
     Done,
     NotOpen,
@@ -52,14 +52,14 @@ pub enum MessageDropped {
 }
 
 // The slot of a message, 16 where it is not open; or the refusal.
-#[derive(Drop)]
+#[derive(Clone, Copy)]
 enum Found {
     Slot(usize),
     Refused(Refusal),
 }
 
 // What a part says beside its key and its data.
-#[derive(Drop)]
+#[derive(Clone, Copy)]
 struct PartFields {
     reference: Reference,
     total: u8,

@@ -11,7 +11,7 @@ use address::writing::TYPE_OF_NUMBER_ALPHANUMERIC;
 use octets::{Checked, Octet, Outcome, Place, Refusal, Span, Written};
 
 // An address of the relay layer, or none. `address` holds digits.
-#[derive(Drop)]
+#[derive(Clone, Copy)]
 pub struct RelayAddress {
     pub is_present: bool,
     pub ton: u8,
@@ -21,7 +21,7 @@ pub struct RelayAddress {
 }
 
 // What reading gives: the address, none on a refusal, and the number of octets read.
-#[derive(Drop)]
+#[derive(Clone, Copy)]
 pub struct RelayAddressRead {
     pub outcome: Outcome,
     pub address: RelayAddress,

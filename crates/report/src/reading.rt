@@ -18,7 +18,7 @@ const FAILURE_CAUSE_UNSPECIFIED: u8 = 0xFF;
 
 // How reading ended; the fields of one octet, and where the others start: the time if there is one, and so many octets
 // of user data. On a refusal those of the blank record.
-#[derive(Drop)]
+#[derive(Clone, Copy)]
 pub struct ReportFound {
     pub outcome: Outcome,
     pub rp_outcome: RpOutcome,

@@ -101,7 +101,7 @@ fn answer_octets(
 }
 
 // The length of the line held after a read, and whether the input may have more.
-#[derive(Drop)]
+#[derive(Clone, Copy)]
 struct Turn {
     length: usize,
     more: bool,

@@ -13,7 +13,7 @@ use wording::refusals::refusal_number;
 // ---- lines
 
 // A line that was read: its length, whether there was one, and the octets from `from` to `end` that follow it.
-#[derive(Drop)]
+#[derive(Clone, Copy)]
 struct Cut {
     length: usize,
     is_there: bool,
@@ -64,7 +64,7 @@ fn next_line(input: &mut Output, line: &mut Line, from: usize, end: usize) -> Cu
 // ---- reports
 
 // What a line holds: a status report, and the reason against the line or the number of the reader's refusal.
-#[derive(Drop)]
+#[derive(Clone, Copy)]
 struct Report {
     reason: usize,
     refusal: u8,
@@ -138,7 +138,7 @@ fn print(w: Written, lent: &[u8], told: bool, out: &mut Output) {
 // ---- the shift
 
 // The reports of a shift: the first 99 of them, how many there were, and whether another line was told.
-#[derive(Drop)]
+#[derive(Clone, Copy)]
 struct Shift {
     reports: [SmsStatusReport; 99],
     count: usize,

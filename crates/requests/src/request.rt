@@ -11,7 +11,7 @@ use tpdu::Written;
 
 // What a line can ask for: a message read, or read and written back; a record written, by the number of its kind, to the
 // standard's limit of user data or not; a conversion, or something of the store, by its number.
-#[derive(Drop)]
+#[derive(Clone, Copy)]
 enum Request {
     Read(Reader),
     Rewrite(Reader),

@@ -17,7 +17,7 @@ pub fn octet_or_zero(octets: &[u8], at: usize) -> u16
 }
 
 // A place in the bits of octets: the octet, and the bit in it.
-#[derive(Drop)]
+#[derive(Clone, Copy)]
 pub struct BitPlace {
     pub octet: usize,
     pub shift: usize,

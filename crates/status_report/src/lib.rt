@@ -24,7 +24,7 @@ use time::Time;
 // The octets of user data in the standard's table of the message (TS 23.040 §9.2.2.3).
 const STANDARD_USER_DATA_OCTETS: usize = 131;
 
-#[derive(Drop)]
+#[derive(Clone, Copy)]
 pub struct SmsStatusReport {
     pub tp_udhi: bool,
     pub tp_srq: bool,
@@ -43,7 +43,7 @@ pub struct SmsStatusReport {
 }
 
 // What reading gives: the message, blank on a refusal, and the number of escapes in its text that led to no character of the extension table.
-#[derive(Drop)]
+#[derive(Clone, Copy)]
 pub struct StatusReportRead {
     pub outcome: Outcome,
     pub message: SmsStatusReport,

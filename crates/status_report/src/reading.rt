@@ -11,7 +11,7 @@ use parameters::OptionalOctet;
 use parameters::reading::ParametersRead;
 
 // The fields of one octet, and where the others start: the address, the two times, and so many octets of user data.
-#[derive(Drop)]
+#[derive(Clone, Copy)]
 pub struct StatusReportFields {
     pub first: u8,
     pub mr: u8,
@@ -28,7 +28,7 @@ pub struct StatusReportFields {
 }
 
 // The fields if they are all there, or the refusal.
-#[derive(Drop)]
+#[derive(Clone, Copy)]
 pub enum StatusReportFound {
     Whole(StatusReportFields),
     Refused(Refusal),

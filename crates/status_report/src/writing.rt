@@ -14,7 +14,7 @@ use octets::{Checked, Refusal, Written};
 use parameters::OptionalOctet;
 
 // The fields of one octet, type and plan of the address, the indicator and the parameters.
-#[derive(Drop)]
+#[derive(Clone, Copy)]
 pub struct StatusReportValues {
     pub first: u8,
     pub mr: u8,

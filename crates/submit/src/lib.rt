@@ -27,13 +27,13 @@ use time::Time;
 use validity_period::{VALIDITY_PERIOD_FORMAT_ABSOLUTE, ValidityPeriod};
 
 // The readable form of user data: octets, and how many there are.
-#[derive(Drop)]
+#[derive(Clone, Copy)]
 pub struct SubmitText {
     pub octets: [u8; 510],
     pub length: usize,
 }
 
-#[derive(Drop)]
+#[derive(Clone, Copy)]
 pub struct SmsSubmit {
     pub tp_rp: bool,
     pub tp_udhi: bool,
@@ -57,7 +57,7 @@ pub struct SmsSubmit {
 }
 
 // What reading gives: the message, the number of octets read, and the number of escapes in its text that led to no character of the extension table; blank and 0 on a refusal.
-#[derive(Drop)]
+#[derive(Clone, Copy)]
 pub struct SubmitRead {
     pub outcome: Outcome,
     pub message: SmsSubmit,

@@ -9,7 +9,7 @@ use layout::MTI_SUBMIT;
 use octets::{Octet, Place, Refusal, Span};
 
 // The fields of one octet, and where the others start: the address, so many octets of validity, and so many octets of user data, the first `header` of them the header.
-#[derive(Drop)]
+#[derive(Clone, Copy)]
 pub struct SubmitFields {
     pub first: u8,
     pub mr: u8,
@@ -25,7 +25,7 @@ pub struct SubmitFields {
 }
 
 // The fields if they are all there, or the refusal.
-#[derive(Drop)]
+#[derive(Clone, Copy)]
 pub enum SubmitFound {
     Whole(SubmitFields),
     Refused(Refusal),

@@ -13,7 +13,7 @@ use octets::{Checked, Refusal, Written};
 use validity_period::ValidityPeriod;
 
 // The fields of one octet, type and plan of the address, and the validity period.
-#[derive(Drop)]
+#[derive(Clone, Copy)]
 pub struct SubmitValues {
     pub first: u8,
     pub mr: u8,

@@ -21,7 +21,7 @@ const RP_ACK_USER_DATA_OCTETS: usize = 152;
 
 const RP_ERROR_USER_DATA_OCTETS: usize = 151;
 
-#[derive(Drop)]
+#[derive(Clone, Copy)]
 pub struct SmsSubmitReport {
     pub tp_udhi: u8,
     pub tp_failure_cause: OptionalOctet,
@@ -35,7 +35,7 @@ pub struct SmsSubmitReport {
 }
 
 // What reading gives: the message, blank on a refusal, and the number of escapes in its text that led to no character of the extension table. The kind has no text: 0.
-#[derive(Drop)]
+#[derive(Clone, Copy)]
 pub struct SubmitReportRead {
     pub outcome: Outcome,
     pub message: SmsSubmitReport,

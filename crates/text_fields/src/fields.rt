@@ -2,7 +2,7 @@
 use crate::slices::{between, find};
 
 // How many fields were gone over, and the place that was come to.
-#[derive(Drop)]
+#[derive(Clone, Copy)]
 struct GoneOver {
     count: usize,
     place: usize,

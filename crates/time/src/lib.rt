@@ -8,7 +8,7 @@ ghost use Rattle.octets.specs.Lent.{Wrote};
 ghost use Rattle.time.specs.Time.{hex_digit, is_hex, hex_value, time_digits, time_in, time_octets, is_time};
 
 // A time as a record holds it: digits, and how many there are.
-#[derive(Drop)]
+#[derive(Clone, Copy)]
 pub struct Time {
     pub digits: [u8; 14],
     pub length: usize,

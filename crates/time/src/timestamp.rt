@@ -8,7 +8,7 @@ ghost use Rattle.time.specs.Timestamp.{in_calendar, timestamp_says, refused_digi
 use octets::{Outcome, Refusal};
 
 // How `timestamp_digits` ended, and the digits; zero octets on a refusal.
-#[derive(Drop)]
+#[derive(Clone, Copy)]
 pub struct TimestampDigits {
     pub outcome: Outcome,
     pub digits: [u8; 14],

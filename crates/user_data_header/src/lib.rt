@@ -14,7 +14,7 @@ use gsm7::packing::Packed;
 use octets::{Outcome, Refusal};
 
 // A header, its length octet included, and the text after it, with the number of escapes in it that led to no character of the extension table.
-#[derive(Drop)]
+#[derive(Clone, Copy)]
 pub struct UnpackedWithHeader {
     pub outcome: Outcome,
     pub header: [u8; 255],

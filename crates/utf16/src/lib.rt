@@ -9,14 +9,14 @@ use output::hexadecimal::put_hex_octet;
 use text_fields::slices::between;
 
 // A character, and how many octets it took.
-#[derive(Drop)]
+#[derive(Clone, Copy)]
 pub struct Character {
     pub code: u32,
     pub size: usize,
 }
 
 // The octets of a character, and how many they are.
-#[derive(Drop)]
+#[derive(Clone, Copy)]
 pub struct Utf8Octets {
     pub octets: [u8; 4],
     pub length: usize,

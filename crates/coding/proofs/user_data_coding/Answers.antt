@@ -34,7 +34,7 @@ pub returns-in_default-2 : goal.returns-in_default-2
 unfolding coding_of character_set
 returns-in_default-2 c =
     let d = c.args.dcs in
-    rw (le-leb (d / 16) 7 (omega arith), ne_eqb _ _ c.if-dcs-eq1.false, ne_eqb (d / 4 % 4) 1 c.in_default-2.in_default-2-own.rest.0.1, ne_eqb (d / 4 % 4) 2 c.in_default-2.in_default-2-own.rest.1)
+    rw (le-leb (d / 16) 7 (omega arith), ne_eqb _ _ c.if-dcs-eq1.false, ne_eqb (d / 4 % 4) 1 (omega arith), ne_eqb (d / 4 % 4) 2 (omega arith))
 
 pub returns-in-8-to-13 : goal.returns-in-8-to-13
 unfolding coding_of
@@ -46,10 +46,10 @@ pub returns-then-dcs-eq1-2 : goal.returns-then-dcs-eq1-2
 unfolding coding_of
 returns-then-dcs-eq1-2 c =
     let d = c.args.dcs in
-    rw (lt-leb (d / 16) 7 (omega arith), lt-leb (d / 16) 13 (omega arith), ne_eqb (d / 16) 14 c.in_default-1.rest.1, eq-eqb _ _ c.if-dcs-eq1-2.true)
+    rw (lt-leb (d / 16) 7 (omega arith), lt-leb (d / 16) 13 (omega arith), ne_eqb (d / 16) 14 (omega arith), eq-eqb _ _ c.if-dcs-eq1-2.true)
 
 pub returns-else-dcs-eq1-2 : goal.returns-else-dcs-eq1-2
 unfolding coding_of
 returns-else-dcs-eq1-2 c =
     let d = c.args.dcs in
-    rw (lt-leb (d / 16) 7 (omega arith), lt-leb (d / 16) 13 (omega arith), ne_eqb (d / 16) 14 c.in_default-1.rest.1, ne_eqb _ _ c.if-dcs-eq1-2.false)
+    rw (lt-leb (d / 16) 7 (omega arith), lt-leb (d / 16) 13 (omega arith), ne_eqb (d / 16) 14 (omega arith), ne_eqb _ _ c.if-dcs-eq1-2.false)
