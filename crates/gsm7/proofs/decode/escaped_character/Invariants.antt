@@ -1,0 +1,17 @@
+use Prim.Native.Nat.{ℕ, ◌-◌, ◌≤◌}
+use mathlib.Core.Path.{◌≡◌, refl, ◌∙◌}
+use mathlib.Core.Option.{none, some}
+use native.Mathlib.Omega.{arith}
+use lib.ListN.{drop}
+use Rattle.gsm7.specs.declared.decode.AfterEscape.{AfterEscape}
+use Rattle.gsm7.specs.declared.decode.Extension.{Extension}
+use Rattle.gsm7.specs.Alphabet.{extension, row_with, character, escaped, replaced}
+use Rattle.gsm7.proofs.Rows.{row_here, row_next, row_end}
+use Rattle.gsm7.proofs.decode.escaped_character.Given as goal
+
+abbrev pub invariant-loop-i : goal.invariant-loop-i
+invariant-loop-i l =
+    (l.i ≤ 10) × (row_with (λ (e : Extension). e.code) l.code extension ≡ row_with (λ (e : Extension). e.code) l.code (drop l.i extension))
+
+abbrev pub decreases-loop-i : goal.decreases-loop-i
+decreases-loop-i l = 10 - l.i

@@ -1,0 +1,20 @@
+use Prim.Native.Nat.{ℕ, ◌-◌, ◌≤◌}
+use mathlib.Core.Path.{◌≡◌, refl, ◌∙◌}
+use mathlib.Core.List.{[], ◌∷◌}
+use mathlib.Core.Option.{none, some}
+use native.Mathlib.Omega.{arith}
+use lib.ListN.{drop}
+use Rattle.octets.specs.Answers.{gives, refuses}
+use Rattle.octets.specs.declared.Refusal.TheVariants.{NotInAlphabet}
+use Rattle.gsm7.specs.declared.decode.Extension.{Extension}
+use Rattle.gsm7.specs.Alphabet.{extension, row_with}
+use Rattle.gsm7.specs.Writing.{extended_code}
+use Rattle.gsm7.proofs.Rows.{row_here, row_next, row_end}
+use Rattle.gsm7.proofs.encode.escape_of.Given as goal
+
+abbrev pub invariant-loop-i : goal.invariant-loop-i
+invariant-loop-i l =
+    (l.i ≤ 10) × (row_with (λ (e : Extension). e.character) l.c extension ≡ row_with (λ (e : Extension). e.character) l.c (drop l.i extension))
+
+abbrev pub decreases-loop-i : goal.decreases-loop-i
+decreases-loop-i l = 10 - l.i
