@@ -1,5 +1,4 @@
 -- `address::address_at` meets its contract: length octet, type octet, value.
--- Assumes nothing.
 use Prim.Native.Nat.{ℕ, suc, ◌+◌, ◌-◌, ◌/◌, ◌≤◌, ◌<◌}
 use mathlib.Core.Path.{◌≡◌, refl, ap, ◌∙◌}
 use mathlib.Core.List.{List, [], ◌∷◌}
@@ -16,8 +15,7 @@ use Rattle.address.specs.declared.SMSAddress.{SMSAddress}
 use Rattle.address.specs.Address.{type_of_number, plan_of, value_text, value_septets, address_with, text_in, address_in, septets_read, address_size}
 use Rattle.gsm7.specs.Reading.{replaced_in}
 use Rattle.address.proofs.Shapes.{read_fits}
-use Rattle.address.proofs.address_at.Statement.{statement}
-use Rattle.address.proofs.address_at.Tie as tie
+use Rattle.address.proofs.address_at.Goals as goal
 
 drop_two : (k : ℕ) (s : List ℕ) → drop 2 (take (2 + k) s) ≡ take k (drop 2 s)
 drop_two k [] = let e : 2 + k ≡ suc (suc k) = omega arith in rw (e, take-nil)
@@ -63,29 +61,30 @@ cut_octets d o n k = octets_take n (drop k d) (octets_drop k d o)
 part_long : (d : List ℕ) (at x : ℕ) → at + 2 + x ≤ length d → x ≤ length (take (at + 2 + x - (at + 2)) (drop (at + 2) d))
 part_long d at x h = rw (part_is (at + 2) x d, part_size (at + 2) x d h) (omega arith)
 
-value_text_requires : tie.Need-value-text-requires
-value_text_requires c κs =
-    let a = c.before.before.before.before.before.args in
-    let d = a.«data».now in
-    (omega (arith, c.before.before.before.shared-slice-known2.given a.at), part_long d a.at ((get_or d a.at 0 + 1) / 2) (omega (arith, at_zero d a.at, c.before.before.before.before.before.requires)), refl)
+pub overflow_cast-count : goal.overflow_cast-count
+overflow_cast-count c = omega (arith, c.type_inv.«data» c.args.at)
 
-returns : tie.Need-returns
-returns c =
-    let a = c.before.before.before.before.before.before.args in
+pub overflow_add-end : goal.overflow_add-end
+overflow_add-end c = omega (arith, c.shared_slice_known-2-1.given c.args.at)
+
+pub overflow_add-end-2 : goal.overflow_add-end-2
+overflow_add-end-2 c = omega (arith, at_zero c.args.«data».now c.args.at)
+
+pub slice_bounds-value_text-end : goal.slice_bounds-value_text-end
+slice_bounds-value_text-end c = omega (arith, at_zero c.args.«data».now c.args.at)
+
+pub value_text-put-requires : goal.value_text-put-requires
+value_text-put-requires c =
+    let a = c.args in
     let d = a.«data».now in
-    let known = c.before.before.before.before.shared-slice-known2.given in
+    (omega (arith, c.shared_slice_known-2-1.given a.at), part_long d a.at ((get_or d a.at 0 + 1) / 2) (omega (arith, at_zero d a.at, c.requires)), refl)
+
+pub returns : goal.returns
+returns c =
+    let a = c.args in
+    let d = a.«data».now in
+    let known = c.shared_slice_known-2-1.given in
     let x = (get_or d a.at 0 + 1) / 2 in
     let value_is = part_is (a.at + 2) x d in
-    let w = c.value-text.ensures in
-    (whole d a.at c.value-text.new.1.1.1.0 c.value-text.result.end _ (known a.at).fits (cut_octets d (λ i. (known i).fits) (a.at + 2 + x - (a.at + 2)) (a.at + 2)) value_is w.0, w.1 ∙ ap replaced_in (septets_are d a.at _ value_is))
-
-pub address_at_spec : {M : Type 1} → statement M
-address_at_spec =
-    tie.close (tie.spec (λ c. omega arith)
-    (λ c. omega (arith, c.shared-slice-known2.given c.before.before.args.at))
-    (λ c. omega arith) (λ c. omega arith) (λ c. omega arith)
-    (λ c. omega (arith, c.before.shared-slice-known2.given c.before.before.before.args.at))
-    (λ c. omega (arith, at_zero c.before.before.before.args.«data».now c.before.before.before.args.at))
-    (λ c. search rules) (λ c. search rules)
-    (λ c. omega (arith, at_zero c.before.before.before.args.«data».now c.before.before.before.args.at))
-    value_text_requires returns)
+    let w = c.value_text-put.ensures in
+    (whole d a.at c.value_text-put.new.text c.value_text-put.result.end _ (known a.at).fits (cut_octets d (λ i. (known i).fits) (a.at + 2 + x - (a.at + 2)) (a.at + 2)) value_is w.0, w.1 ∙ ap replaced_in (septets_are d a.at _ value_is))

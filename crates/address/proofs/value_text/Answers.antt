@@ -1,5 +1,4 @@
 -- `address::value_text` meets its contract: septets or digits, by the type of number.
--- Assumes nothing.
 use Prim.Native.Nat.{ℕ, ◌*◌, ◌/◌}
 use mathlib.Core.Path.{◌≡◌, sym}
 use mathlib.Core.List.{List, map}
@@ -12,8 +11,7 @@ use Rattle.septets.specs.Septets.{septets_in}
 use Rattle.gsm7.specs.Reading.{text_of, replaced_in}
 use Rattle.gsm7.proofs.DecodingLaws.{text_short}
 use Rattle.address.specs.Address.{digit_character, without_f, value_text, value_septets}
-use Rattle.address.proofs.value_text.Statement.{statement}
-use Rattle.address.proofs.value_text.Tie as tie
+use Rattle.address.proofs.value_text.Goals as goal
 
 module _ (ton count : ℕ) (value : List ℕ) where
   text_is : ton ≡ 5 → let ss = septets_in value 0 (count * 4 / 7) in (value_text ton count value ≡ text_of ss) × (value_septets ton count value ≡ ss)
@@ -25,25 +23,20 @@ module _ (ton count : ℕ) (value : List ℕ) where
   digits_are e = (rw (ne_eqb ton 5 e), rw (ne_eqb ton 5 e))
 
 -- at most 145 septets have a text of at most 290 octets
-unpack_septets_requires : tie.Need-unpack-septets-requires
-unpack_septets_requires c κs =
-    let a = c.before.before.before.args in
-    let p = c.before.before.before.requires in
+pub unpack_septets-requires : goal.unpack_septets-requires
+unpack_septets-requires c =
+    let a = c.args in
+    let p = c.requires in
     (omega arith, omega arith, omega (arith, p.0, p.2, text_short a.value.now 0 (a.count * 4 / 7)))
 
-returns : tie.Need-returns
+pub returns-then-ton-eq-TYPE_OF_NUMBER_ALPHANUMERIC : goal.returns-then-ton-eq-TYPE_OF_NUMBER_ALPHANUMERIC
+returns-then-ton-eq-TYPE_OF_NUMBER_ALPHANUMERIC c =
+    let a = c.args in
+    let is = text_is a.ton a.count a.value.now c.if-ton-eq-TYPE_OF_NUMBER_ALPHANUMERIC.true in
+    rw (is.0, is.1) c.unpack_septets.ensures
+
+pub returns : goal.returns
 returns c =
-    let a = c.before.before.before.before.args in
-    let is = text_is a.ton a.count a.value.now c.before.before.if1.true in
-    rw (is.0, is.1) c.unpack-septets.ensures
-
-returns_2 : tie.Need-returns-2
-returns_2 c =
-    let a = c.before.before.before.before.args in
-    let is = digits_are a.ton a.count a.value.now c.before.before.if1.false in
-    (rw is.0 c.digits-text.ensures, sym is.1)
-
-pub value_text_spec : {M : Type 1} → statement M
-value_text_spec =
-    tie.close (tie.spec (λ c. search rules) unpack_septets_requires returns
-    (λ c κs. search rules) returns_2)
+    let a = c.args in
+    let is = digits_are a.ton a.count a.value.now c.if-ton-eq-TYPE_OF_NUMBER_ALPHANUMERIC.false in
+    (rw is.0 c.digits_text.ensures, sym is.1)

@@ -1,0 +1,22 @@
+use Prim.Native.Nat.{ℕ, ◌+◌, ◌/◌, ◌-◌, ◌≤◌}
+use mathlib.Core.Path.{◌≡◌, refl, ◌∙◌}
+use mathlib.Core.List.{List, map}
+use native.Mathlib.Omega.{arith}
+use native.Mathlib.Nat.{add-zero, add_assoc}
+use lib.ListN.{length, drop, length-map, length-set, drop_of_length-le}
+use lib.Seq.{sets}
+use Rattle.octets.specs.SemiOctets.{in_pairs}
+use Rattle.octets.proofs.Laws.{Left, left_start, left_step, left_end, wrote_one}
+use Rattle.address.specs.Writing.{digit_value}
+use Rattle.address.proofs.DigitCharacters.{pairs_next, digits_size}
+use Rattle.address.proofs.writing.put_digits.Given as goal
+
+abbrev pub octets_of : List ℕ → List ℕ
+octets_of text = in_pairs (map digit_value text)
+
+abbrev pub invariant-loop-j : goal.invariant-loop-j
+invariant-loop-j l =
+    (l.octets ≡ (length l.text + 1) / 2) × (l.j ≤ l.octets) × (length l.out ≡ length l.initial.out) × Left (sets l.initial.out l.at (octets_of l.text)) (l.at + length (octets_of l.text)) l.out (l.at + l.j) (drop l.j (octets_of l.text))
+
+abbrev pub decreases-loop-j : goal.decreases-loop-j
+decreases-loop-j l = l.octets - l.j
