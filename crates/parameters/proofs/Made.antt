@@ -2,7 +2,7 @@
 -- Assumes nothing.
 use Prim.Native.Nat.{ℕ, ◌+◌, ◌*◌, ◌/◌, ◌%◌, ◌≤◌, ◌<◌}
 use mathlib.Core.Path.{◌≡◌, refl, sym}
-use mathlib.Core.Bool.{Bool, true, false, ◌||◌, or_assoc, or_false}
+use mathlib.Core.Bool.{Bool, true, false, ◌||◌, or_assoc, or-false}
 use mathlib.Core.List.{List, [], ◌∷◌, ◌++◌, append-nil, append_assoc}
 use native.Mathlib.Omega.{arith}
 use native.Mathlib.Nat.{div-one, div-div-eq-div-mul}
@@ -54,7 +54,7 @@ data_makes : (dcs udl : OptionalOctet) → or_zero udl < 256 → Makes (DataHeld
 data_makes dcs Absent l = record { octets = refl; limit = refl; counted = refl; few = omega arith }
 data_makes dcs (Present udl) l = λ f o w. record {
   octets = sym (append-nil f);
-  limit = or_false (ltb 140 (length f));
+  limit = or-false (ltb 140 (length f));
   counted = sym w;
   few = omega (arith, data_at_most (coding_of (or_zero dcs)) udl);
 }

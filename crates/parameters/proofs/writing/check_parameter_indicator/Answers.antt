@@ -1,5 +1,4 @@
 -- `parameters::writing::check_parameter_indicator` meets its contract: the tests are the definition's.
--- Assumes nothing.
 use Prim.Native.Nat.{ℕ, ◌+◌, ◌*◌, ◌%◌}
 use mathlib.Core.Path.{◌≡◌}
 use borrow.Author.Tests.{eq-eqb, ne_eqb}
@@ -12,8 +11,7 @@ use Rattle.parameters.specs.Optional.{held}
 use Rattle.parameters.specs.declared.OptionalOctet.{OptionalOctet}
 use Rattle.parameters.proofs.Laws.{one_at_most}
 use Rattle.parameters.specs.Checking.{indicator_checks}
-use Rattle.parameters.proofs.writing.check_parameter_indicator.Statement.{statement}
-use Rattle.parameters.proofs.writing.check_parameter_indicator.Tie as tie
+use Rattle.parameters.proofs.writing.check_parameter_indicator.Goals as goal
 
 -- what the calls tell is held
 module _ (pi : ℕ) (pid dcs udl : OptionalOctet) {a b c : ℕ} (p : a ≡ held pid) (d : b ≡ held dcs) (u : c ≡ held udl) where
@@ -30,17 +28,23 @@ module _ (pi : ℕ) (pid dcs udl : OptionalOctet) {a b c : ℕ} (p : a ≡ held 
     unfolding indicator_checks
     all_fine e = rw (← p, ← d, ← u, eq-eqb _ _ h, ne_eqb (bit 7 pi) 1 e)
 
-pub check_parameter_indicator_spec : {M : Type 1} → statement M
-check_parameter_indicator_spec =
-    tie.close
-    (tie.spec
-    (λ c κs. tt)
-    (λ c κs. tt)
-    (λ c. omega (arith, one_at_most c.before.before.args.dcs))
-    (λ c. omega (arith, one_at_most c.before.before.args.pid, one_at_most c.before.before.args.dcs))
-    (λ c κs. tt)
-    (λ c. omega (arith, one_at_most c.before.before.before.args.udl))
-    (λ c. omega (arith, one_at_most c.before.before.before.args.pid, one_at_most c.before.before.before.args.dcs, one_at_most c.before.before.before.args.udl))
-    (λ c. let d = c.before in disagrees _ _ _ _ d.before.before.octets-held.ensures d.before.octets-held2.ensures d.octets-held3.ensures c.if1.true)
-    (λ c. let d = c.before.before in extended _ _ _ _ d.before.before.octets-held.ensures d.before.octets-held2.ensures d.octets-held3.ensures c.before.if1.false c.if2.true)
-    (λ c. let d = c.before.before in all_fine _ _ _ _ d.before.before.octets-held.ensures d.before.octets-held2.ensures d.octets-held3.ensures c.before.if1.false c.if2.false))
+pub overflow_mul-supplied : goal.overflow_mul-supplied
+overflow_mul-supplied c = omega (arith, one_at_most c.args.dcs)
+
+pub overflow_add-supplied : goal.overflow_add-supplied
+overflow_add-supplied c = omega (arith, one_at_most c.args.pid, one_at_most c.args.dcs)
+
+pub overflow_mul-supplied-2 : goal.overflow_mul-supplied-2
+overflow_mul-supplied-2 c = omega (arith, one_at_most c.args.udl)
+
+pub overflow_add-supplied-2 : goal.overflow_add-supplied-2
+overflow_add-supplied-2 c = omega (arith, one_at_most c.args.pid, one_at_most c.args.dcs, one_at_most c.args.udl)
+
+pub returns-then-indicator-supplied : goal.returns-then-indicator-supplied
+returns-then-indicator-supplied c = let d = c.before in disagrees _ _ _ _ d.octets_held.ensures d.octets_held-2.ensures d.octets_held-3.ensures c.if-indicator-supplied.true
+
+pub returns-then-indicator-eq1 : goal.returns-then-indicator-eq1
+returns-then-indicator-eq1 c = let d = c.before.before in extended _ _ _ _ d.octets_held.ensures d.octets_held-2.ensures d.octets_held-3.ensures c.if-indicator-supplied.false c.if-indicator-eq1.true
+
+pub returns : goal.returns
+returns c = let d = c.before.before in all_fine _ _ _ _ d.octets_held.ensures d.octets_held-2.ensures d.octets_held-3.ensures c.if-indicator-supplied.false c.if-indicator-eq1.false

@@ -1,0 +1,14 @@
+-- `parameters::writing::parameters_size` meets its contract: a sum.
+use borrow.Author.Rules.{rules}
+use native.Mathlib.Omega.{arith}
+use Rattle.parameters.proofs.Laws.{one_at_most}
+use Rattle.parameters.proofs.writing.parameters_size.Goals as goal
+
+pub overflow_add-result : goal.overflow_add-result
+overflow_add-result c = omega (arith, one_at_most c.args.pid, one_at_most c.args.dcs)
+
+pub overflow_add-result-2 : goal.overflow_add-result-2
+overflow_add-result-2 c = let a = c.args in omega (arith, one_at_most a.pid, one_at_most a.dcs, one_at_most a.udl)
+
+pub overflow_add-result-3 : goal.overflow_add-result-3
+overflow_add-result-3 c = let a = c.args in omega (arith, one_at_most a.pid, one_at_most a.dcs, one_at_most a.udl)
