@@ -12,23 +12,16 @@ returns-in_default c = (no_time _ _ _ _ _ _ (sym c.span.ensures ∙ ap span_says
 
 pub returns-in_default-octet : goal.returns-in_default-octet
 returns-in_default-octet c =
-    let t = c.before.before.before in
     (no_udl _ _ _ _ _ _ (sym c.span.ensures ∙ ap span_says c.in-There.is) (sym c.octet.ensures ∙ ap octet_says c.in_default-octet.is), tt)
 
 pub returns-in_default-span : goal.returns-in_default-span
 returns-in_default-span c =
-    let u = c.before.before.before.before.before in
-    let t = u.before.before.before in
     let size = size_told _ _ c.user_data_octets-octets.ensures c.user_data_coding.ensures in
     (no_data _ _ _ _ _ _ (sym c.span.ensures ∙ ap span_says c.in-There.is) (sym c.octet.ensures ∙ ap octet_says c.in-Read.is) size (sym c.span-2.ensures ∙ ap span_says c.in_default-span.is), tt)
 
 pub returns : goal.returns
 unfolding fields_at
 returns c =
-    let d = c.before in
-    let u = d.before.before.before.before.before in
-    let t = u.before.before.before in
-    let entry = t.before.before.before.before in
     let timed = sym c.span.ensures ∙ ap span_says c.in-There.is in
     let counted = sym c.octet.ensures ∙ ap octet_says c.in-Read.is in
     let size = size_told _ _ c.user_data_octets-octets.ensures c.user_data_coding.ensures in
