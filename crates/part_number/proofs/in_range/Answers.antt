@@ -1,10 +1,8 @@
 -- `part_number::in_range` meets its contract.
--- Assumes nothing.
 use Prim.Native.Nat.{◌%◌}
 use mathlib.Core.Path.{◌≡◌}
 use mathlib.Core.Bool.{Bool, true, false, ◌&&◌}
 use mathlib.Core.Option.{some}
-use borrow.Author.Rules.{rules}
 use borrow.Author.Tests.{eq-eqb, ne_eqb}
 use lib.Dec.{eqb}
 use Rattle.octets.specs.Answers.{refuses}
@@ -14,8 +12,7 @@ use Rattle.part_number.specs.declared.Reference.TheVariants.{Eight, Sixteen}
 use Rattle.part_number.specs.declared.Seen.{Seen}
 use Rattle.part_number.specs.Numbering.{numbered, in_range}
 use Rattle.part_number.specs.Internal.{seen_as}
-use Rattle.part_number.proofs.in_range.Statement.{statement}
-use Rattle.part_number.proofs.in_range.Tie as tie
+use Rattle.part_number.proofs.in_range.Goals as goal
 
 -- numbers out of range, of either width
 out_of_range : (s : Seen) → (s.width ≡ 0 → ⊥) → (within 1 8 s.total && within 1 s.total s.number) ≡ false → refuses NotAPart ≡ in_range (seen_as s)
@@ -26,10 +23,18 @@ out_of_range s ne e = rw (ne_eqb s.width 0 ne) (by_eight (eqb s.width 8))
     by_eight true = rw e
     by_eight false = rw e
 
-pub in_range_spec : {M : Type 1} → statement M
+pub returns-then-width-eq0 : goal.returns-then-width-eq0
 unfolding in_range
-in_range_spec =
-    tie.close (tie.spec (λ c. rw (eq-eqb _ _ c.if1.true)) (λ c. search rules)
-    (λ c. rw (ne_eqb _ _ c.before.before.before.if1.false, eq-eqb _ _ c.before.if3.true, c.before.before.if2.true))
-    (λ c. rw (ne_eqb _ _ c.before.before.if1.false, ne_eqb _ _ c.if3.false, c.before.if2.true))
-    (λ c. out_of_range c.before.before.args.seen c.before.if1.false c.if2.false))
+returns-then-width-eq0 c = rw (eq-eqb _ _ c.if-width-eq0.true)
+
+pub returns-then-width-eq8 : goal.returns-then-width-eq8
+unfolding in_range
+returns-then-width-eq8 c = rw (ne_eqb _ _ c.if-width-eq0.false, eq-eqb _ _ c.if-width-eq8.true, c.if-total-number.true)
+
+pub returns-then-total-number : goal.returns-then-total-number
+unfolding in_range
+returns-then-total-number c = rw (ne_eqb _ _ c.if-width-eq0.false, ne_eqb _ _ c.if-width-eq8.false, c.if-total-number.true)
+
+pub returns : goal.returns
+unfolding in_range
+returns c = out_of_range c.args.seen c.if-width-eq0.false c.if-total-number.false

@@ -1,0 +1,106 @@
+-- `header_elements::HeaderElements::encode` meets its contract: each answer is a case of what the writer makes.
+use Prim.Native.Nat.{ℕ, ◌+◌, ◌*◌, ◌≤◌}
+use mir.Syntax.{w8}
+use mir.Val.{Fits}
+use mathlib.Core.Path.{◌≡◌, sym, ◌∙◌}
+use mathlib.Core.List.{◌∷◌}
+use native.Mathlib.Omega.{arith}
+use borrow.Author.Rules.{rules}
+use lib.ListN.{length, get_or, take}
+use Rattle.octets.specs.Answers.{refuses}
+use Rattle.octets.proofs.Laws.{lent_refused, lent_short, lent_written, wrote_then, kept_by}
+use Rattle.header_elements.specs.declared.HeaderElements.{HeaderElements}
+use Rattle.header_elements.specs.Elements.{joined, header_of}
+use Rattle.header_elements.specs.Order.{ordered}
+use Rattle.header_elements.specs.Record.{list_of, needed, total, Typed}
+use Rattle.header_elements.proofs.Held.{identifiers_count, lengths_count, same_count, values_fit, list_size, list_octets}
+use Rattle.header_elements.proofs.Order.{same_size}
+use Rattle.header_elements.proofs.Laws.{makes_none, makes, header_size_lem, too_many}
+use Rattle.header_elements.proofs.HeaderElements.encode.Goals as goal
+
+module _ (r : HeaderElements) (typed : Typed r) (few : r.count ≤ 127) where
+  identifiers_are : length (take r.count r.identifiers) ≡ r.count
+  identifiers_are = identifiers_count r typed few
+
+  lengths_are : length (take r.count r.lengths) ≡ r.count
+  lengths_are = lengths_count r typed few
+
+  module _ (n : ℕ) (counted : n ≡ 2 * length (take r.count r.lengths) + total (take r.count r.lengths)) where
+    is_needed : n ≡ needed r
+    is_needed = omega (arith, lengths_are)
+
+    module _ (h : n ≤ 255) where
+      fits : needed r ≤ 255
+      fits = omega (arith, is_needed)
+
+      size : length (header_of (ordered (list_of r))) ≡ n + 1
+      size = omega (arith, header_size_lem r typed fits, is_needed)
+
+      octets : length (joined (ordered (list_of r))) ≡ n
+      octets = same_size (list_of r) (list_octets r typed) ∙ list_size r typed fits ∙ sym is_needed
+
+      whole : n ∷ joined (ordered (list_of r)) ≡ header_of (ordered (list_of r))
+      unfolding header_of
+      whole = rw octets
+
+pub returns-then-count-gt127 : goal.returns-then-count-gt127
+returns-then-count-gt127 c = lent_refused refuses _ _ (too_many _ c.if-count-gt127.true)
+
+pub octets_needed-needed-requires : goal.octets_needed-needed-requires
+octets_needed-needed-requires c =
+    let t : Typed c.args.self = (search rules, search rules, search rules, λ i. (octet i).fits) in
+    omega (arith, lengths_are c.args.self t c.if-count-gt127.false)
+  where
+    octet : (i : ℕ) → Fits w8 (get_or c.args.self.identifiers i 0)
+    octet i = search rules
+
+pub returns-then-needed-gt255 : goal.returns-then-needed-gt255
+returns-then-needed-gt255 c =
+    let t : Typed c.args.self = (search rules, search rules, search rules, λ i. (octet i).fits) in
+    lent_refused refuses _ _ (makes_none _ (omega (arith, is_needed c.args.self t c.if-count-gt127.false _ c.octets_needed-needed.ensures, c.if-needed-gt255.true)))
+  where
+    octet : (i : ℕ) → Fits w8 (get_or c.args.self.identifiers i 0)
+    octet i = search rules
+
+pub returns-then-out-size : goal.returns-then-out-size
+returns-then-out-size c =
+    let t : Typed c.args.self = (search rules, search rules, search rules, λ i. (octet i).fits) in
+    let h : c.octets_needed-needed.result ≤ 255 = omega arith in
+    lent_short refuses _ (makes _ (fits c.args.self t c.if-count-gt127.false _ c.octets_needed-needed.ensures h)) (omega (arith, size c.args.self t c.if-count-gt127.false _ c.octets_needed-needed.ensures h, c.if-out-size.true))
+  where
+    octet : (i : ℕ) → Fits w8 (get_or c.args.self.identifiers i 0)
+    octet i = search rules
+
+pub put_ordered-requires : goal.put_ordered-requires
+unfolding list_of
+put_ordered-requires c =
+    let r = c.args.self in
+    let t : Typed c.args.self = (search rules, search rules, search rules, λ i. (octet i).fits) in
+    let few = c.if-count-gt127.false in
+    let counted = c.octets_needed-needed.ensures in
+    let h : c.octets_needed-needed.result ≤ 255 = omega arith in
+    let w = c.put_octet-place.ensures in
+    let fit = fits r t few _ counted h in (
+      same_count r t fit,
+      omega (arith, identifiers_are r t few),
+      omega (arith, is_needed r t few _ counted),
+      values_fit r t fit,
+      omega (arith, octets r t few _ counted h, w.place, kept_by w, c.if-out-size.false),
+    )
+  where
+    octet : (i : ℕ) → Fits w8 (get_or c.args.self.identifiers i 0)
+    octet i = search rules
+
+pub returns : goal.returns
+unfolding list_of
+returns c =
+    let r = c.args.self in
+    let t : Typed c.args.self = (search rules, search rules, search rules, λ i. (octet i).fits) in
+    let few = c.if-count-gt127.false in
+    let counted = c.octets_needed-needed.ensures in
+    let h : c.octets_needed-needed.result ≤ 255 = omega arith in
+    let w = wrote_then c.put_octet-place.ensures c.put_ordered.ensures in
+    lent_written _ (makes r (fits r t few _ counted h)) (omega (arith, size r t few _ counted h, c.if-out-size.false)) (rw (whole r t few _ counted h) at w)
+  where
+    octet : (i : ℕ) → Fits w8 (get_or c.args.self.identifiers i 0)
+    octet i = search rules
