@@ -12,7 +12,7 @@ use Rattle.octets.specs.Lent.{Making, refused, made}
 use Rattle.octets.specs.declared.Refusal.{Refusal}
 use Rattle.octets.specs.declared.Refusal.TheVariants.{NotATime}
 use Rattle.octets.proofs.Checks.{passed, against, all_passed, one_against}
-use Rattle.time.proofs.Laws.{time_size}
+use Rattle.time.proofs.Laws.{time_size as time_long}
 use Rattle.layout.specs.Layout.{first_octet}
 use Rattle.parameters.specs.Checking.{indicator_checks, data_within}
 use Rattle.parameters.specs.Optional.{held}
@@ -23,7 +23,7 @@ use Rattle.report.specs.Report.{time_size, octets_of}
 use Rattle.report.specs.Internal.{time_if, time_holds, fields_with, making}
 
 pub timed_size : (hasTime : Bool) (digits : List ℕ) → time_holds hasTime digits ≡ true → length (time_if hasTime digits) ≡ time_size hasTime
-timed_size true digits e = time_size digits e
+timed_size true digits e = time_long digits e
 timed_size false digits e = refl
 
 -- a report's only flag

@@ -1,0 +1,6 @@
+-- `SmsStatusReport::encode_to_standard` meets its contract: within 131.
+use borrow.Author.Rules.{rules}
+use Rattle.status_report.proofs.SmsStatusReport.encode_to_standard.Goals as goal
+
+pub returns : goal.returns
+returns c = c.encode_within.ensures

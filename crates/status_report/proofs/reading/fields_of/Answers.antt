@@ -1,0 +1,41 @@
+-- `status_report::reading::fields_of` meets its contract: it finds what the layout reads.
+use mathlib.Core.Path.{◌≡◌, sym, ◌∙◌, ap}
+use Rattle.octets.specs.Answers.{gives, octet_says, span_says}
+use Rattle.octets.specs.Places.{octet_at}
+use Rattle.octets.proofs.Places.{start}
+use Rattle.address.specs.Internal.{address_span}
+use Rattle.status_report.proofs.FieldByField.{no_first, other_type, no_reference, no_address, to_address_lem}
+use Rattle.status_report.proofs.reading.fields_of.Goals as goal
+use Rattle.status_report.proofs.reading.fields_of.Tie as tie
+use Rattle.status_report.proofs.reading.fields_of.Given as given
+use Rattle.status_report.proofs.reading.fields_of.Lts as lts
+use Rattle.status_report.proofs.reading.fields_of.Reads as reads
+
+-- the fields that were read
+first : (f : lts.Past-After-known_told tie.the-claims reads.Pre reads.Post) → let x = f.first-1.given.0 in octet_at f.args.«data».now start ≡ gives (x.0, x.1.0)
+first f = sym f.octet.ensures ∙ ap octet_says f.in-Read.is
+
+reference : (m : lts.Past-After-known_told2 tie.the-claims reads.Pre reads.Post) → let x = m.mr-1.given.0 in octet_at m.args.«data».now m.in-Read.place ≡ gives (x.0, x.1.0)
+reference m = sym m.octet-2.ensures ∙ ap octet_says m.in-Read-octet.is
+
+address : (a : lts.Past-After-known_told3 tie.the-claims reads.Pre reads.Post) → let x = a.address-1.given.0 in address_span a.args.«data».now a.in-Read-octet.place2 ≡ gives (x.0, x.1.0)
+address a = sym a.address_span.ensures ∙ ap span_says a.in-There.is
+
+pub returns-in_default : goal.returns-in_default
+returns-in_default c = (no_first _ (sym c.octet.ensures ∙ ap octet_says c.in_default.is), tt)
+
+pub returns-then-first-ne-MTI_STATUS_REPORT : goal.returns-then-first-ne-MTI_STATUS_REPORT
+returns-then-first-ne-MTI_STATUS_REPORT c = (other_type _ (first c.before.before) c.if-first-ne-MTI_STATUS_REPORT.true, tt)
+
+pub returns-in_default-octet : goal.returns-in_default-octet
+returns-in_default-octet c = (no_reference _ (first c.before.before.before.before) c.if-first-ne-MTI_STATUS_REPORT.false (sym c.octet-2.ensures ∙ ap octet_says c.in_default-octet.is), tt)
+
+pub returns-in_default-address_span : goal.returns-in_default-address_span
+returns-in_default-address_span c = (no_address _ (first c.before.before.before.before.before.before) c.if-first-ne-MTI_STATUS_REPORT.false (reference c.before.before.before) (sym c.address_span.ensures ∙ ap span_says c.in_default-address_span.is), tt)
+
+pub after_address-requires : goal.after_address-requires
+after_address-requires c = let (room, past, is, place) = to_address_lem _ (first c.before.before.before.before.before.before) c.if-first-ne-MTI_STATUS_REPORT.false (reference c.before.before.before) (address c.before) in (room, past)
+
+pub returns : goal.returns
+returns c = let r = c.after_address.ensures in
+    let (room, past, is, place) = to_address_lem _ (first c.before.before.before.before.before.before.before) c.if-first-ne-MTI_STATUS_REPORT.false (reference c.before.before.before.before) (address c.before.before) in (r.0 ∙ is, rw place at r.1)
