@@ -7,18 +7,17 @@ use Rattle.octets.proofs.Places.{octet_read, span_inside}
 use Rattle.status_report.proofs.FieldByField.{no_time, no_discharge, no_status, to_status_lem}
 use Rattle.status_report.proofs.reading.after_address.Goals as goal
 use Rattle.status_report.proofs.reading.after_address.Tie as tie
-use Rattle.status_report.proofs.reading.after_address.Given as given
 use Rattle.status_report.proofs.reading.after_address.Lts as lts
 use Rattle.status_report.proofs.reading.after_address.Reads as reads
 
 -- the fields that were read
-timestamp : (t : lts.Past-After-known_told tie.the-claims reads.Pre reads.Post) → let a = t.args in let x = t.timestamp-1.given.0 in span_at a.«data».now a.place 7 ≡ gives (x.0, x.1.0)
+timestamp : (t : lts.Past-After-known_told tie.the-claims reads.Pre reads.Post) → let a = t.args in span_at a.«data».now a.place 7 ≡ gives (t.in-There.timestamp, t.in-There.place2)
 timestamp t = sym t.span.ensures ∙ ap span_says t.in-There.is
 
-discharge : (d : lts.Past-After-known_told2 tie.the-claims reads.Pre reads.Post) → let x = d.discharge-1.given.0 in span_at d.args.«data».now d.in-There.place2 7 ≡ gives (x.0, x.1.0)
+discharge : (d : lts.Past-After-known_told2 tie.the-claims reads.Pre reads.Post) → span_at d.args.«data».now d.in-There.place2 7 ≡ gives (d.in-There-span.discharge, d.in-There-span.place3)
 discharge d = sym d.span-2.ensures ∙ ap span_says d.in-There-span.is
 
-status : (c : lts.Past-After-known_told3 tie.the-claims reads.Pre reads.Post) → let x = c.status-1.given.0 in octet_at c.args.«data».now c.in-There-span.place3 ≡ gives (x.0, x.1.0)
+status : (c : lts.Past-After-known_told3 tie.the-claims reads.Pre reads.Post) → octet_at c.args.«data».now c.in-There-span.place3 ≡ gives (c.in-Read.status, c.in-Read.place4)
 status c = sym c.octet.ensures ∙ ap octet_says c.in-Read.is
 
 pub returns-in_default : goal.returns-in_default

@@ -9,7 +9,6 @@ use Rattle.status_report.specs.Internal.{fields_at}
 use Rattle.status_report.proofs.FieldByField.{ended, no_indicator, no_parameters_lem, whole}
 use Rattle.status_report.proofs.reading.after_status.Goals as goal
 use Rattle.status_report.proofs.reading.after_status.Tie as tie
-use Rattle.status_report.proofs.reading.after_status.Given as given
 use Rattle.status_report.proofs.reading.after_status.Lts as lts
 use Rattle.status_report.proofs.reading.after_status.Reads as reads
 
@@ -17,14 +16,11 @@ use Rattle.status_report.proofs.reading.after_status.Reads as reads
 announced : (i : lts.Past-After-known_told tie.the-claims reads.Pre reads.Post) → let a = i.args in indicator_at a.«data».now a.place ≡ gives (i.in-Read.indicator, i.in-Read.next)
 announced i = sym i.read_indicator.ensures ∙ ap octet_says i.in-Read.is
 
-found : (c : lts.After-struct_known tie.the-claims reads.Pre reads.Post) → let i = c.before.before.before in let p = c.pid-1.given.0 in
-    Found c.args.«data».now c.in-Read.next.at c.in-Read.indicator p.0 p.1.0 p.1.1.0 p.1.1.1.0 p.1.1.1.1.0
+found : (c : lts.After-struct_known tie.the-claims reads.Pre reads.Post) → let i = c.before.before.before in Found c.args.«data».now c.in-Read.next.at c.in-Read.indicator c.in-Read-read_parameters.pid c.in-Read-read_parameters.dcs c.in-Read-read_parameters.udl c.in-Read-read_parameters.size c.in-Read-read_parameters.after
 found c =
     let i = c.before.before.before in
     parameters_after _ _ (announced i) (λ j. (c.shared_slice_known-1.given j).fits)
     (sym c.read_parameters.ensures ∙ ap parameters_says c.in-Read-read_parameters.is)
-
--- TODO placed twice: (λ c. omega (arith, (found c).start))
 
 pub returns-then-at-data : goal.returns-then-at-data
 unfolding fields_at
@@ -45,3 +41,6 @@ returns c =
     let p = c.requires in
     let f = found c.before in
     (whole _ _ _ c.if-at-data.false (announced i) f, (p.0, p.1, p.2, omega (arith, f.start, f.end), f.few, refl))
+
+pub overflow_sub-result : goal.overflow_sub-result
+overflow_sub-result c = omega (arith, (found c.before).start)

@@ -7,18 +7,17 @@ use Rattle.address.specs.Internal.{address_span}
 use Rattle.status_report.proofs.FieldByField.{no_first, other_type, no_reference, no_address, to_address_lem}
 use Rattle.status_report.proofs.reading.fields_of.Goals as goal
 use Rattle.status_report.proofs.reading.fields_of.Tie as tie
-use Rattle.status_report.proofs.reading.fields_of.Given as given
 use Rattle.status_report.proofs.reading.fields_of.Lts as lts
 use Rattle.status_report.proofs.reading.fields_of.Reads as reads
 
 -- the fields that were read
-first : (f : lts.Past-After-known_told tie.the-claims reads.Pre reads.Post) → let x = f.first-1.given.0 in octet_at f.args.«data».now start ≡ gives (x.0, x.1.0)
+first : (f : lts.Past-After-known_told tie.the-claims reads.Pre reads.Post) → octet_at f.args.«data».now start ≡ gives (f.in-Read.first, f.in-Read.place)
 first f = sym f.octet.ensures ∙ ap octet_says f.in-Read.is
 
-reference : (m : lts.Past-After-known_told2 tie.the-claims reads.Pre reads.Post) → let x = m.mr-1.given.0 in octet_at m.args.«data».now m.in-Read.place ≡ gives (x.0, x.1.0)
+reference : (m : lts.Past-After-known_told2 tie.the-claims reads.Pre reads.Post) → octet_at m.args.«data».now m.in-Read.place ≡ gives (m.in-Read-octet.mr, m.in-Read-octet.place2)
 reference m = sym m.octet-2.ensures ∙ ap octet_says m.in-Read-octet.is
 
-address : (a : lts.Past-After-known_told3 tie.the-claims reads.Pre reads.Post) → let x = a.address-1.given.0 in address_span a.args.«data».now a.in-Read-octet.place2 ≡ gives (x.0, x.1.0)
+address : (a : lts.Past-After-known_told3 tie.the-claims reads.Pre reads.Post) → address_span a.args.«data».now a.in-Read-octet.place2 ≡ gives (a.in-There.address, a.in-There.place3)
 address a = sym a.address_span.ensures ∙ ap span_says a.in-There.is
 
 pub returns-in_default : goal.returns-in_default

@@ -1,8 +1,0 @@
--- `SmsSubmitReport::encode` meets its contract: within 140.
--- Assumes nothing.
-use borrow.Author.Rules.{rules}
-use Rattle.submit_report.proofs.SmsSubmitReport.encode.Statement.{statement}
-use Rattle.submit_report.proofs.SmsSubmitReport.encode.Tie as tie
-
-pub encode_spec : {M : Type 1} → statement M
-encode_spec = tie.close (tie.spec (λ c κs. tt) (λ c. search rules) (λ c. c.before.before.encode-within.ensures))
