@@ -15,9 +15,9 @@ put_octets-at-requires c = rw (length-take-le _ _ c.requires.0) (omega (arith, c
 pub unpack_septets-requires : goal.unpack_septets-requires
 unpack_septets-requires c =
     let p = c.requires in
-    text_room _ _ _ p.0 p.1 p.2 c.header_septets.ensures c.put_octets-at.ensures p.3
+    text_room _ _ _ p.0 p.1 p.2 c.header_septets-in_header.ensures c.put_octets-at.ensures p.3
 
 pub returns : goal.returns
 returns c =
     let p = c.requires in
-    with_text _ _ _ p.0 p.1 p.2 c.header_septets.ensures c.put_octets-at.ensures c.unpack_septets.ensures
+    with_text _ _ _ p.0 p.1 p.2 c.header_septets-in_header.ensures c.put_octets-at.ensures c.unpack_septets.ensures

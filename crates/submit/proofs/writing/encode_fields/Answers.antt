@@ -55,7 +55,7 @@ module _ (c : lts.Past-After-known_told3 tie.the-claims reads.Pre reads.Post) wh
   ud = (start begun).args.«data».now
 
   abbrev enhanced : List ℕ
-  enhanced = (start begun).args.t7
+  enhanced = (start begun).args.enhanced
 
   abbrev octets : List ℕ
   octets = octets_in (values begun) (start begun).args.text.now (period_octets (values begun).period digits enhanced) ud
@@ -79,8 +79,6 @@ module _ (c : lts.Past-After-known_told3 tie.the-claims reads.Pre reads.Post) wh
 
 time_held : (c : lts.Else4 tie.the-claims reads.Pre reads.Post) → time_holds (values (begun c.before.before)).period (digits c.before.before) ≡ true
 time_held c = sym c.check_period.ensures ∙ c.if-not-check_period.false
-
--- TODO placed twice: (λ c. sym (seven c.before.before.before.before.before))
 
 pub returns-then-mti-ne-MTI_SUBMIT : goal.returns-then-mti-ne-MTI_SUBMIT
 returns-then-mti-ne-MTI_SUBMIT c = lent_refused refuses _ _ (another_type _ _ _ _ _ _ _ _ c.if-mti-ne-MTI_SUBMIT.true)
