@@ -4,7 +4,6 @@ use mathlib.Core.Path.{◌≡◌, refl, ap, ◌∙◌}
 use mathlib.Core.List.{List, [], ◌∷◌}
 use native.Mathlib.Omega.{arith}
 use native.Mathlib.Nat.{add-zero, zero-add}
-use borrow.Author.Rules.{rules}
 use lib.ListN.{length, get_or, take, drop, replicate}
 use lib.Seq.{get_or-drop, get_or-take, drop-drop, take-nil}
 use Rattle.octets.specs.Each.{Octets}

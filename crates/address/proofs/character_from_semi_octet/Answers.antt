@@ -1,7 +1,6 @@
 -- `address::character_from_semi_octet` meets its contract: each arm is a case of the ranges.
 use mathlib.Core.Path.{sym}
 use native.Mathlib.Omega.{arith}
-use borrow.Author.Rules.{rules}
 use borrow.Author.Tests.{le-leb, lt-leb, ne_eqb}
 use Rattle.address.proofs.SemiOctets.{character_by_range_lem}
 use Rattle.address.proofs.character_from_semi_octet.Goals as goal

@@ -1,15 +1,15 @@
 -- `address::digits_text` meets its contract: the digits that are left, stored too, still give the whole.
-use Prim.Native.Nat.{ℕ, ◌+◌, ◌/◌, ◌-◌, ◌≤◌, ◌<◌}
+use Prim.Native.Nat.{ℕ, ◌+◌, ◌/◌, ◌≤◌, ◌<◌}
 use mathlib.Core.Path.{◌≡◌, refl, sym, ◌∙◌}
-use mathlib.Core.List.{List, [], ◌∷◌, map}
+use mathlib.Core.List.{List, [], ◌∷◌}
 use native.Mathlib.Omega.{arith}
 use native.Mathlib.Numerals.{add-one}
 use borrow.Author.Tests.{eq-eqb, ne_eqb}
 use lib.ListN.{length, get_or, take, drop, length-set, drop_of_length-le}
-use lib.Seq.{sets, drop-cons, get_or-take, length-take-le}
+use lib.Seq.{drop-cons, get_or-take, length-take-le}
 use Rattle.octets.specs.SemiOctets.{semi_octets}
 use Rattle.octets.proofs.SemiOctets.{length_semi}
-use Rattle.octets.proofs.Laws.{Left, left_start, left_step, left_end, wrote_one}
+use Rattle.octets.proofs.Laws.{left_start, left_step, left_end, wrote_one}
 use Rattle.address.specs.Address.{digit_character, without_f}
 use Rattle.address.proofs.digits_text.Invariants.{digits_in}
 use Rattle.address.proofs.digits_text.Goals as goal

@@ -2,7 +2,6 @@
 use Prim.Native.Nat.{◌+◌, ◌*◌, ◌/◌}
 use mathlib.Core.Path.{◌≡◌, sym}
 use native.Mathlib.Omega.{arith}
-use borrow.Author.Rules.{rules}
 use Rattle.address.proofs.SemiOctets.{semi_low, semi_high}
 use Rattle.address.proofs.semi_octet.Goals as goal
 

@@ -1,5 +1,4 @@
 -- `coding::data_with` meets its contract.
-use borrow.Author.Rules.{rules}
 use Rattle.coding.specs.Coding.{data_with}
 use Rattle.coding.proofs.data_with.Goals as goal
 

@@ -1,5 +1,4 @@
 -- `coding::user_data_octets` meets its contract: each arm knows its coding.
-use native.Mathlib.Omega.{arith}
 use Rattle.coding.specs.Coding.{data_octets}
 use Rattle.coding.proofs.user_data_octets.Goals as goal
 

@@ -1,12 +1,11 @@
 -- `octets::put_octets` meets its contract: what is left of the octets is stored one by one.
-use Prim.Native.Nat.{◌+◌, ◌-◌, ◌≤◌}
-use mathlib.Core.Path.{◌≡◌, refl}
+use mathlib.Core.Path.{refl}
 use native.Mathlib.Omega.{arith}
 use native.Mathlib.Nat.{add-zero, add_assoc}
 use native.Mathlib.Numerals.{add-one}
-use lib.ListN.{length, drop, length-set, drop_of_length-le}
-use lib.Seq.{sets, drop-cons}
-use Rattle.octets.proofs.Laws.{Left, left_start, left_step, left_end, wrote_one}
+use lib.ListN.{length-set, drop_of_length-le}
+use lib.Seq.{drop-cons}
+use Rattle.octets.proofs.Laws.{left_start, left_step, left_end, wrote_one}
 use Rattle.octets.proofs.put_octets.Goals as goal
 
 pub loop-i-init : goal.loop-i-init

@@ -1,15 +1,10 @@
-use Prim.Native.Nat.{◌+◌, ◌-◌, ◌*◌, ◌/◌, ◌^◌, ◌<◌, ◌≤◌}
-use mathlib.Core.Path.{◌≡◌, refl, sym, ◌∙◌}
-use mathlib.Core.List.{[], append-nil}
-use native.Mathlib.Omega.{arith}
-use lib.ListN.{length, take, drop}
-use lib.Pow.{shr_lt, pow_pos}
+use Prim.Native.Nat.{◌+◌, ◌-◌, ◌^◌, ◌<◌, ◌≤◌}
+use mathlib.Core.Path.{◌≡◌}
+use lib.ListN.{length, drop}
 use lib.Seq.{sets}
-use Rattle.octets.proofs.Laws.{Left, left_start, left_step, left_over, left_end, kept_by}
-use Rattle.septets.specs.Septets.{packed_septets, octet_count, lowest_digits, number_of}
-use Rattle.septets.proofs.Number.{length_digits}
-use Rattle.septets.proofs.Inverse.{length_packed}
-use Rattle.septets.proofs.Packing.{packed_over, packed_start, packed_step, packed_end, length_over, eight_digits, window_lt}
+use Rattle.octets.proofs.Laws.{Left}
+use Rattle.septets.specs.Septets.{packed_septets}
+use Rattle.septets.proofs.Packing.{packed_over}
 use Rattle.septets.proofs.pack_octets.Given as goal
 
 abbrev pub invariant-loop-i : goal.invariant-loop-i

@@ -1,11 +1,10 @@
 -- `septets::put_number` meets its contract: the digits that are left are those of the quotient, and are stored one by one.
-use Prim.Native.Nat.{suc, ◌+◌, ◌-◌, ◌≤◌}
+use Prim.Native.Nat.{suc, ◌+◌, ◌-◌}
 use mathlib.Core.Path.{◌≡◌, refl}
 use native.Mathlib.Omega.{arith}
 use native.Mathlib.Nat.{add-zero, add_assoc, sub-zero}
-use lib.ListN.{length, length-set}
-use lib.Seq.{sets}
-use Rattle.octets.proofs.Laws.{Left, left_start, left_step, left_end, wrote_one}
+use lib.ListN.{length-set}
+use Rattle.octets.proofs.Laws.{left_start, left_step, left_end, wrote_one}
 use Rattle.septets.specs.Septets.{lowest_digits}
 use Rattle.septets.proofs.Number.{length_digits}
 use Rattle.septets.proofs.put_number.Goals as goal

@@ -1,12 +1,9 @@
-use Prim.Native.Nat.{suc, ◌+◌, ◌-◌, ◌≤◌}
-use mathlib.Core.Path.{◌≡◌, refl}
-use native.Mathlib.Omega.{arith}
-use native.Mathlib.Nat.{add-zero, add_assoc, sub-zero}
-use lib.ListN.{length, length-set}
+use Prim.Native.Nat.{◌+◌, ◌-◌, ◌≤◌}
+use mathlib.Core.Path.{◌≡◌}
+use lib.ListN.{length}
 use lib.Seq.{sets}
-use Rattle.octets.proofs.Laws.{Left, left_start, left_step, left_end, wrote_one}
+use Rattle.octets.proofs.Laws.{Left}
 use Rattle.septets.specs.Septets.{lowest_digits}
-use Rattle.septets.proofs.Number.{length_digits}
 use Rattle.septets.proofs.put_number.Given as goal
 
 abbrev pub invariant-loop-j : goal.invariant-loop-j

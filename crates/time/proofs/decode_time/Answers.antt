@@ -1,10 +1,10 @@
 -- `time::decode_time` meets its contract: the digits of the octets that are left are stored pair by pair.
-use Prim.Native.Nat.{◌+◌, ◌*◌, ◌-◌}
+use Prim.Native.Nat.{◌+◌, ◌*◌}
 use mathlib.Core.Path.{◌≡◌, ◌∙◌}
 use native.Mathlib.Omega.{arith}
-use lib.ListN.{length, take, drop, length-drop}
-use lib.Seq.{sets, get_or-drop, get_or-take, length-take-le}
-use Rattle.octets.proofs.Laws.{sets_full, Left, left_start, left_step, left_end, wrote_one, wrote_then}
+use lib.ListN.{take, drop, length-drop}
+use lib.Seq.{get_or-drop, get_or-take, length-take-le}
+use Rattle.octets.proofs.Laws.{sets_full, left_start, left_step, left_end, wrote_one, wrote_then}
 use Rattle.time.specs.Time.{time_digits}
 use Rattle.time.proofs.Laws.{length_digits, digits_next, digits_end}
 use Rattle.time.proofs.decode_time.Goals as goal

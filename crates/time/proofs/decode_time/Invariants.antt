@@ -1,11 +1,9 @@
 use Prim.Native.Nat.{◌+◌, ◌*◌, ◌-◌}
-use mathlib.Core.Path.{◌≡◌, ◌∙◌}
-use native.Mathlib.Omega.{arith}
-use lib.ListN.{length, take, drop, length-drop}
-use lib.Seq.{sets, get_or-drop, get_or-take, length-take-le}
-use Rattle.octets.proofs.Laws.{sets_full, Left, left_start, left_step, left_end, wrote_one, wrote_then}
+use mathlib.Core.Path.{◌≡◌}
+use lib.ListN.{length, take, drop}
+use lib.Seq.{sets}
+use Rattle.octets.proofs.Laws.{Left}
 use Rattle.time.specs.Time.{time_digits}
-use Rattle.time.proofs.Laws.{length_digits, digits_next, digits_end}
 use Rattle.time.proofs.decode_time.Given as goal
 
 abbrev pub invariant-loop-i : goal.invariant-loop-i

@@ -1,12 +1,9 @@
 -- `time::encode_time` meets its contract: the octets of the digits that are left are stored one by one.
-use Prim.Native.Nat.{◌+◌, ◌*◌, ◌-◌, ◌≤◌}
-use mathlib.Core.Path.{◌≡◌, refl}
+use mathlib.Core.Path.{refl}
 use native.Mathlib.Nat.{add-zero, add_assoc}
 use native.Mathlib.Omega.{arith}
-use lib.ListN.{length, drop, length-set}
-use lib.Seq.{sets}
-use Rattle.octets.proofs.Laws.{Left, left_start, left_step, left_end, wrote_one}
-use Rattle.time.specs.Time.{time_octets}
+use lib.ListN.{length-set}
+use Rattle.octets.proofs.Laws.{left_start, left_step, left_end, wrote_one}
 use Rattle.time.proofs.Laws.{time_means, octets_next, octets_end}
 use Rattle.time.proofs.encode_time.Goals as goal
 

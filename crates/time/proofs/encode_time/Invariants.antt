@@ -1,12 +1,9 @@
 use Prim.Native.Nat.{◌+◌, ◌*◌, ◌-◌, ◌≤◌}
-use mathlib.Core.Path.{◌≡◌, refl}
-use native.Mathlib.Nat.{add-zero, add_assoc}
-use native.Mathlib.Omega.{arith}
-use lib.ListN.{length, drop, length-set}
+use mathlib.Core.Path.{◌≡◌}
+use lib.ListN.{length, drop}
 use lib.Seq.{sets}
-use Rattle.octets.proofs.Laws.{Left, left_start, left_step, left_end, wrote_one}
+use Rattle.octets.proofs.Laws.{Left}
 use Rattle.time.specs.Time.{time_octets}
-use Rattle.time.proofs.Laws.{time_means, octets_next, octets_end}
 use Rattle.time.proofs.encode_time.Given as goal
 
 abbrev pub invariant-loop-i : goal.invariant-loop-i

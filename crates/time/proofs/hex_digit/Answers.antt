@@ -1,5 +1,4 @@
 -- `time::hex_digit` meets its contract, value by value.
-use native.Mathlib.Omega.{arith}
 use Rattle.time.proofs.Hex.{hex_digit_lem}
 use Rattle.time.proofs.hex_digit.Goals as goal
 

@@ -1,10 +1,7 @@
 -- `time::is_time` meets its contract: the digits that are left decide.
-use Prim.Native.Nat.{◌-◌}
-use mathlib.Core.Path.{◌≡◌, sym, ◌∙◌}
+use mathlib.Core.Path.{sym, ◌∙◌}
 use native.Mathlib.Omega.{arith}
-use borrow.Author.Tests.{eq-eqb, ne_eqb, not-true, not-false}
-use lib.ListN.{length, drop}
-use Rattle.octets.specs.Each.{each}
+use borrow.Author.Tests.{eq-eqb, ne_eqb}
 use Rattle.octets.proofs.Each.{each_next, each_fails, each_end}
 use Rattle.time.specs.Time.{is_hex, is_time}
 use Rattle.time.proofs.is_time.Goals as goal

@@ -1,7 +1,6 @@
 -- `user_data_header::header_and_text` meets its contract: the text fits its array.
-use mathlib.Core.Path.{◌≡◌, sym}
+use mathlib.Core.Path.{sym}
 use native.Mathlib.Nat.{zero-add}
-use borrow.Author.Rules.{rules}
 use lib.Seq.{length-take-le}
 use Rattle.gsm7.proofs.DecodingLaws.{text_fits}
 use Rattle.user_data_header.proofs.Cases.{both_stored}

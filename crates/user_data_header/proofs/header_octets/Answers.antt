@@ -1,5 +1,4 @@
 -- `user_data_header::header_octets` meets its contract: an octet is below 256.
-use mathlib.Core.Path.{◌≡◌}
 use native.Mathlib.Omega.{arith}
 use Rattle.user_data_header.proofs.header_octets.Goals as goal
 

@@ -1,5 +1,4 @@
 -- `user_data_header::in_count` meets its contract: only 7-bit coding counts septets.
-use borrow.Author.Rules.{rules}
 use Rattle.user_data_header.specs.Header.{in_count}
 use Rattle.user_data_header.proofs.in_count.Goals as goal
 

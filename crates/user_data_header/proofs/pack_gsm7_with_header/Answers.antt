@@ -1,5 +1,5 @@
 -- `user_data_header::pack_gsm7_with_header` meets its contract.
-use mathlib.Core.Path.{◌≡◌, ◌∙◌}
+use mathlib.Core.Path.{◌∙◌}
 use native.Mathlib.Omega.{arith}
 use Rattle.octets.proofs.Laws.{lent_refused}
 use Rattle.gsm7.specs.Packing.{not_packed}

@@ -1,10 +1,9 @@
 -- `address::writing::all_digits` meets its contract: the characters that are left decide.
-use Prim.Native.Nat.{◌-◌, ◌≤◌, ◌<◌}
-use mathlib.Core.Path.{◌≡◌, refl, sym, ◌∙◌}
+use Prim.Native.Nat.{◌≤◌, ◌<◌}
+use mathlib.Core.Path.{refl, sym, ◌∙◌}
 use native.Mathlib.Omega.{arith}
 use borrow.Author.Tests.{lt-ltb, le-ltb}
-use lib.ListN.{length, get_or, drop}
-use Rattle.octets.specs.Each.{each}
+use lib.ListN.{get_or}
 use Rattle.octets.proofs.Each.{each_next, each_fails, each_end}
 use Rattle.address.specs.Writing.{digit_value, is_digit}
 use Rattle.address.proofs.DigitCharacters.{value_small}

@@ -1,6 +1,5 @@
 -- `address::writing::check_address` meets its contract: each answer is a case of the definition.
 use mathlib.Core.Path.{sym, ap, ◌∙◌}
-use borrow.Author.Tests.{not-true, not-false}
 use Rattle.address.specs.Internal.{check_of}
 use Rattle.address.proofs.Checks.{wrong_type, wrong_plan, text_making, digits_none, digits_long, digits_fine}
 use Rattle.address.proofs.writing.check_address.Goals as goal

@@ -1,6 +1,6 @@
 -- `address::writing::check_text` meets its contract: eleven septets take ten octets, twelve take eleven.
 use Prim.Native.Nat.{ℕ}
-use mathlib.Core.Path.{◌≡◌, refl, sym}
+use mathlib.Core.Path.{◌≡◌, sym}
 use native.Mathlib.Omega.{arith}
 use mathlib.Core.List.{List}
 use mathlib.Core.Option.{some}
@@ -9,7 +9,6 @@ use lib.Seq.{sets}
 use Rattle.gsm7.specs.Writing.{septets_of}
 use Rattle.gsm7.proofs.Scanning.{scanned_some, scanned_not}
 use Rattle.address.proofs.Checks.{text_none, text_long, text_fine}
-use Rattle.gsm7.proofs.encode.scan_text.Reads as scan-text-reads
 use Rattle.address.proofs.writing.check_text.Goals as goal
 use Rattle.address.proofs.writing.check_text.Tie as tie
 use Rattle.address.proofs.writing.check_text.Lts as lts

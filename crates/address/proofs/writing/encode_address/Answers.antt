@@ -6,8 +6,6 @@ use Rattle.octets.proofs.Laws.{kept_by, lent_refused, lent_short, lent_written}
 use Rattle.address.specs.Writing.{address_making, address_check_says}
 use Rattle.address.specs.Internal.{check_of}
 use Rattle.address.proofs.Checks.{fine_small, fine_size, fine_made, refused_made}
-use Rattle.address.proofs.writing.check_address.Reads as check-address-reads
-use Rattle.address.proofs.writing.put_address.Reads as put-address-reads
 use Rattle.address.proofs.writing.encode_address.Goals as goal
 use Rattle.address.proofs.writing.encode_address.Tie as tie
 use Rattle.address.proofs.writing.encode_address.Lts as lts

@@ -1,13 +1,11 @@
 -- `address::writing::put_digits` meets its contract: the octets that are left, stored too, still give the whole.
-use Prim.Native.Nat.{ℕ, ◌+◌, ◌/◌, ◌-◌, ◌≤◌}
-use mathlib.Core.Path.{◌≡◌, refl, ◌∙◌}
-use mathlib.Core.List.{List, map}
+use Prim.Native.Nat.{◌≤◌}
+use mathlib.Core.Path.{refl, ◌∙◌}
+use mathlib.Core.List.{map}
 use native.Mathlib.Omega.{arith}
 use native.Mathlib.Nat.{add-zero, add_assoc}
-use lib.ListN.{length, drop, length-map, length-set, drop_of_length-le}
-use lib.Seq.{sets}
-use Rattle.octets.specs.SemiOctets.{in_pairs}
-use Rattle.octets.proofs.Laws.{Left, left_start, left_step, left_end, wrote_one}
+use lib.ListN.{length, length-map, length-set, drop_of_length-le}
+use Rattle.octets.proofs.Laws.{left_start, left_step, left_end, wrote_one}
 use Rattle.address.specs.Writing.{digit_value}
 use Rattle.address.proofs.DigitCharacters.{pairs_next, digits_size}
 use Rattle.address.proofs.writing.put_digits.Invariants.{octets_of}

@@ -1,14 +1,11 @@
 use Prim.Native.Nat.{ℕ, ◌+◌, ◌/◌, ◌-◌, ◌≤◌}
-use mathlib.Core.Path.{◌≡◌, refl, ◌∙◌}
+use mathlib.Core.Path.{◌≡◌}
 use mathlib.Core.List.{List, map}
-use native.Mathlib.Omega.{arith}
-use native.Mathlib.Nat.{add-zero, add_assoc}
-use lib.ListN.{length, drop, length-map, length-set, drop_of_length-le}
+use lib.ListN.{length, drop}
 use lib.Seq.{sets}
 use Rattle.octets.specs.SemiOctets.{in_pairs}
-use Rattle.octets.proofs.Laws.{Left, left_start, left_step, left_end, wrote_one}
+use Rattle.octets.proofs.Laws.{Left}
 use Rattle.address.specs.Writing.{digit_value}
-use Rattle.address.proofs.DigitCharacters.{pairs_next, digits_size}
 use Rattle.address.proofs.writing.put_digits.Given as goal
 
 abbrev pub octets_of : List ℕ → List ℕ

@@ -1,11 +1,11 @@
 -- `address::writing::put_septets` meets its contract: the text has septets, and they are packed.
 use Prim.Native.Nat.{ℕ, ◌≤◌}
-use mathlib.Core.Path.{◌≡◌, refl, sym, ap, subst, ◌∙◌}
+use mathlib.Core.Path.{◌≡◌, sym, ap, subst, ◌∙◌}
 use mathlib.Core.List.{List}
 use mathlib.Core.Option.{Option, none, some}
 use native.Mathlib.Omega.{arith}
 use lib.ListN.{length, take, replicate}
-use lib.Seq.{sets, length-sets, length-take-le}
+use lib.Seq.{sets, length-sets}
 use Rattle.octets.proofs.Laws.{kept_by}
 use Rattle.septets.specs.Septets.{Digits}
 use Rattle.gsm7.specs.Writing.{septets_of}
@@ -13,8 +13,6 @@ use Rattle.gsm7.proofs.Adequate.{septets_digits}
 use Rattle.gsm7.proofs.Scanning.{scanned_some, scanned_not, codes_are}
 use Rattle.address.specs.Internal.{Spells}
 use Rattle.address.proofs.Checks.{septets_are}
-use Rattle.gsm7.proofs.encode.scan_text.Reads as scan-text-reads
-use Rattle.septets.proofs.pack_octets.Reads as pack-octets-reads
 use Rattle.address.proofs.writing.put_septets.Goals as goal
 use Rattle.address.proofs.writing.put_septets.Tie as tie
 use Rattle.address.proofs.writing.put_septets.Lts as lts

@@ -1,5 +1,4 @@
 -- `gsm7::decode::default_character` meets its contract.
-use native.Mathlib.Omega.{arith}
 use Rattle.gsm7.specs.Alphabet.{character}
 use Rattle.gsm7.proofs.decode.default_character.Goals as goal
 

@@ -1,9 +1,8 @@
 -- `gsm7::decode::escaped_character` meets its contract: the extension table is searched from the front, by code, then the default alphabet.
-use Prim.Native.Nat.{ℕ, ◌-◌, ◌≤◌}
+use Prim.Native.Nat.{ℕ}
 use mathlib.Core.Path.{◌≡◌, refl, ◌∙◌}
 use mathlib.Core.Option.{none, some}
 use native.Mathlib.Omega.{arith}
-use lib.ListN.{drop}
 use Rattle.gsm7.specs.declared.decode.AfterEscape.{AfterEscape}
 use Rattle.gsm7.specs.declared.decode.Extension.{Extension}
 use Rattle.gsm7.specs.Alphabet.{extension, row_with, character, escaped, replaced}

@@ -1,12 +1,8 @@
-use Prim.Native.Nat.{ℕ, ◌-◌, ◌≤◌}
-use mathlib.Core.Path.{◌≡◌, refl, ◌∙◌}
-use mathlib.Core.Option.{none, some}
-use native.Mathlib.Omega.{arith}
+use Prim.Native.Nat.{◌-◌, ◌≤◌}
+use mathlib.Core.Path.{◌≡◌}
 use lib.ListN.{drop}
-use Rattle.gsm7.specs.declared.decode.AfterEscape.{AfterEscape}
 use Rattle.gsm7.specs.declared.decode.Extension.{Extension}
-use Rattle.gsm7.specs.Alphabet.{extension, row_with, character, escaped, replaced}
-use Rattle.gsm7.proofs.Rows.{row_here, row_next, row_end}
+use Rattle.gsm7.specs.Alphabet.{extension, row_with}
 use Rattle.gsm7.proofs.decode.escaped_character.Given as goal
 
 abbrev pub invariant-loop-i : goal.invariant-loop-i

@@ -1,7 +1,6 @@
 -- `gsm7::decode::put` meets its contract, by the size of the character.
 use mathlib.Core.Path.{ap, ◌∙◌}
 use native.Mathlib.Omega.{arith}
-use borrow.Author.Rules.{rules}
 use lib.ListN.{length, length-set}
 use Rattle.octets.proofs.Laws.{wrote_one, wrote_then, kept_by}
 use Rattle.gsm7.proofs.Utf8.{utf8_one, utf8_two, utf8_three}

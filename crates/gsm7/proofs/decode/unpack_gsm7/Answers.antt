@@ -1,7 +1,6 @@
 -- `gsm7::decode::unpack_gsm7` meets its contract, by the definition's two tests.
 use mathlib.Core.Path.{sym, ◌∙◌}
 use native.Mathlib.Nat.{zero-add}
-use native.Mathlib.Omega.{arith}
 use Rattle.gsm7.proofs.Reading.{unpacked_long, unpacked_few, unpacked_done}
 use Rattle.gsm7.proofs.decode.unpack_gsm7.Goals as goal
 

@@ -1,5 +1,5 @@
 -- `gsm7::decode::unpack_septets` meets its contract: the text of the septets that are left, stored too, still gives the whole, and so do the escapes replaced in it; and at each septet octet and shift are quotient and remainder of its bit place by 8, by the loop's invariant for the first septet of a step and by `places_here` for each one after it.
-use Prim.Native.Nat.{ℕ, ◌+◌, ◌*◌, ◌-◌, ◌<◌, ◌≤◌}
+use Prim.Native.Nat.{ℕ, ◌+◌, ◌*◌, ◌<◌, ◌≤◌}
 use mathlib.Core.Path.{◌≡◌, refl, sym, ap, ◌∙◌}
 use mathlib.Core.Bool.{true}
 use mathlib.Core.List.{List, [], ◌++◌, append-nil}
@@ -7,15 +7,14 @@ use native.Mathlib.Nat.{add-zero}
 use native.Mathlib.Omega.{arith}
 use borrow.Author.Tests.{leb-true}
 use lib.ListN.{length}
-use lib.Seq.{sets}
 use Rattle.octets.proofs.Choice.{and_true}
-use Rattle.octets.proofs.Laws.{Left, left_start, left_step, left_end, left_fits, kept_by}
-use Rattle.septets.specs.Septets.{septets_in, septet_at, bit_place, in_window}
+use Rattle.octets.proofs.Laws.{left_start, left_step, left_end, left_fits, kept_by}
+use Rattle.septets.specs.Septets.{septet_at, bit_place, in_window}
 use Rattle.septets.proofs.BitPlaces.{place_is, places_here, septet_after, next_here, place_small}
 use Rattle.gsm7.specs.declared.decode.AfterEscape.{AfterEscape}
 use Rattle.gsm7.specs.Alphabet.{character, replaced}
 use Rattle.gsm7.specs.Internal.{four_plain, four_characters}
-use Rattle.gsm7.specs.Reading.{utf8, text_of, replaced_in}
+use Rattle.gsm7.specs.Reading.{utf8}
 use Rattle.gsm7.proofs.Reading.{rest, rest_done, rest_plain, rest_four, rest_escape, rest_last, rest_start, rest_replaced, replaced_done, replaced_plain, replaced_escape, replaced_last, replaced_start, septet_small}
 use Rattle.gsm7.proofs.TableSizes.{replaced_small}
 use Rattle.gsm7.proofs.decode.unpack_septets.Goals as goal

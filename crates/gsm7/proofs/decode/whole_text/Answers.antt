@@ -1,7 +1,6 @@
 -- `gsm7::decode::whole_text` meets its contract: the text fits its array.
 use native.Mathlib.Nat.{zero-add}
 use native.Mathlib.Omega.{arith}
-use borrow.Author.Rules.{rules}
 use Rattle.gsm7.proofs.Reading.{text_stored}
 use Rattle.gsm7.proofs.DecodingLaws.{text_fits}
 use Rattle.gsm7.proofs.decode.whole_text.Goals as goal

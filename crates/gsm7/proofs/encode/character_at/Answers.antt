@@ -1,5 +1,4 @@
 -- `gsm7::encode::character_at` meets its contract, by the first octet.
-use native.Mathlib.Omega.{arith}
 use mathlib.Core.Path.{sym}
 use Rattle.gsm7.proofs.FirstCharacter.{first_one, first_two, first_three}
 use Rattle.gsm7.proofs.encode.character_at.Goals as goal

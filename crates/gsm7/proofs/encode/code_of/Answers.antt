@@ -2,7 +2,6 @@
 use native.Mathlib.Omega.{arith}
 use mathlib.Core.Path.{sym, ◌∙◌}
 use borrow.Author.Tests.{lt-ltb, le-ltb}
-use borrow.Author.Rules.{rules}
 use Rattle.gsm7.proofs.encode.code_of.Goals as goal
 
 pub returns-then-code-lt128 : goal.returns-then-code-lt128

@@ -1,10 +1,9 @@
 -- `gsm7::encode::escape_of` meets its contract: the extension table is searched from the front, by character.
-use Prim.Native.Nat.{ℕ, ◌-◌, ◌≤◌}
+use Prim.Native.Nat.{ℕ}
 use mathlib.Core.Path.{◌≡◌, refl, ◌∙◌}
 use mathlib.Core.List.{[], ◌∷◌}
 use mathlib.Core.Option.{none, some}
 use native.Mathlib.Omega.{arith}
-use lib.ListN.{drop}
 use Rattle.octets.specs.Answers.{gives, refuses}
 use Rattle.octets.specs.declared.Refusal.TheVariants.{NotInAlphabet}
 use Rattle.gsm7.specs.declared.decode.Extension.{Extension}

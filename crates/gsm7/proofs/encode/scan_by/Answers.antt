@@ -1,19 +1,16 @@
 -- `gsm7::encode::scan_by` meets its contract: the septets of what is left of the text, stored too, still give the whole.
-use Prim.Native.Nat.{ℕ, ◌*◌, ◌-◌, ◌≤◌}
+use Prim.Native.Nat.{ℕ, ◌≤◌}
 use mathlib.Core.Path.{◌≡◌, refl, sym, ap, ◌∙◌}
 use mathlib.Core.List.{List, [], ◌∷◌}
 use native.Mathlib.Omega.{arith}
 use borrow.Author.Tests.{lt-ltb}
-use lib.ListN.{length, get_or, drop}
+use lib.ListN.{get_or, drop}
 use Rattle.octets.proofs.Laws.{kept_by}
 use Rattle.octets.specs.Answers.{gives}
 use Rattle.gsm7.specs.Internal.{scalar_says}
-use Rattle.gsm7.specs.Writing.{code_of, first_character, scan}
+use Rattle.gsm7.specs.Writing.{code_of, first_character}
 use Rattle.gsm7.proofs.FirstCharacter.{first_one}
-use Rattle.gsm7.proofs.Scanning.{first_width, settled, scan_end, scan_broken, scan_absent, scan_more, stored_few, stored_none, stored_some, scanned_none, scanned_done}
-use Rattle.gsm7.proofs.encode.add.Reads as add_reads
-use Rattle.gsm7.proofs.encode.add_character.Reads as add-character-reads
-use Rattle.gsm7.proofs.encode.character_at.Reads as character-at-reads
+use Rattle.gsm7.proofs.Scanning.{first_width, scan_end, scan_broken, scan_absent, scan_more, stored_few, stored_none, stored_some, scanned_none, scanned_done}
 use Rattle.gsm7.proofs.encode.scan_by.Goals as goal
 use Rattle.gsm7.proofs.encode.scan_by.Tie as tie
 use Rattle.gsm7.proofs.encode.scan_by.Lts as lts
@@ -40,7 +37,6 @@ first_read c = sym c.character_at.ensures ∙ ap scalar_says c.in-Read.is
 
 wide : (c : Stored) → (1 ≤ width_of c) × (width_of c ≤ 3)
 wide c = first_width (drop (i_of c) (text_of_lem c)) (char_of c) (width_of c) (first_read c)
-
 
 pub loop-i-init : goal.loop-i-init
 loop-i-init c = (omega arith, c.requires.1, refl)

@@ -1,5 +1,4 @@
 -- `gsm7::encode::three_octets` meets its contract: the candidate is taken exactly when its UTF-8 is the octets.
-use native.Mathlib.Omega.{arith}
 use mathlib.Core.Path.{sym}
 use Rattle.gsm7.proofs.FirstCharacter.{three_small, three_third, three_second, three_first, three_read}
 use Rattle.gsm7.proofs.encode.three_octets.Goals as goal

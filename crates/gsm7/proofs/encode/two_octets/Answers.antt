@@ -1,5 +1,4 @@
 -- `gsm7::encode::two_octets` meets its contract: the candidate is taken exactly when its UTF-8 is the octets.
-use native.Mathlib.Omega.{arith}
 use mathlib.Core.Path.{sym}
 use Rattle.gsm7.proofs.FirstCharacter.{two_small, two_second, two_first, two_read}
 use Rattle.gsm7.proofs.encode.two_octets.Goals as goal

@@ -13,10 +13,6 @@ use Rattle.gsm7.specs.Packing.{not_packed}
 use Rattle.gsm7.proofs.Adequate.{septets_digits}
 use Rattle.gsm7.proofs.Scanning.{scanned_some, scanned_not, codes_are}
 use Rattle.gsm7.proofs.PackingCases.{packing_none, packing_some, packing_many}
-use Rattle.gsm7.proofs.packing.not_in_alphabet.Reads as not-in-alphabet-reads
-use Rattle.gsm7.proofs.packing.pack_codes.Reads as pack-codes-reads
-use Rattle.gsm7.proofs.encode.scan_text.Reads as scan-text-reads
-use Rattle.gsm7.proofs.packing.too_many_septets.Reads as too-many-septets-reads
 use Rattle.gsm7.proofs.packing.pack_septets.Goals as goal
 use Rattle.gsm7.proofs.packing.pack_septets.Tie as tie
 use Rattle.gsm7.proofs.packing.pack_septets.Lts as lts

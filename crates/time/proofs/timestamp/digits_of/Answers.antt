@@ -1,6 +1,4 @@
 -- `time::timestamp::digits_of` meets its contract: the digits are those of the seven octets.
-use native.Mathlib.Omega.{arith}
-use borrow.Author.Rules.{rules}
 use Rattle.time.proofs.timestamp.digits_of.Goals as goal
 
 pub returns : goal.returns

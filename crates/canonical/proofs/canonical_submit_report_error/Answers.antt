@@ -1,0 +1,13 @@
+-- `canonical::canonical_submit_report_error` meets its contract: the reader's answer, then the writer's.
+use mathlib.Core.Path.{ap}
+use borrow.Author.Rules.{rules}
+use Rattle.parameters.specs.declared.RpOutcome.TheVariants.{RpError}
+use Rattle.submit_report.specs.SubmitReport.{layout_of, blank, submit_reporting}
+use Rattle.canonical.proofs.WrittenBack.{not_read, written_back}
+use Rattle.canonical.proofs.canonical_submit_report_error.Goals as goal
+
+pub returns-in-Refused : goal.returns-in-Refused
+returns-in-Refused c = not_read blank submit_reporting (layout_of RpError) _ _ (ap (λ z. z.0) c.decode_for_rp_error-read.ensures) c.in-Refused.is
+
+pub returns-in-Done : goal.returns-in-Done
+returns-in-Done c = written_back blank submit_reporting (layout_of RpError) _ _ (ap (λ z. z.0) c.decode_for_rp_error-read.ensures) c.in-Done.is c.encode.ensures
