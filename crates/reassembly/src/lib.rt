@@ -158,6 +158,7 @@ fn place_part(store: &mut [u8], key: &[u8], part: PartFields, data: &[u8]) -> Pa
 // ---- keys
 
 // The slot of a message by its sender's address, reference and total.
+#[tactic(auto, using(crate::proofs::Taking::finds_long))]
 fn find_by(store: &[u8], address: SMSAddress, reference: Reference, total: u8) -> Found
     ensures { found_says result ≡ finding_by address reference total store.now }
 {

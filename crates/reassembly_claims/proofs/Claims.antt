@@ -114,7 +114,7 @@ is_missing : (k : ℕ) (ps : List (Option Part)) (i : ℕ) → i < length ps →
 unfolding missing_from
 is_missing k [] i h e = absurd (omega arith)
 is_missing k (none ∷ ps) zero h e = inl (omega arith)
-is_missing k (none ∷ ps) (suc i) h e = let z : k + suc i ≡ suc k + i = omega arith in inr (rw z (is_missing (suc k) ps i (omega arith) e))
+is_missing k (none ∷ ps) (suc i) h e = let z : suc k + i ≡ k + suc i = omega arith in inr (subst (λ (n : ℕ). Among n (missing_from (suc k) ps)) z (is_missing (suc k) ps i (omega arith) e))
 is_missing k (some p ∷ ps) zero h e = some_none e
 is_missing k (some p ∷ ps) (suc i) h e = let z : k + suc i ≡ suc k + i = omega arith in rw z (is_missing (suc k) ps i (omega arith) e)
 

@@ -1,0 +1,22 @@
+use Prim.Native.Nat.{ℕ, ◌+◌, ◌-◌, ◌*◌, ◌≤◌}
+use mathlib.Core.Path.{◌≡◌}
+use mathlib.Core.List.{List, []}
+use lib.ListN.{length}
+use lib.Seq.{sets}
+use Rattle.octets.proofs.Laws.{Left}
+use Rattle.message_store.specs.Store.{coding_in, holdings, missing_from, shown_parts}
+use Rattle.message_store.proofs.put_parts.Given as goal
+
+abbrev pub rest : List ℕ → ℕ → ℕ → List ℕ
+rest slot total n = shown_parts (coding_in slot) (holdings n (total + 1 - n) slot)
+
+abbrev pub all : List ℕ → ℕ → List ℕ
+all slot total = shown_parts (coding_in slot) (holdings 1 total slot)
+
+abbrev pub invariant-loop-n : goal.invariant-loop-n
+invariant-loop-n l =
+    (1 ≤ l.n) × (l.n ≤ l.total + 1) × (length l.shown ≡ length l.initial.shown) × (l.at + 510 ≤ l.n * 510) × (missing_from l.n (holdings l.n (l.total + 1 - l.n) l.slot) ≡ [])
+    × Left (sets l.initial.shown 0 (all l.slot l.total)) (0 + length (all l.slot l.total)) l.shown l.at (rest l.slot l.total l.n)
+
+abbrev pub decreases-loop-n : goal.decreases-loop-n
+decreases-loop-n l = l.total + 1 - l.n
