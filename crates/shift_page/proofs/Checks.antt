@@ -17,14 +17,14 @@ use Rattle.octets.specs.Choice.{within}
 use Rattle.octets.specs.Each.{each}
 use Rattle.octets.specs.declared.Refusal.{Refusal}
 use Rattle.octets.specs.declared.Refusal.TheVariants.{LengthTooLarge, NotATime, RecipientNotPrintable}
-use Rattle.octets.proofs.Checks.{passed, against, holds, both_hold}
+use Rattle.octets.proofs.Checks.{passed, against, holds, both_hold, all_fit_lem}
 use Rattle.octets.proofs.Choice.{and_true, and_means, leb_means, within_means}
 use Rattle.octets.proofs.Each.{each_means}
 use Rattle.time.specs.Time.{is_hex, is_time, digits_of}
 use Rattle.time.proofs.Laws.{time_means}
 use Rattle.address.specs.Address.{text_held}
 use Rattle.parameters.specs.declared.OptionalOctet.TheVariants.{Absent}
-use Rattle.status_report.specs.StatusReport.{lengths_of}
+use Rattle.status_report.specs.StatusReport.{lengths_of, Typed}
 use Rattle.status_report.specs.declared.SmsStatusReport.{SmsStatusReport}
 use Rattle.shift_page.specs.ShiftPage.{printable, report_checks, reports_checks, report_line, ended}
 
@@ -54,6 +54,11 @@ module _ (r : SmsStatusReport) where
       pub report_fine : is_time discharge_of ≡ true → found (report_checks r) ≡ fine
       unfolding report_checks
       report_fine t = rw (e, p, t)
+
+  -- then no length passes its array
+  pub fitting : Typed r → all_fit (lengths_of r) ≡ true
+      → (r.tp_recipient_address.address_length ≤ length r.tp_recipient_address.address) × (r.tp_discharge_time.length ≤ length r.tp_discharge_time.digits)
+  fitting sized e = let fit = all_fit_lem (lengths_of r) e in (omega (arith, fit.0), omega (arith, fit.1.1.0))
 
   -- a record that passes
   pub record Passed : Type 0 where

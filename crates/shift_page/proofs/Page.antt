@@ -9,17 +9,18 @@ use native.Mathlib.Omega.{arith}
 use borrow.Author.Tests.{lt-ltb, le-ltb, ltb-true, ltb-false, eqb-true, ne_eqb, leb-true}
 use lib.Dec.{eqb, ltb}
 use lib.ListN.{length, take, replicate, length-append, length-map, get_or-eq_default}
-use Rattle.octets.specs.Answers.{gives, refuses, fine}
+use Rattle.octets.specs.Answers.{Said, gives, refuses, fine}
 use Rattle.octets.specs.Checks.{found}
 use Rattle.octets.specs.Choice.{within}
 use Rattle.octets.specs.Decimal.{significant, decimal_text}
 use Rattle.octets.specs.Each.{each}
-use Rattle.octets.specs.Lent.{refused, made}
+use Rattle.octets.specs.Lent.{refused, made, lend}
 use Rattle.octets.specs.Texts.{codes}
 use Rattle.octets.specs.declared.Refusal.{Refusal}
 use Rattle.octets.specs.declared.Refusal.TheVariants.{TooManyRecords}
 use Rattle.octets.proofs.Checks.{both_hold, all_passed, one_against}
 use Rattle.octets.proofs.Choice.{and_true}
+use Rattle.octets.proofs.Laws.{lent_refused}
 use Rattle.octets.proofs.Table.{below}
 use Rattle.time.specs.Time.{hex_digit, in_hex, is_hex}
 use Rattle.status_report.specs.declared.SmsStatusReport.{SmsStatusReport}
@@ -143,6 +144,10 @@ module _ (rs : List SmsStatusReport) (n : ℕ) where
   pub too_many : 99 < n → paging rs n ≡ refused TooManyRecords
   unfolding paging
   too_many h = rw (lt-ltb 99 n h)
+
+  -- and the lent buffer stays
+  pub many_refused : (out : List ℕ) → 99 < n → ◌≡◌ {A = Said ℕ × List ℕ} (refuses TooManyRecords, out) (lend refuses (paging rs n) out)
+  many_refused out h = lent_refused refuses out TooManyRecords (too_many h)
 
   module _ (h : n ≤ 99) where
     pub one_refuses : {why : Refusal} → found (reports_checks (take n rs)) ≡ refuses why → paging rs n ≡ refused why

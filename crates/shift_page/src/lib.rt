@@ -141,6 +141,7 @@ fn put_total(out: &mut [u8], at: usize, n: usize) -> usize
 // ---- the page
 
 // Lays out the first `count` records as a page, at the start of a lent output.
+#[tactic(auto, using(crate::proofs::Page::many_refused))]
 pub fn shift_page(reports: [SmsStatusReport; 99], count: usize, out: &mut [u8]) -> Written
     ensures { (written_says result, out.new) ≡ lend refuses (paging reports count) out.old }
 {
