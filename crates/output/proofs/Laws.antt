@@ -9,7 +9,7 @@ use mathlib.Core.Logic.{◌↔◌}
 use native.Mathlib.Numerals.{add-one}
 use native.Mathlib.Omega.{arith}
 use borrow.Author.Tests.{le-leb, lt-leb, eq-eqb, ne_eqb, eqb-true, lt-ltb, ltb-false}
-use lib.Dec.{eqb, ltb}
+use lib.Dec.{ltb}
 use lib.ListN.{length, drop, set, get_or, length-set, drop_of_length-le}
 use lib.Seq.{sets-eq, drop-cons, drop-set-lt, get_or-set_same}
 use Rattle.octets.specs.Each.{Octets, each}

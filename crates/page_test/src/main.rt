@@ -2,29 +2,29 @@
 // arrays, times that are none, small letters; and outputs that are too short. The answers are said, and pages shown.
 #![tactic(auto)]
 
-use libc::STDOUT_FILENO;
+use std::io;
 use tpdu::{SmsStatusReport, Time, Written};
 
-fn say(text: &[u8]) {
-    io::write_all(STDOUT_FILENO, text);
+fn say<R: Print>(rt: &R, text: &[u8]) -> io::Result<()> {
+    rt.write_all(text)
 }
 
-fn say_number(n: usize, text: &[u8]) {
-    io::print_decimal(STDOUT_FILENO, n as u64);
-    say(text);
+fn say_number<R: Print>(rt: &R, n: usize, text: &[u8]) -> io::Result<()> {
+    rt.print(n)?;
+    say(rt, text)
 }
 
 // Says the number of octets, or the refusal; whether there is a page.
-fn say_answer(w: Written) -> bool {
+fn say_answer<R: Print>(rt: &R, w: Written) -> io::Result<bool> {
     match w {
         Written::Done(n) => {
-            say_number(n, b" octets\n");
-            true
+            say_number(rt, n, b" octets\n")?;
+            Ok(true)
         }
         Written::Refused(why) => {
-            say(b"refused ");
-            say_number(why.number() as usize, b"\n");
-            false
+            say(rt, b"refused ")?;
+            say_number(rt, why.number() as usize, b"\n")?;
+            Ok(false)
         }
     }
 }
@@ -47,64 +47,85 @@ fn time(digits: [u8; 14], length: usize) -> Time {
 }
 
 // The page of two records.
-fn try_two(what: &[u8], first: SmsStatusReport, second: SmsStatusReport) {
-    say(what);
+fn try_two<R: Print>(
+    rt: &R,
+    what: &[u8],
+    first: SmsStatusReport,
+    second: SmsStatusReport,
+) -> io::Result<()> {
+    say(rt, what)?;
     let mut reports = [first; 99];
     reports[1] = second;
     let mut lent = [b'.'; 156];
     let w = tpdu::shift_page(reports, 2, &mut lent);
-    if say_answer(w) {
-        say(&lent);
+    if say_answer(rt, w)? {
+        say(rt, &lent)?;
     }
+    Ok(())
 }
 
 // The page of so many records in an output of 117 octets, which is shown whatever the answer.
-fn try_count(what: &[u8], r: SmsStatusReport, count: usize) {
-    say(what);
+fn try_count<R: Print>(rt: &R, what: &[u8], r: SmsStatusReport, count: usize) -> io::Result<()> {
+    say(rt, what)?;
     let mut lent = [b'.'; 117];
     let w = tpdu::shift_page([r; 99], count, &mut lent);
-    let is_page = say_answer(w);
-    say(&lent);
+    let is_page = say_answer(rt, w)?;
+    say(rt, &lent)?;
     if !is_page {
-        say(b"\n");
+        say(rt, b"\n")?;
     }
+    Ok(())
 }
 
-fn main() {
+fn main(rt: HostRuntime) -> io::Result<()> {
     let right = time(*b"26111602110704", 14);
     let good = report(3, right, 0);
     let small = report(3, time(*b"26111602110aFf", 14), 0);
     let unprintable = report(4, right, 0);
     let no_digit = report(3, time(*b"2611160211070g", 14), 0);
     let short = report(3, time(*b"26111602110704", 13), 0);
-    try_two(b"small letters: ", good, small);
-    try_two(b"a recipient of 291 octets: ", report(291, right, 0), good);
-    try_two(b"user data of 256 octets: ", good, report(3, right, 256));
+    try_two(&rt, b"small letters: ", good, small)?;
     try_two(
+        &rt,
+        b"a recipient of 291 octets: ",
+        report(291, right, 0),
+        good,
+    )?;
+    try_two(
+        &rt,
+        b"user data of 256 octets: ",
+        good,
+        report(3, right, 256),
+    )?;
+    try_two(
+        &rt,
         b"a time of 15 digits: ",
         good,
         report(3, time(*b"26111602110704", 15), 0),
-    );
-    try_two(b"1 before 34: ", report(4, right, 256), good);
-    try_two(b"a time of 13 digits: ", good, short);
-    try_two(b"a time with a g: ", good, no_digit);
+    )?;
+    try_two(&rt, b"1 before 34: ", report(4, right, 256), good)?;
+    try_two(&rt, b"a time of 13 digits: ", good, short)?;
+    try_two(&rt, b"a time with a g: ", good, no_digit)?;
     try_two(
+        &rt,
         b"34 before 12: ",
         report(4, time(*b"2611160211070g", 14), 0),
         good,
-    );
+    )?;
     try_two(
+        &rt,
         b"12 of the first before 34 of the second: ",
         short,
         unprintable,
-    );
+    )?;
     try_two(
+        &rt,
         b"34 of the first before 1 of the second: ",
         unprintable,
         report(291, right, 0),
-    );
-    try_count(b"one record in 117 octets: ", good, 1);
-    try_count(b"two in 117: ", good, 2);
-    try_count(b"12 before 23: ", short, 2);
-    try_count(b"33 before 1: ", report(291, right, 0), 100);
+    )?;
+    try_count(&rt, b"one record in 117 octets: ", good, 1)?;
+    try_count(&rt, b"two in 117: ", good, 2)?;
+    try_count(&rt, b"12 before 23: ", short, 2)?;
+    try_count(&rt, b"33 before 1: ", report(291, right, 0), 100)
 }

@@ -5,14 +5,14 @@ mod lines;
 mod page;
 mod request;
 
-use libc::STDOUT_FILENO;
+use std::env::{Env, FillError};
+use std::io;
 use text_fields::slices::{between, same};
 use tpdu::ALPHABET_OCTETS;
 
 // How the program is used.
-fn say_usage() {
-    io::write_all(
-        STDOUT_FILENO,
+fn say_usage<R: Print>(rt: &R) -> io::Result<()> {
+    rt.write_all(
         b"\
 tpdutool         answers requests on standard input, a line each, with a line each
 tpdutool show    answers for people, several lines a message
@@ -54,37 +54,46 @@ gsm7-to-ucs2 COUNT HEX       the UCS2 of so many septets
 
 docs/REQUESTS.md has the keys and the answers.
 ",
-    );
+    )
 }
 
 // The default alphabet and its extension table, a line for each code.
-fn print_alphabet() {
+fn print_alphabet<R: Print>(rt: &R) -> io::Result<()> {
     let mut lines = [0u8; ALPHABET_OCTETS];
     tpdu::alphabet_lines(&mut lines);
-    io::write_all(STDOUT_FILENO, &lines);
+    rt.write_all(&lines)
+}
+
+// Whether there is an argument of this number.
+fn has_argument<R: Env>(rt: &R, number: usize) -> bool {
+    match rt.arg(number, &mut []) {
+        Err(FillError::NotPresent) => false,
+        _ => true,
+    }
+}
+
+// Does what an argument asks for, if no other follows it.
+fn run_argument<R: Env + Input + Print>(rt: &R, argument: &[u8]) -> io::Result<()> {
+    let is_last = !has_argument(rt, 2);
+    if is_last && same(argument, b"show") {
+        return lines::answer_requests(rt, true);
+    }
+    if is_last && same(argument, b"page") {
+        return page::print_page(rt);
+    }
+    if is_last && same(argument, b"alphabet") {
+        return print_alphabet(rt);
+    }
+    say_usage(rt)
 }
 
 // Without an argument it answers requests, with `show` for people; with `page` it prints a page, with `alphabet` the
 // alphabet; else it says how it is used.
-pub fn run() {
-    let count = os::arg_count();
-    if count <= 1 {
-        lines::answer_requests(false);
-        return;
-    }
+pub fn run<R: Env + Input + Print>(rt: &R) -> io::Result<()> {
     let mut argument = [0u8; 16];
-    let n = os::arg(1, &mut argument);
-    if count == 2 && same(between(&argument, 0, n), b"show") {
-        lines::answer_requests(true);
-        return;
+    match rt.arg(1, &mut argument) {
+        Err(FillError::NotPresent) => lines::answer_requests(rt, false),
+        Err(FillError::TooLong) => say_usage(rt),
+        Ok(n) => run_argument(rt, between(&argument, 0, n)),
     }
-    if count == 2 && same(between(&argument, 0, n), b"page") {
-        page::print_page();
-        return;
-    }
-    if count == 2 && same(between(&argument, 0, n), b"alphabet") {
-        print_alphabet();
-        return;
-    }
-    say_usage();
 }

@@ -2,9 +2,10 @@
 // so that another program can ask and wait for the answer.
 use crate::request::answer;
 use answers::gathering::Store;
-use libc::{STDIN_FILENO, STDOUT_FILENO};
 use output::Output;
 use request_line::reasons;
+use std::io;
+use std::io::Read;
 use text_fields::slices::{between, find};
 
 // The line that is held. A length of MOST_IN_LINE + 1 says that it has too many octets.
@@ -42,46 +43,48 @@ pub fn without_cr(line: &Line, length: usize) -> usize {
 }
 
 // Writes the answers out.
-pub fn write_out(out: &Output, at: usize) {
-    io::write_all(STDOUT_FILENO, between(out, 0, at));
+pub fn write_out<R: Print>(rt: &R, out: &Output, at: usize) -> io::Result<()> {
+    rt.write_all(between(out, 0, at))
 }
 
 // Ends an answer, and writes the answers out if the next might not fit; the place for it.
-fn end_answer(out: &mut Output, at: usize) -> usize {
+fn end_answer<R: Print>(rt: &R, out: &mut Output, at: usize) -> io::Result<usize> {
     let next = output::put(out, at, b"\n");
     if next < MOST_HELD {
-        return next;
+        return Ok(next);
     }
-    write_out(out, next);
-    0
+    write_out(rt, out, next)?;
+    Ok(0)
 }
 
 // Answers the line held.
-fn answer_line(
+fn answer_line<R: Print>(
+    rt: &R,
     line: &Line,
     length: usize,
     store: &mut Store,
     out: &mut Output,
     at: usize,
     show: bool,
-) -> usize {
+) -> io::Result<usize> {
     if MOST_IN_LINE < length {
         let next = reasons::put_bad(out, at, reasons::LINE_TOO_LONG);
-        return end_answer(out, next);
+        return end_answer(rt, out, next);
     }
     let next = answer(between(line, 0, length), store, out, at, show);
-    end_answer(out, next)
+    end_answer(rt, out, next)
 }
 
 // Answers the lines that end in these octets, writes the answers out, and holds the rest; the length of the line held.
-fn answer_octets(
+fn answer_octets<R: Print>(
+    rt: &R,
     octets: &[u8],
     line: &mut Line,
     held: usize,
     store: &mut Store,
     out: &mut Output,
     show: bool,
-) -> usize {
+) -> io::Result<usize> {
     let mut n = held;
     let mut at = 0;
     let mut from = 0;
@@ -89,15 +92,15 @@ fn answer_octets(
         let end = find(octets, from, b'\n');
         n = add(line, n, between(octets, from, end));
         if end < octets.len() {
-            at = answer_line(line, without_cr(line, n), store, out, at, show);
+            at = answer_line(rt, line, without_cr(line, n), store, out, at, show)?;
             n = 0;
             from = end + 1;
         } else {
             from = octets.len();
         }
     }
-    write_out(out, at);
-    n
+    write_out(rt, out, at)?;
+    Ok(n)
 }
 
 // The length of the line held after a read, and whether the input may have more.
@@ -108,66 +111,85 @@ struct Turn {
 }
 
 // Reads once, and answers what came.
-fn answer_some(
+fn answer_some<R: Print, I: Read>(
+    rt: &R,
+    reader: &mut I,
     input: &mut Output,
     line: &mut Line,
     length: usize,
     store: &mut Store,
     out: &mut Output,
     show: bool,
-) -> Turn {
-    let got = libc::read(STDIN_FILENO, input);
-    if got <= 0 {
-        return Turn {
+) -> io::Result<Turn> {
+    let n = reader.read(input)?;
+    if n == 0 {
+        return Ok(Turn {
             length,
             more: false,
-        };
+        });
     }
-    let n = io::count(got, input);
-    let rest = answer_octets(between(input, 0, n), line, length, store, out, show);
-    Turn {
+    let rest = answer_octets(rt, between(input, 0, n), line, length, store, out, show)?;
+    Ok(Turn {
         length: rest,
         more: true,
-    }
+    })
 }
 
 // Reads and answers to the end of the input; the length of the line held. The turns are counted down from a number that
 // no input uses up.
-fn answer_all(
+fn answer_all<R: Print, I: Read>(
+    rt: &R,
+    reader: &mut I,
     input: &mut Output,
     line: &mut Line,
     store: &mut Store,
     out: &mut Output,
     show: bool,
-) -> usize {
+) -> io::Result<usize> {
     let mut length = 0;
     let mut turns = u64::MAX;
     while turns > 0 {
-        let turn = answer_some(input, line, length, store, out, show);
+        let turn = answer_some(rt, reader, input, line, length, store, out, show)?;
         length = turn.length;
         if !turn.more {
-            return length;
+            return Ok(length);
         }
         turns -= 1;
     }
-    length
+    Ok(length)
 }
 
 // Answers a last line that has no end.
-fn answer_last(line: &Line, length: usize, store: &mut Store, out: &mut Output, show: bool) {
+fn answer_last<R: Print>(
+    rt: &R,
+    line: &Line,
+    length: usize,
+    store: &mut Store,
+    out: &mut Output,
+    show: bool,
+) -> io::Result<()> {
     if length == 0 {
-        return;
+        return Ok(());
     }
-    let at = answer_line(line, length, store, out, 0, show);
-    write_out(out, at);
+    let at = answer_line(rt, line, length, store, out, 0, show)?;
+    write_out(rt, out, at)
 }
 
 // Answers each line of standard input. The store of parts is zeros, which is empty.
-pub fn answer_requests(show: bool) {
-    let mut input = io::large_buffer();
+pub fn answer_requests<R: Input + Print>(rt: &R, show: bool) -> io::Result<()> {
+    let mut reader = rt.reader();
+    let mut input = [0u8; 65536];
     let mut line = [0u8; 8192];
     let mut store = [0u8; 37696];
-    let mut out = io::large_buffer();
-    let length = answer_all(&mut input, &mut line, &mut store, &mut out, show);
-    answer_last(&line, length, &mut store, &mut out, show);
+    let mut out = [0u8; 65536];
+    let length = answer_all(
+        rt,
+        &mut reader,
+        &mut input,
+        &mut line,
+        &mut store,
+        &mut out,
+        show,
+    )?;
+    answer_last(rt, &line, length, &mut store, &mut out, show)
 }

@@ -2,9 +2,10 @@
 use crate::lines::{Line, MOST_IN_LINE, add, without_cr, write_out};
 use answers::fields;
 use answers::page::read_report;
-use libc::{STDIN_FILENO, STDOUT_FILENO};
 use output::Output;
 use request_line::reasons;
+use std::io;
+use std::io::Read;
 use text_fields::fields::{field, last_field};
 use text_fields::slices::{between, find, same};
 use tpdu::{SmsStatusReport, Written};
@@ -33,7 +34,13 @@ fn last_line(length: usize, end: usize) -> Cut {
 
 // Cuts the next line from the octets that are left of the input, and reads more where they end before it does. The turns
 // are counted down from a number that no input uses up.
-fn next_line(input: &mut Output, line: &mut Line, from: usize, end: usize) -> Cut {
+fn next_line<I: Read>(
+    reader: &mut I,
+    input: &mut Output,
+    line: &mut Line,
+    from: usize,
+    end: usize,
+) -> io::Result<Cut> {
     let mut length = 0;
     let mut start = from;
     let mut stop = end;
@@ -43,22 +50,22 @@ fn next_line(input: &mut Output, line: &mut Line, from: usize, end: usize) -> Cu
         let feed = find(held, start, b'\n');
         length = add(line, length, between(held, start, feed));
         if feed < held.len() {
-            return Cut {
+            return Ok(Cut {
                 length: without_cr(line, length),
                 is_there: true,
                 from: feed + 1,
                 end: stop,
-            };
+            });
         }
-        let got = libc::read(STDIN_FILENO, input);
-        if got <= 0 {
-            return last_line(length, stop);
+        let n = reader.read(input)?;
+        if n == 0 {
+            return Ok(last_line(length, stop));
         }
         start = 0;
-        stop = io::count(got, input);
+        stop = n;
         turns -= 1;
     }
-    last_line(length, stop)
+    Ok(last_line(length, stop))
 }
 
 // ---- reports
@@ -108,29 +115,42 @@ fn put_against(out: &mut Output, at: usize, reason: usize, refusal: u8) -> usize
 }
 
 // Tells a line that holds no status report, or one that can't be read.
-fn tell(number: u64, reason: usize, refusal: u8, out: &mut Output) {
+fn tell<R: Print>(
+    rt: &R,
+    number: u64,
+    reason: usize,
+    refusal: u8,
+    out: &mut Output,
+) -> io::Result<()> {
     let p1 = output::put(out, 0, b"line ");
     let p2 = output::put_decimal(out, p1, number);
     let p3 = output::put(out, p2, b": ");
     let p4 = put_against(out, p3, reason, refusal);
     let p5 = output::put(out, p4, b"\n");
-    write_out(out, p5);
+    write_out(rt, out, p5)
 }
 
-fn tell_refused(refusal: u8, out: &mut Output) {
+fn tell_refused<R: Print>(rt: &R, refusal: u8, out: &mut Output) -> io::Result<()> {
     let p1 = fields::refused(out, 0, refusal, true);
     let p2 = output::put(out, p1, b"\n");
-    write_out(out, p2);
+    write_out(rt, out, p2)
 }
 
 // The page, unless a line was told; or why there is none.
-fn print(w: Written, lent: &[u8], told: bool, out: &mut Output) {
+fn print<R: Print>(
+    rt: &R,
+    w: Written,
+    lent: &[u8],
+    told: bool,
+    out: &mut Output,
+) -> io::Result<()> {
     match w {
-        Written::Refused(why) => tell_refused(why.number(), out),
+        Written::Refused(why) => tell_refused(rt, why.number(), out),
         Written::Done(n) => {
-            if !told {
-                io::write_all(STDOUT_FILENO, between(lent, 0, n));
+            if told {
+                return Ok(());
             }
+            rt.write_all(between(lent, 0, n))
         }
     }
 }
@@ -146,8 +166,9 @@ struct Shift {
 }
 
 // Reads the lines of standard input to its end, and tells those that hold no report that can be read.
-fn read_shift(out: &mut Output) -> Shift {
-    let mut input = io::large_buffer();
+fn read_shift<R: Input + Print>(rt: &R, out: &mut Output) -> io::Result<Shift> {
+    let mut reader = rt.reader();
+    let mut input = [0u8; 65536];
     let mut line = [0u8; 8192];
     let nothing = read_report(b"");
     let blank = nothing.message;
@@ -158,13 +179,13 @@ fn read_shift(out: &mut Output) -> Shift {
     let mut end = 0;
     let mut number = 0;
     while number < u64::MAX {
-        let cut = next_line(&mut input, &mut line, from, end);
+        let cut = next_line(&mut reader, &mut input, &mut line, from, end)?;
         if !cut.is_there {
-            return Shift {
+            return Ok(Shift {
                 reports,
                 count,
                 told,
-            };
+            });
         }
         from = cut.from;
         end = cut.end;
@@ -174,7 +195,7 @@ fn read_shift(out: &mut Output) -> Shift {
         let refusal = report.refusal;
         let message = report.message;
         if (reason != reasons::NONE) | (refusal != 0) {
-            tell(number, reason, refusal, out);
+            tell(rt, number, reason, refusal, out)?;
             told = true;
         } else {
             if count < 99 {
@@ -183,19 +204,19 @@ fn read_shift(out: &mut Output) -> Shift {
             count += 1;
         }
     }
-    Shift {
+    Ok(Shift {
         reports,
         count,
         told,
-    }
+    })
 }
 
 // Prints the page of the status reports on standard input, a line each.
-pub fn print_page() {
-    let mut out = io::large_buffer();
-    let shift = read_shift(&mut out);
+pub fn print_page<R: Input + Print>(rt: &R) -> io::Result<()> {
+    let mut out = [0u8; 65536];
+    let shift = read_shift(rt, &mut out)?;
     let reports = shift.reports;
     let mut lent = [0u8; 3939];
     let w = tpdu::shift_page(reports, shift.count, &mut lent);
-    print(w, &lent, shift.told, &mut out);
+    print(rt, w, &lent, shift.told, &mut out)
 }

@@ -3,40 +3,40 @@
 // which the message is still there. The answers are said.
 #![tactic(auto)]
 
-use libc::STDOUT_FILENO;
+use std::io;
 use tpdu::{MessageDropped, MessageTaken, Outcome, Reference, Refusal, SMSAddress};
 
-fn say(text: &[u8]) {
-    io::write_all(STDOUT_FILENO, text);
+fn say<R: Print>(rt: &R, text: &[u8]) -> io::Result<()> {
+    rt.write_all(text)
 }
 
-fn say_number(n: usize, text: &[u8]) {
-    io::print_decimal(STDOUT_FILENO, n as u64);
-    say(text);
+fn say_number<R: Print>(rt: &R, n: usize, text: &[u8]) -> io::Result<()> {
+    rt.print(n)?;
+    say(rt, text)
 }
 
-fn say_refusal(why: Refusal) {
-    say(b"refused ");
-    say_number(why.number() as usize, b"\n");
+fn say_refusal<R: Print>(rt: &R, why: Refusal) -> io::Result<()> {
+    say(rt, b"refused ")?;
+    say_number(rt, why.number() as usize, b"\n")
 }
 
-fn say_outcome(outcome: Outcome) {
+fn say_outcome<R: Print>(rt: &R, outcome: Outcome) -> io::Result<()> {
     match outcome {
-        Outcome::Done => say(b"ok\n"),
-        Outcome::Refused(why) => say_refusal(why),
+        Outcome::Done => say(rt, b"ok\n"),
+        Outcome::Refused(why) => say_refusal(rt, why),
     }
 }
 
 // The one part of a message from 12345, reference 7, in 8-bit coding: two octets after the header.
-fn accept(store: &mut [u8]) {
+fn accept<R: Print>(rt: &R, store: &mut [u8]) -> io::Result<()> {
     let data = [
         0x44, 0x05, 0x91, 0x21, 0x43, 0xF5, 0x00, 0x04, 0x42, 0x20, 0x51, 0x21, 0x03, 0x54, 0x00,
         0x08, 0x05, 0x00, 0x03, 0x07, 0x01, 0x01, 0x41, 0x42,
     ];
     let accepted = tpdu::accept_part(store, &data);
     let outcome = accepted.outcome;
-    say(b"accepting: ");
-    say_outcome(outcome);
+    say(rt, b"accepting: ")?;
+    say_outcome(rt, outcome)
 }
 
 fn sender() -> SMSAddress {
@@ -54,70 +54,70 @@ fn sender() -> SMSAddress {
     }
 }
 
-fn take(store: &mut [u8], out: &mut [u8]) {
-    say(b"taking: ");
+fn take<R: Print>(rt: &R, store: &mut [u8], out: &mut [u8]) -> io::Result<()> {
+    say(rt, b"taking: ")?;
     match tpdu::take_message(store, sender(), Reference::Eight(7), 1, out) {
-        MessageTaken::Whole(_, n) => say_number(n, b" octets\n"),
-        MessageTaken::NotOpen => say(b"not open\n"),
-        MessageTaken::NotWhole => say(b"not whole\n"),
-        MessageTaken::Refused(why) => say_refusal(why),
+        MessageTaken::Whole(_, n) => say_number(rt, n, b" octets\n"),
+        MessageTaken::NotOpen => say(rt, b"not open\n"),
+        MessageTaken::NotWhole => say(rt, b"not whole\n"),
+        MessageTaken::Refused(why) => say_refusal(rt, why),
     }
 }
 
-fn drop(store: &mut [u8]) {
-    say(b"dropping: ");
+fn drop<R: Print>(rt: &R, store: &mut [u8]) -> io::Result<()> {
+    say(rt, b"dropping: ")?;
     match tpdu::drop_message(store, sender(), Reference::Eight(7), 1) {
-        MessageDropped::Done => say(b"ok\n"),
-        MessageDropped::NotOpen => say(b"not open\n"),
-        MessageDropped::Refused(why) => say_refusal(why),
+        MessageDropped::Done => say(rt, b"ok\n"),
+        MessageDropped::NotOpen => say(rt, b"not open\n"),
+        MessageDropped::Refused(why) => say_refusal(rt, why),
     }
 }
 
 // The three calls on a store that none of them can use.
-fn all_refused(store: &mut [u8]) {
+fn all_refused<R: Print>(rt: &R, store: &mut [u8]) -> io::Result<()> {
     let mut out = [0u8; 2];
-    accept(store);
-    take(store, &mut out);
-    drop(store);
+    accept(rt, store)?;
+    take(rt, store, &mut out)?;
+    drop(rt, store)
 }
 
-fn say_octets(a: u8, b: u8) {
-    say_number(a as usize, b" ");
-    say_number(b as usize, b"\n");
+fn say_octets<R: Print>(rt: &R, a: u8, b: u8) -> io::Result<()> {
+    say_number(rt, a as usize, b" ")?;
+    say_number(rt, b as usize, b"\n")
 }
 
 // The message of one part, accepted and taken: not into one octet, then into two, then no more.
-fn whole(store: &mut [u8]) {
+fn whole<R: Print>(rt: &R, store: &mut [u8]) -> io::Result<()> {
     let mut one = [0u8; 1];
     let mut out = [0u8; 2];
-    accept(store);
-    take(store, &mut one);
-    take(store, &mut out);
-    say_octets(out[0], out[1]);
-    take(store, &mut out);
+    accept(rt, store)?;
+    take(rt, store, &mut one)?;
+    take(rt, store, &mut out)?;
+    say_octets(rt, out[0], out[1])?;
+    take(rt, store, &mut out)
 }
 
-fn main() {
+fn main(rt: HostRuntime) -> io::Result<()> {
     let mut short = [0u8; 37695];
-    say(b"a store of 37,695 octets\n");
+    say(&rt, b"a store of 37,695 octets\n")?;
     let outcome = tpdu::empty_store(&mut short);
-    say_outcome(outcome);
-    all_refused(&mut short);
+    say_outcome(&rt, outcome)?;
+    all_refused(&rt, &mut short)?;
     let mut store = [0xFFu8; 37696];
-    say(b"a store of 37,696 octets, all FF\n");
-    all_refused(&mut store);
+    say(&rt, b"a store of 37,696 octets, all FF\n")?;
+    all_refused(&rt, &mut store)?;
     let emptied = tpdu::empty_store(&mut store);
-    say_outcome(emptied);
-    say(b"the last slot says 9 parts\n");
+    say_outcome(&rt, emptied)?;
+    say(&rt, b"the last slot says 9 parts\n")?;
     store[35340] = 1;
     store[35350] = 9;
-    all_refused(&mut store);
-    say(b"its address has 291 octets\n");
+    all_refused(&rt, &mut store)?;
+    say(&rt, b"its address has 291 octets\n")?;
     store[35350] = 8;
     store[35356] = 1;
     store[35357] = 35;
-    all_refused(&mut store);
-    say(b"it is not open\n");
+    all_refused(&rt, &mut store)?;
+    say(&rt, b"it is not open\n")?;
     store[35340] = 0;
-    whole(&mut store);
+    whole(&rt, &mut store)
 }

@@ -1,6 +1,8 @@
 // Answers the requests on standard input (docs/REQUESTS.md).
 #![tactic(auto)]
 
-fn main() {
-    requests::run();
+use std::io;
+
+fn main(rt: HostRuntime) -> io::Result<()> {
+    requests::run(&rt)
 }

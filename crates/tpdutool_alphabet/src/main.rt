@@ -1,6 +1,8 @@
 // The program tpdutool again, with the argument `alphabet`: it prints what the program alphabet does.
 #![tactic(auto)]
 
-fn main() {
-    requests::run();
+use std::io;
+
+fn main(rt: HostRuntime) -> io::Result<()> {
+    requests::run(&rt)
 }

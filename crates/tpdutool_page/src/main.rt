@@ -1,6 +1,8 @@
 // The program tpdutool again, with the argument `page`: its stored run of a page.
 #![tactic(auto)]
 
-fn main() {
-    requests::run();
+use std::io;
+
+fn main(rt: HostRuntime) -> io::Result<()> {
+    requests::run(&rt)
 }

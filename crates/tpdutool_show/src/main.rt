@@ -1,6 +1,8 @@
 // The program tpdutool again, with the argument `show`: its stored run for people.
 #![tactic(auto)]
 
-fn main() {
-    requests::run();
+use std::io;
+
+fn main(rt: HostRuntime) -> io::Result<()> {
+    requests::run(&rt)
 }
