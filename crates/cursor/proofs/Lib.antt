@@ -1,4 +1,2 @@
 pub mod Places
 pub mod InTurn
-pub mod Held
-pub mod Through

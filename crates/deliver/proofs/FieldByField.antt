@@ -15,12 +15,10 @@ use Rattle.coding.specs.Coding.{coding_of, data_octets}
 use Rattle.coding.proofs.Laws.{data_at_most}
 use Rattle.address.specs.Address.{address_size, canonical_address}
 use Rattle.address.specs.Internal.{address_span}
-use Rattle.layout.specs.Layout.{Format, any, up_to, address, user_data, field, done, cut, kept, message_type, Reached, reached, halted, read_from}
+use Rattle.layout.specs.Layout.{Format, any, up_to, address, field, cut, kept, message_type, Reached, reached, halted, read_from}
 use Rattle.layout.proofs.Steps.{message_goes_on, message_differs, message_ends, octet_goes_on, octet_ends, span_goes_on, span_ends, address_goes_on, address_ends, done_reached, address_inside, address_starts}
-use Rattle.deliver.specs.declared.reading.DeliverFields.{DeliverFields}
-use Rattle.deliver.specs.declared.reading.DeliverFound.{DeliverFound}
 use Rattle.deliver.specs.Layout.{Fields, bits, fields}
-use Rattle.deliver.specs.Internal.{after_coding, after_address, fields_at, found_says, Inside}
+use Rattle.deliver.specs.Internal.{after_coding, after_address}
 
 -- ---- after TP-DCS
 

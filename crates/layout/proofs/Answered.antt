@@ -1,10 +1,9 @@
 -- Demands 2 and 3, and cut messages, of what the public functions answer, from those of reader and writer.
 -- Assumes nothing.
-use Prim.Native.Nat.{ℕ, ◌≤◌, ◌<◌}
-use mathlib.Core.Path.{◌≡◌, refl, sym, ap, ◌∙◌}
+use Prim.Native.Nat.{ℕ}
+use mathlib.Core.Path.{◌≡◌, refl, ap, ◌∙◌}
 use mathlib.Core.Bool.{Bool, true, false}
 use mathlib.Core.List.{List, ◌++◌}
-use mathlib.Core.Logic.{◌↔◌, ⊎_elim}
 use mathlib.Core.Option.{Option}
 use native.Mathlib.Omega.{arith}
 use lib.Dec.{leb}
@@ -12,14 +11,11 @@ use lib.ListN.{length, take, drop}
 use lib.Seq.{take_at, take-take}
 use Rattle.octets.specs.Answers.{Said, gives, refuses, fine}
 use Rattle.octets.specs.Choice.{if◌then◌else◌}
-use Rattle.octets.specs.Each.{Octets}
 use Rattle.octets.specs.Lent.{Making, refused, made, lend}
-use Rattle.octets.specs.declared.Refusal.{Refusal}
 use Rattle.octets.specs.declared.Refusal.TheVariants.{OutputTooShort}
-use Rattle.octets.proofs.Choice.{chosen}
 use Rattle.layout.specs.Cut.{Cut, AnswersCut}
 use Rattle.layout.specs.Demand.{Demand2, Demand3, Answers2, Answers3}
-use Rattle.layout.specs.Layout.{Layout, Reached, reached, halted, read, answer, Generated, canonical_of, unwritable}
+use Rattle.layout.specs.Layout.{Layout, Reached, reached, halted, read, answer}
 
 -- n octets written are those that were made
 pub written : (m : Making (Said ℕ)) (buffer : List ℕ) (n : ℕ) → ((xs : List ℕ) (a : Said ℕ) → m ≡ made xs a → a ≡ gives (length xs)) → (lend refuses m buffer).0 ≡ gives n → (m ≡ made (take n (lend refuses m buffer).1) (gives n))

@@ -1,11 +1,11 @@
 -- What is read and written back, by the answers of reader and writer.
 -- Assumes nothing.
 use Prim.Native.Nat.{ℕ}
-use mathlib.Core.Path.{◌≡◌, refl, sym, ap, ◌∙◌}
+use mathlib.Core.Path.{◌≡◌, sym, ap, ◌∙◌}
 use mathlib.Core.Bool.{Bool}
 use mathlib.Core.List.{List}
 use native.Mathlib.Omega.{arith}
-use Rattle.octets.specs.Answers.{Said, gives, refuses, fine}
+use Rattle.octets.specs.Answers.{Said, refuses, fine}
 use Rattle.octets.specs.Lent.{Making, lend}
 use Rattle.octets.specs.declared.Refusal.{Refusal}
 use Rattle.layout.specs.Demand.{rewriting, Rewrites}

@@ -11,7 +11,7 @@ use lib.Dec.{ltb}
 use lib.ListN.{length}
 use Rattle.coding.specs.Coding.{coding_of}
 use Rattle.coding.proofs.Laws.{data_at_most}
-use Rattle.layout.specs.Layout.{bit, is_set, Field, joined, past_limit, any_past_limit, ◌then◌}
+use Rattle.layout.specs.Layout.{bit, is_set, Field, joined, past_limit, any_past_limit}
 use Rattle.layout.proofs.Makes.{Makes, makes_then}
 use Rattle.parameters.specs.Optional.{octets_held, held, or_zero}
 use Rattle.parameters.specs.Parameters.{Parameters, parameters_octets}

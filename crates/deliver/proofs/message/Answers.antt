@@ -1,6 +1,4 @@
 -- `deliver::message` meets its contract.
-use native.Mathlib.Omega.{arith}
-use borrow.Author.Rules.{rules}
 use Rattle.deliver.proofs.RecordRead.{message_is}
 use Rattle.deliver.proofs.message.Goals as goal
 

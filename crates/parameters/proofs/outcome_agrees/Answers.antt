@@ -1,5 +1,4 @@
 -- `parameters::outcome_agrees` meets its contract: an RP-ERROR has a cause, an RP-ACK none.
-use borrow.Author.Rules.{rules}
 use Rattle.parameters.proofs.Laws.{ack_agrees, error_agrees}
 use Rattle.parameters.proofs.outcome_agrees.Goals as goal
 

@@ -1,6 +1,5 @@
 -- `parameters::put_optional` meets its contract: one octet, or none.
 use mathlib.Core.Path.{refl, sym, ap}
-use borrow.Author.Rules.{rules}
 use native.Mathlib.Nat.{add-zero}
 use native.Mathlib.Omega.{arith}
 use Rattle.parameters.specs.Optional.{held}

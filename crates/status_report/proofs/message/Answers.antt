@@ -1,6 +1,4 @@
 -- `status_report::message` meets its contract.
-use native.Mathlib.Omega.{arith}
-use borrow.Author.Rules.{rules}
 use Rattle.status_report.proofs.RecordRead.{message_is}
 use Rattle.status_report.proofs.message.Goals as goal
 

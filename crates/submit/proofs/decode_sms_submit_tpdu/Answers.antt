@@ -1,5 +1,4 @@
 -- `submit::decode_sms_submit_tpdu` meets its contract: it is the reader that the layout describes.
-use borrow.Author.Rules.{rules}
 use Rattle.submit.proofs.RecordRead.{answer_refused, answer_done}
 use Rattle.submit.proofs.decode_sms_submit_tpdu.Goals as goal
 

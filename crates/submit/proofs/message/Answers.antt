@@ -1,22 +1,16 @@
 -- `submit::message` meets its contract: field by field.
-use Prim.Native.Nat.{ℕ, ◌+◌, ◌<◌, ◌≤◌}
-use mathlib.Core.Path.{◌≡◌, refl, sym, ap, ◌∙◌}
-use mathlib.Core.Bool.{true}
-use mathlib.Core.List.{List}
+use Prim.Native.Nat.{◌+◌, ◌<◌}
+use mathlib.Core.Path.{refl, sym, ap, ◌∙◌}
 use native.Mathlib.Omega.{arith}
 use borrow.Author.Rules.{rules}
-use lib.ListN.{length, length-take}
+use lib.ListN.{length-take}
 use lib.Seq.{length-take-le}
-use Rattle.coding.specs.Coding.{data_octets}
 use Rattle.coding.specs.declared.UserDataCoding.{UserDataCoding}
 use Rattle.gsm7.specs.Reading.{replaced_in}
-use Rattle.user_data_header.specs.Header.{in_count}
 use Rattle.submit.specs.Submit.{readable, data_septets, text_with}
-use Rattle.submit.specs.declared.reading.SubmitFields.{SubmitFields}
 use Rattle.submit.proofs.Text.{text_stored}
 use Rattle.submit.proofs.RecordRead.{stretch, data_room, data_fits, replaced_fits, replaced_is, read_is, message_is}
 use Rattle.submit.proofs.message.Goals as goal
-
 
 pub put_readable-put-requires : goal.put_readable-put-requires
 put_readable-put-requires c = let (whole, counted, size) = data_fits c.args.«data».now c.args.f c.requires c.user_data_coding.ensures in (whole, counted, size, refl)

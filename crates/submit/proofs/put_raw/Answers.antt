@@ -1,6 +1,5 @@
 -- `submit::put_raw` meets its contract.
 use mathlib.Core.Path.{refl}
-use borrow.Author.Rules.{rules}
 use Rattle.submit.proofs.put_raw.Goals as goal
 
 pub returns : goal.returns

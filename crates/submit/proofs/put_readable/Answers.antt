@@ -1,6 +1,5 @@
 -- `submit::put_readable` meets its contract: by the coding.
 use native.Mathlib.Omega.{arith}
-use borrow.Author.Rules.{rules}
 use borrow.Author.Tests.{leb-true}
 use Rattle.coding.proofs.Laws.{data_at_most}
 use Rattle.user_data_header.specs.Header.{in_count}

@@ -1,7 +1,6 @@
 -- `submit::put_with_header` meets its contract: the header, and the text after it.
 use mathlib.Core.Path.{sym}
 use native.Mathlib.Omega.{arith}
-use borrow.Author.Rules.{rules}
 use lib.Seq.{length-take-le}
 use Rattle.submit.proofs.Text.{text_room, with_text}
 use Rattle.submit.proofs.put_with_header.Goals as goal

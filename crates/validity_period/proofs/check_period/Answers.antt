@@ -1,5 +1,4 @@
 -- `validity_period::check_period` meets its contract: only an absolute period has digits.
-use borrow.Author.Rules.{rules}
 use Rattle.validity_period.proofs.check_period.Goals as goal
 
 pub returns-in-None : goal.returns-in-None

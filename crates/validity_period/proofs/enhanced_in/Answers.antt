@@ -1,7 +1,6 @@
 -- `validity_period::enhanced_in` meets its contract: the octets in the enhanced format, else zeros.
 use mathlib.Core.Path.{◌≡◌, ◌∙◌}
 use native.Mathlib.Omega.{arith}
-use borrow.Author.Rules.{rules}
 use borrow.Author.Tests.{ne_eqb}
 use lib.ListN.{length}
 use Rattle.octets.specs.Arrays.{pad}

@@ -1,7 +1,6 @@
 -- `validity_period::put_period` meets its contract: by the format.
 use mathlib.Core.Path.{refl}
 use native.Mathlib.Omega.{arith}
-use borrow.Author.Rules.{rules}
 use Rattle.validity_period.specs.Validity.{period_size}
 use Rattle.validity_period.proofs.put_period.Goals as goal
 

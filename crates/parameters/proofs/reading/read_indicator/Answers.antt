@@ -1,13 +1,9 @@
 -- `parameters::reading::read_indicator` meets its contract: the octets passed and the size of what is left are the indicator's size.
-use Prim.Native.Nat.{◌+◌, ◌-◌, ◌≤◌, ◌<◌}
-use mathlib.Core.Path.{◌≡◌, refl, sym, ap, ◌∙◌}
-use mathlib.Core.List.{◌∷◌}
+use mathlib.Core.Path.{sym, ap, ◌∙◌}
 use native.Mathlib.Omega.{arith}
-use borrow.Author.Rules.{rules}
-use lib.ListN.{length, drop}
+use lib.ListN.{drop}
 use Rattle.octets.specs.Answers.{octet_says}
 use Rattle.octets.proofs.Places.{octet_read, octet_ended}
-use Rattle.layout.specs.Layout.{indicator_size}
 use Rattle.layout.proofs.Fields.{indicator_positive}
 use Rattle.parameters.proofs.Indicator.{size_whole, size_more, size_end, size_last, indicator_not, indicator_is}
 use Rattle.parameters.proofs.reading.read_indicator.Goals as goal

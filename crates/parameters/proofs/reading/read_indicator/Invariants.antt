@@ -1,14 +1,8 @@
-use Prim.Native.Nat.{◌+◌, ◌-◌, ◌≤◌, ◌<◌}
-use mathlib.Core.Path.{◌≡◌, refl, sym, ap, ◌∙◌}
+use Prim.Native.Nat.{◌+◌, ◌-◌, ◌≤◌}
+use mathlib.Core.Path.{◌≡◌}
 use mathlib.Core.List.{◌∷◌}
-use native.Mathlib.Omega.{arith}
-use borrow.Author.Rules.{rules}
 use lib.ListN.{length, drop}
-use Rattle.octets.specs.Answers.{octet_says}
-use Rattle.octets.proofs.Places.{octet_read, octet_ended}
 use Rattle.layout.specs.Layout.{indicator_size}
-use Rattle.layout.proofs.Fields.{indicator_positive}
-use Rattle.parameters.proofs.Indicator.{size_whole, size_more, size_end, size_last, indicator_not, indicator_is}
 use Rattle.parameters.proofs.reading.read_indicator.Given as goal
 
 abbrev pub invariant-loop-last : goal.invariant-loop-last

@@ -1,6 +1,5 @@
 -- `parameters::reading::read_optional` meets its contract: an octet where it is announced, else none.
 use mathlib.Core.Path.{sym, ◌∙◌, ap}
-use borrow.Author.Rules.{rules}
 use Rattle.octets.specs.Answers.{octet_says}
 use Rattle.layout.proofs.Steps.{done_reached}
 use Rattle.parameters.proofs.StepsOfReader.{announced_read, announced_ends}

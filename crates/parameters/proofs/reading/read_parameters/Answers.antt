@@ -1,6 +1,5 @@
 -- `parameters::reading::read_parameters` meets its contract: one step for each parameter.
 use mathlib.Core.Path.{sym, ◌∙◌, ap}
-use borrow.Author.Rules.{rules}
 use Rattle.octets.specs.Answers.{span_says}
 use Rattle.parameters.specs.Internal.{optional_says}
 use Rattle.parameters.proofs.StepsOfReader.{no_pid, no_dcs, no_udl, no_data, data_short, whole}

@@ -1,5 +1,4 @@
 -- `parameters::writing::check_data` meets its contract: the tests are the definition's.
-use borrow.Author.Rules.{rules}
 use borrow.Author.Tests.{eq-eqb, ne_eqb}
 use Rattle.parameters.specs.Checking.{data_within}
 use Rattle.parameters.proofs.writing.check_data.Goals as goal

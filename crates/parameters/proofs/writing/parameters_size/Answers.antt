@@ -1,5 +1,4 @@
 -- `parameters::writing::parameters_size` meets its contract: a sum.
-use borrow.Author.Rules.{rules}
 use native.Mathlib.Omega.{arith}
 use Rattle.parameters.proofs.Laws.{one_at_most}
 use Rattle.parameters.proofs.writing.parameters_size.Goals as goal

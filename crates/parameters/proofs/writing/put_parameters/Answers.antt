@@ -1,5 +1,4 @@
 -- `parameters::writing::put_parameters` meets its contract: one part behind the other.
-use borrow.Author.Rules.{rules}
 use Rattle.octets.proofs.Laws.{wrote_then}
 use Rattle.parameters.proofs.writing.put_parameters.Goals as goal
 

@@ -1,6 +1,5 @@
 -- `report::reading::after_cause` meets its contract: indicator, time, then parameters.
 use mathlib.Core.Path.{sym, ap, ◌∙◌}
-use borrow.Author.Rules.{rules}
 use Rattle.octets.specs.Answers.{octet_says, span_says}
 use Rattle.parameters.specs.Internal.{parameters_says}
 use Rattle.report.proofs.FieldByField.{refused_found, no_indicator, no_time, no_parameters_lem, found, all_there}

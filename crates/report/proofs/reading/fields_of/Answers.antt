@@ -1,6 +1,5 @@
 -- `report::reading::fields_of` meets its contract: first octet and cause, then the rest.
 use mathlib.Core.Path.{sym, ap, ◌∙◌}
-use borrow.Author.Rules.{rules}
 use Rattle.octets.specs.Answers.{octet_says}
 use Rattle.report.proofs.FieldByField.{refused_found, stopped_found, no_first, other_type, ack_goes_on, error_stops, no_cause, error_goes_on}
 use Rattle.report.proofs.reading.fields_of.Goals as goal

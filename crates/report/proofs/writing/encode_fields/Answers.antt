@@ -2,25 +2,15 @@
 use mathlib.Core.Path.{◌≡◌, sym, ◌∙◌, ap}
 use mathlib.Core.Bool.{true}
 use native.Mathlib.Omega.{arith}
-use borrow.Author.Rules.{rules}
-use borrow.Author.Tests.{not-true, not-false}
 use lib.ListN.{length}
 use Rattle.octets.specs.Answers.{gives, refuses, checked_says}
 use Rattle.octets.specs.Lent.{made}
 use Rattle.octets.proofs.Laws.{lent_refused, lent_short, lent_written}
-use Rattle.layout.proofs.first_octet.Reads as first-octet-reads
 use Rattle.parameters.specs.Parameters.{Parameters}
 use Rattle.parameters.proofs.Laws.{one_at_most}
-use Rattle.parameters.proofs.octets_held.Reads as octets-held-reads
-use Rattle.parameters.proofs.writing.check_data.Reads as check-data-reads
-use Rattle.parameters.proofs.writing.check_parameter_indicator.Reads as check-parameter-indicator-reads
-use Rattle.parameters.proofs.writing.parameters_size.Reads as parameters-size-reads
 use Rattle.report.specs.Report.{octets_of}
 use Rattle.report.specs.Internal.{time_holds, fields_with, making}
 use Rattle.report.proofs.CheckByCheck.{size_is, only_udhi, size_small, indicator_against, no_time, data_against, all_made}
-use Rattle.report.proofs.time_size.Reads as time-size-reads
-use Rattle.report.proofs.writing.put_fields.Reads as put-fields-reads
-use Rattle.report.proofs.writing.time_holds.Reads as time-holds-reads
 use Rattle.report.proofs.writing.encode_fields.Goals as goal
 use Rattle.report.proofs.writing.encode_fields.Tie as tie
 use Rattle.report.proofs.writing.encode_fields.Lts as lts

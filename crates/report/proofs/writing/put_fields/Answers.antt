@@ -1,6 +1,5 @@
 -- `report::writing::put_fields` meets its contract: one field after the other.
 use native.Mathlib.Omega.{arith}
-use borrow.Author.Rules.{rules}
 use Rattle.octets.proofs.Laws.{wrote_then, chain_start, chain_step}
 use Rattle.report.proofs.CheckByCheck.{timed_size}
 use Rattle.report.proofs.writing.put_fields.Goals as goal

@@ -1,7 +1,6 @@
 -- `report::writing::put_time` meets its contract: a time, or nothing.
 use mathlib.Core.Path.{refl, sym}
 use native.Mathlib.Nat.{add-zero}
-use borrow.Author.Rules.{rules}
 use Rattle.report.proofs.writing.put_time.Goals as goal
 
 pub encode_time-requires : goal.encode_time-requires

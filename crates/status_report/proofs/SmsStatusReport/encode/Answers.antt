@@ -1,5 +1,4 @@
 -- `SmsStatusReport::encode` meets its contract: within 140.
-use borrow.Author.Rules.{rules}
 use Rattle.status_report.proofs.SmsStatusReport.encode.Goals as goal
 
 pub returns : goal.returns

@@ -1,5 +1,4 @@
 -- `SmsStatusReport::encode_to_standard` meets its contract: within 131.
-use borrow.Author.Rules.{rules}
 use Rattle.status_report.proofs.SmsStatusReport.encode_to_standard.Goals as goal
 
 pub returns : goal.returns

@@ -4,7 +4,6 @@ use Rattle.octets.specs.Answers.{checked_says}
 use Rattle.status_report.proofs.CheckByCheck.{none_against, none_fine, indicator_against, indicator_fine}
 use Rattle.status_report.proofs.writing.check_optional.Goals as goal
 
-
 pub parameters_size-requires : goal.parameters_size-requires
 parameters_size-requires c = c.requires
 

@@ -1,7 +1,6 @@
 -- `status_report::writing::put_after_address` meets its contract: one field after the other, and after each there is room for the others.
 use Prim.Native.Nat.{◌+◌, ◌≤◌}
 use native.Mathlib.Omega.{arith}
-use borrow.Author.Rules.{rules}
 use lib.ListN.{length}
 use Rattle.octets.proofs.Laws.{wrote_then, kept_by}
 use Rattle.time.proofs.Laws.{time_size}

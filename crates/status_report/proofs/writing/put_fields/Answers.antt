@@ -1,6 +1,5 @@
 -- `status_report::writing::put_fields` meets its contract: one field after the other.
 use native.Mathlib.Omega.{arith}
-use borrow.Author.Rules.{rules}
 use Rattle.octets.proofs.Laws.{wrote_then, kept_by}
 use Rattle.address.proofs.Checks.{fine_size}
 use Rattle.status_report.proofs.writing.put_fields.Goals as goal

@@ -1,12 +1,9 @@
 -- `submit::reading::after_coding` meets its contract: field by field, as the layout has them.
 use mathlib.Core.Path.{◌≡◌, refl, sym, ◌∙◌, ap}
 use native.Mathlib.Omega.{arith}
-use borrow.Author.Rules.{rules}
-use borrow.Author.Tests.{not-true, not-false}
-use Rattle.octets.specs.Answers.{gives, octet_says, span_says}
-use Rattle.octets.specs.Places.{octet_at, span_at}
+use Rattle.octets.specs.Answers.{octet_says, span_says}
 use Rattle.octets.proofs.Places.{octet_read, span_there, span_inside}
-use Rattle.coding.specs.Coding.{coding_of, data_octets}
+use Rattle.coding.specs.Coding.{coding_of}
 use Rattle.coding.proofs.Laws.{size_told}
 use Rattle.user_data_header.specs.Header.{in_count}
 use Rattle.submit.specs.Internal.{fields_at}

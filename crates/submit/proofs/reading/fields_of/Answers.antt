@@ -1,10 +1,6 @@
 -- `submit::reading::fields_of` meets its contract: it finds what the layout reads.
-use mathlib.Core.Path.{◌≡◌, sym, ◌∙◌, ap}
-use borrow.Author.Rules.{rules}
-use Rattle.octets.specs.Answers.{gives, octet_says, span_says}
-use Rattle.octets.specs.Places.{octet_at}
-use Rattle.octets.proofs.Places.{start}
-use Rattle.address.specs.Internal.{address_span}
+use mathlib.Core.Path.{sym, ◌∙◌, ap}
+use Rattle.octets.specs.Answers.{octet_says, span_says}
 use Rattle.submit.proofs.FieldByField.{no_first, other_type, no_mr, no_address, no_pid, no_dcs, to_dcs, room, address_third}
 use Rattle.submit.proofs.reading.fields_of.Goals as goal
 
