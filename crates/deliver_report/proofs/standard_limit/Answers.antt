@@ -1,6 +1,5 @@
 -- `deliver_report::standard_limit` meets its contract.
 use mathlib.Core.Path.{sym, ap}
-use borrow.Author.Rules.{rules}
 use Rattle.deliver_report.specs.DeliverReport.{standard_limit}
 use Rattle.deliver_report.proofs.standard_limit.Goals as goal
 

@@ -1,6 +1,5 @@
 -- `submit_report::standard_limit` meets its contract.
 use mathlib.Core.Path.{sym, ap}
-use borrow.Author.Rules.{rules}
 use Rattle.submit_report.specs.SubmitReport.{standard_limit}
 use Rattle.submit_report.proofs.standard_limit.Goals as goal
 

@@ -1,5 +1,4 @@
 -- `SmsDeliverReport::encode` meets its contract: within 140.
-use borrow.Author.Rules.{rules}
 use Rattle.deliver_report.proofs.SmsDeliverReport.encode.Goals as goal
 
 pub returns : goal.returns

@@ -1,11 +1,9 @@
 -- `SmsDeliverReport::encode_within` meets its contract: the length is looked at first, then the outcome.
 use Prim.Native.Nat.{◌≤◌}
-use mathlib.Core.Path.{◌≡◌, refl, sym, ◌∙◌}
+use mathlib.Core.Path.{◌≡◌, sym, ◌∙◌}
 use native.Mathlib.Omega.{arith}
 use borrow.Author.Rules.{rules}
-use borrow.Author.Tests.{not-true, not-false}
-use lib.ListN.{length, length-take}
-use lib.Seq.{length-take-le}
+use lib.ListN.{length}
 use Rattle.octets.specs.Answers.{refuses}
 use Rattle.octets.proofs.Checks.{all_fit_lem}
 use Rattle.octets.proofs.Laws.{lent_refused}

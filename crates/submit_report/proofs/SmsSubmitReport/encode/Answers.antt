@@ -1,5 +1,4 @@
 -- `SmsSubmitReport::encode` meets its contract: within 140.
-use borrow.Author.Rules.{rules}
 use Rattle.submit_report.proofs.SmsSubmitReport.encode.Goals as goal
 
 pub returns : goal.returns
