@@ -16,8 +16,8 @@ use Rattle.octets.specs.Arrays.{pad}
 use Rattle.octets.specs.Choice.{if◌then◌else◌, length_if}
 use Rattle.octets.specs.Lent.{made}
 use Rattle.octets.specs.declared.Refusal.{Refusal}
-use Rattle.octets.specs.declared.Refusal.TheVariants.{OctetsEnd, LengthTooLarge}
-use Rattle.octets.proofs.Checks.{never, made_if, made_counts}
+use Rattle.octets.specs.declared.Refusal.TheVariants.{OctetsEnd}
+use Rattle.octets.proofs.Checks.{never, made_counts}
 use Rattle.octets.proofs.Laws.{pad_full}
 use Rattle.coding.specs.Coding.{coding_of, data_of, data_with, cleared_data}
 use Rattle.coding.specs.declared.UserDataCoding.{UserDataCoding}

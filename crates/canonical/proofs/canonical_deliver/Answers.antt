@@ -1,6 +1,5 @@
 -- `canonical::canonical_deliver` meets its contract: the reader's answer, then the writer's.
 use mathlib.Core.Path.{ap}
-use borrow.Author.Rules.{rules}
 use Rattle.deliver.specs.Deliver.{deliver, blank, delivering}
 use Rattle.canonical.proofs.WrittenBack.{not_read, written_back}
 use Rattle.canonical.proofs.canonical_deliver.Goals as goal

@@ -1,6 +1,5 @@
 -- `canonical::canonical_deliver_report_error` meets its contract: the reader's answer, then the writer's.
 use mathlib.Core.Path.{ap}
-use borrow.Author.Rules.{rules}
 use Rattle.parameters.specs.declared.RpOutcome.TheVariants.{RpError}
 use Rattle.deliver_report.specs.DeliverReport.{layout_of, blank, deliver_reporting}
 use Rattle.canonical.proofs.WrittenBack.{not_read, written_back}

@@ -1,6 +1,5 @@
 -- `canonical::canonical_status_report` meets its contract: the reader's answer, then the writer's.
 use mathlib.Core.Path.{ap}
-use borrow.Author.Rules.{rules}
 use Rattle.status_report.specs.StatusReport.{status_report, blank, status_reporting}
 use Rattle.canonical.proofs.WrittenBack.{not_read, written_back}
 use Rattle.canonical.proofs.canonical_status_report.Goals as goal

@@ -1,6 +1,5 @@
 -- `canonical::canonical_submit` meets its contract: the reader's answer, then the writer's.
 use mathlib.Core.Path.{ap}
-use borrow.Author.Rules.{rules}
 use Rattle.submit.specs.Submit.{submit, blank, submitting}
 use Rattle.canonical.proofs.WrittenBack.{not_read, written_back}
 use Rattle.canonical.proofs.canonical_submit.Goals as goal

@@ -1,6 +1,5 @@
 -- `canonical::canonical_submit_report_ack` meets its contract: the reader's answer, then the writer's.
 use mathlib.Core.Path.{ap}
-use borrow.Author.Rules.{rules}
 use Rattle.parameters.specs.declared.RpOutcome.TheVariants.{RpAck}
 use Rattle.submit_report.specs.SubmitReport.{layout_of, blank, submit_reporting}
 use Rattle.canonical.proofs.WrittenBack.{not_read, written_back}

@@ -14,5 +14,5 @@ returns c =
     let moved = c.behind.ensures in
     let octets : c.behind.result.octets ≡ s = moved.0 ∙ made.0 in
     let place : c.behind.result.place ≡ behind_place s.now 0 c.args.count =
-        moved.1 ∙ ap (λ (x : Bor (List ℕ)). behind_place x.now c.new.result.place c.args.count) made.0 ∙ ap (λ (n : ℕ). behind_place s.now n c.args.count) made.1 in
+    moved.1 ∙ ap (λ (x : Bor (List ℕ)). behind_place x.now c.new.result.place c.args.count) made.0 ∙ ap (λ (n : ℕ). behind_place s.now n c.args.count) made.1 in
     c.decode_sms_submit_tpdu.ensures ∙ ap (λ (x : Bor (List ℕ)). submit_from x.now c.behind.result.place) octets ∙ from_there s.now c.args.count place (λ x. submit_from x 0)

@@ -1,5 +1,4 @@
 -- `cursor::from_place::octet_at` meets its contract.
-use borrow.Author.Rules.{rules}
 use borrow.Author.Tests.{lt-ltb, le-ltb}
 use Rattle.cursor.specs.From.{octet_from}
 use Rattle.cursor.proofs.from_place.octet_at.Goals as goal

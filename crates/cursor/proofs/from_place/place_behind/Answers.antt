@@ -1,6 +1,5 @@
 -- `cursor::from_place::place_behind` meets its contract: the tests decide the definition's.
 use native.Mathlib.Omega.{arith}
-use borrow.Author.Rules.{rules}
 use Rattle.cursor.proofs.Places.{place_inside, place_past}
 use Rattle.cursor.proofs.from_place.place_behind.Goals as goal
 

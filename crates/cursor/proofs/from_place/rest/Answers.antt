@@ -1,6 +1,5 @@
 -- `cursor::from_place::rest` meets its contract: behind that many octets of the start, or at the end, the same octets are left.
 use mathlib.Core.Path.{◌∙◌}
-use borrow.Author.Rules.{rules}
 use borrow.Author.Rules.{part_to_end}
 use Rattle.cursor.proofs.Places.{within, left}
 use Rattle.cursor.proofs.from_place.rest.Goals as goal
