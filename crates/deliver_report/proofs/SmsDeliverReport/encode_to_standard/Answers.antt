@@ -2,4 +2,4 @@
 use Rattle.deliver_report.proofs.SmsDeliverReport.encode_to_standard.Goals as goal
 
 pub returns : goal.returns
-returns c = rw (← c.standard_limit.ensures) c.encode_within.ensures
+returns c = cc

@@ -2,4 +2,4 @@
 use Rattle.submit_report.proofs.SmsSubmitReport.encode_to_standard.Goals as goal
 
 pub returns : goal.returns
-returns c = rw (← c.standard_limit.ensures) c.encode_within.ensures
+returns c = cc
