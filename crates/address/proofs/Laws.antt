@@ -13,7 +13,7 @@ use lib.ListN.{length, get_or, take, drop}
 use lib.Seq.{get_or-drop}
 use Rattle.octets.specs.Answers.{Said, gives, fine}
 use Rattle.octets.specs.Checks.{Check, found, checked}
-use Rattle.octets.specs.Choice.{if◌then◌else◌}
+use Rattle.std.specs.Prelude.{if◌then◌else◌}
 use Rattle.octets.specs.Each.{Octets}
 use Rattle.octets.specs.Lent.{refused, made}
 use Rattle.octets.specs.declared.Refusal.TheVariants.{LengthTooLarge, AddressTooLong}

@@ -8,7 +8,8 @@ use native.Mathlib.Omega.{arith}
 use borrow.Author.Tests.{eqb-true}
 use lib.Dec.{eqb}
 use lib.ListN.{get_or}
-use Rattle.octets.specs.Choice.{if◌then◌else◌, within}
+use Rattle.std.specs.Prelude.{if◌then◌else◌}
+use Rattle.octets.specs.Choice.{within}
 use Rattle.octets.specs.SemiOctets.{semi_octets}
 use Rattle.octets.specs.Texts.{codes}
 use Rattle.octets.proofs.Table.{below}

@@ -8,7 +8,7 @@ use mathlib.Core.Option.{Option, none, some}
 use native.Mathlib.Omega.{arith}
 use lib.Dec.{eqb}
 use lib.ListN.{length, get_or, take, length-take, length-map}
-use Rattle.octets.specs.Choice.{if◌then◌else◌}
+use Rattle.std.specs.Prelude.{if◌then◌else◌}
 use Rattle.octets.specs.Each.{Octets, each}
 use Rattle.octets.specs.SemiOctets.{semi_octets, in_pairs}
 use Rattle.octets.proofs.SemiOctets.{semi_pairs, length_pairs, pairs_octets, semi_small}

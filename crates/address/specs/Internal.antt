@@ -1,9 +1,8 @@
 -- What functions of the codec say to each other of an address: nobody has to believe anything here.
-use Rattle.std.specs.Prelude.{ℕ, ◌≤◌, ◌+◌, List, [], length, get_or, drop, leb}
+use Rattle.std.specs.Prelude.{ℕ, ◌≤◌, ◌+◌, List, [], length, get_or, drop, leb, if◌then◌else◌}
 use Rattle.std.proofs.Math.Option.{Option, none, some}
 use Rattle.octets.specs.Answers.{Said, gives, refuses}
 use Rattle.octets.specs.Lent.{Making, refused, made}
-use Rattle.octets.specs.Choice.{if◌then◌else◌}
 use Rattle.octets.specs.declared.Place.{Place}
 use Rattle.octets.specs.declared.Refusal.TheVariants.{OctetsEnd}
 use Rattle.address.specs.Address.{address_size}

@@ -1,9 +1,8 @@
 -- TP-Data-Coding-Scheme (TS 23.038 §4) and TP-User-Data-Length (TS 23.040 §9.2.3.16).
-use Rattle.std.specs.Prelude.{ℕ, ◌+◌, ◌*◌, ◌/◌, ◌%◌, ◌≡◌, refl, List, [], ◌∷◌, eqb, leb, length as size, take}
+use Rattle.std.specs.Prelude.{ℕ, ◌+◌, ◌*◌, ◌/◌, ◌%◌, ◌≡◌, refl, List, [], ◌∷◌, eqb, leb, length as size, take, if◌then◌else◌}
 use Rattle.octets.specs.Answers.{Said, refuses, fine}
 use Rattle.octets.specs.Arrays.{pad, cleared_array}
 use Rattle.octets.specs.Checks.{Check, ◌unless◌, found}
-use Rattle.octets.specs.Choice.{if◌then◌else◌}
 use Rattle.octets.specs.declared.Refusal.TheVariants.{UserDataLengthDisagrees, UserDataTooLong}
 use Rattle.coding.specs.declared.UserData.{UserData}
 use Rattle.coding.specs.declared.UserDataCoding.{UserDataCoding}

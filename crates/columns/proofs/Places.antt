@@ -11,7 +11,7 @@ use borrow.Author.Tests.{lt-ltb, le-ltb, ltb-true, ltb-false}
 use lib.Dec.{ltb}
 use lib.ListN.{length, get_or, take, drop, length-drop, length-map}
 use lib.Seq.{get_or-drop, get_or-take, take_all}
-use Rattle.octets.specs.Choice.{if◌then◌else◌}
+use Rattle.std.specs.Prelude.{if◌then◌else◌}
 use Rattle.columns.specs.Blocks.{strings_in, lengths, sum, columns, going, fronted, dealt}
 use Rattle.columns.specs.Internal.{has, longer_than, start_of, place_of, Raised, SummedUp, Starts}
 use Rattle.columns.proofs.Columns.{AtMost, less, at_most_less, sum_less, length_columns, dealt_columns, columns_dealt}

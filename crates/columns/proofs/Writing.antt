@@ -9,7 +9,7 @@ use borrow.Author.Tests.{le-leb, lt-leb}
 use lib.ListN.{length, drop, replicate, length-append, length-drop, length-map, length-replicate}
 use lib.Seq.{take-append-le, drop-append-le}
 use Rattle.octets.specs.Answers.{Said, gives, refuses}
-use Rattle.octets.specs.Choice.{if◌then◌else◌}
+use Rattle.std.specs.Prelude.{if◌then◌else◌}
 use Rattle.octets.specs.Checks.{checked}
 use Rattle.octets.specs.Lent.{refused, made, Wrote}
 use Rattle.octets.specs.declared.Refusal.TheVariants.{LengthTooLarge, StringsTooLarge}

@@ -1,8 +1,7 @@
 -- What the two functions answer, and what they do with what is lent.
-use Rattle.std.specs.Prelude.{ℕ, ◌≡◌, refl, ◌&&◌, List, [], ◌∷◌, ◌++◌, length, drop, leb}
+use Rattle.std.specs.Prelude.{ℕ, ◌≡◌, refl, ◌&&◌, List, [], ◌∷◌, ◌++◌, length, drop, leb, if◌then◌else◌}
 use Rattle.std.proofs.Math.Option.{Option, none, some}
 use Rattle.octets.specs.Answers.{Said, gives, refuses, fine, outcome_says}
-use Rattle.octets.specs.Choice.{if◌then◌else◌}
 use Rattle.octets.specs.Checks.{◌unless◌, checked}
 use Rattle.octets.specs.Each.{each}
 use Rattle.octets.specs.Lent.{Making, refused, made}

@@ -1,8 +1,7 @@
 -- What only functions of this crate say to each other: sizes, numbers and lengths found, and where an octet of a string stands in the columns.
-use Rattle.std.specs.Prelude.{ℕ, zero, suc, ◌+◌, ◌<◌, ◌≤◌, ◌≡◌, refl, List, [], ◌∷◌, ◌++◌, length, get_or, set, take, drop, ltb}
+use Rattle.std.specs.Prelude.{ℕ, zero, suc, ◌+◌, ◌<◌, ◌≤◌, ◌≡◌, refl, List, [], ◌∷◌, ◌++◌, length, get_or, set, take, drop, ltb, if◌then◌else◌}
 use Rattle.std.proofs.Math.Option.{Option, none, some}
 use Rattle.octets.specs.Answers.{Said, gives, refuses}
-use Rattle.octets.specs.Choice.{if◌then◌else◌}
 use Rattle.octets.specs.declared.Refusal.TheVariants.{StringsTooLarge}
 use Rattle.columns.specs.declared.Sizes.{Sizes}
 use Rattle.columns.specs.declared.Number.{Number}

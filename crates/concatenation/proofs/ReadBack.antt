@@ -12,7 +12,7 @@ use lib.Dec.{leb}
 use lib.ListN.{length, get_or, take, drop}
 use lib.Seq.{take_at, take_all, drop-append-add}
 use Rattle.octets.specs.Answers.{fine}
-use Rattle.octets.specs.Choice.{if◌then◌else◌}
+use Rattle.std.specs.Prelude.{if◌then◌else◌}
 use Rattle.octets.specs.Lent.{Making, refused, made, lend}
 use Rattle.octets.specs.declared.Refusal.TheVariants.{OutputTooShort}
 use Rattle.gsm7.specs.Reading.{text_of, text_given}

@@ -1,7 +1,6 @@
 -- What is read of a string of octets from a place on.
-use Rattle.std.specs.Prelude.{ℕ, ◌+◌, ◌≡◌, refl, List, [], ◌∷◌, leb, ltb, length, get_or, drop}
+use Rattle.std.specs.Prelude.{ℕ, ◌+◌, ◌≡◌, refl, List, [], ◌∷◌, leb, ltb, length, get_or, drop, if◌then◌else◌}
 use Rattle.octets.specs.Answers.{Said, gives, refuses}
-use Rattle.octets.specs.Choice.{if◌then◌else◌}
 use Rattle.octets.specs.declared.Refusal.TheVariants.{OctetsEnd}
 use Rattle.layout.specs.Layout.{Layout, Reached, read, answer, replaced_of}
 use Rattle.cursor.specs.declared.from_place.OctetRead.{OctetRead}

@@ -10,7 +10,7 @@ use lib.Dec.{eqb, ltb}
 use lib.ListN.{length}
 use Rattle.octets.specs.Answers.{Said, gives}
 use Rattle.octets.specs.Checks.{Check, ◌unless◌, checked}
-use Rattle.octets.specs.Choice.{if◌then◌else◌}
+use Rattle.std.specs.Prelude.{if◌then◌else◌}
 use Rattle.octets.specs.Each.{Octets}
 use Rattle.octets.specs.Lent.{Making, refused, made}
 use Rattle.octets.specs.declared.Refusal.TheVariants.{LengthTooLarge, WrongMessageType, NotATime, UserDataTooLong, AddressTooLong}

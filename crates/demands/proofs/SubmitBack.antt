@@ -13,7 +13,8 @@ use lib.ListN.{length, take}
 use lib.Seq.{length-take-le}
 use Rattle.octets.specs.Answers.{Said, gives, refuses}
 use Rattle.octets.specs.Arrays.{pad}
-use Rattle.octets.specs.Choice.{if◌then◌else◌, length_if}
+use Rattle.std.specs.Prelude.{if◌then◌else◌}
+use Rattle.octets.specs.Choice.{length_if}
 use Rattle.octets.specs.Lent.{made}
 use Rattle.octets.specs.declared.Refusal.{Refusal}
 use Rattle.octets.specs.declared.Refusal.TheVariants.{OctetsEnd}

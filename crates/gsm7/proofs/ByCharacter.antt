@@ -9,7 +9,7 @@ use borrow.Author.Tests.{ltb-true, lt-ltb, le-ltb, ne_eqb}
 use lib.Dec.{ltb}
 use lib.ListN.{get_or}
 use Rattle.octets.specs.Answers.{Said, gives, refuses}
-use Rattle.octets.specs.Choice.{if◌then◌else◌}
+use Rattle.std.specs.Prelude.{if◌then◌else◌}
 use Rattle.octets.specs.declared.Refusal.TheVariants.{NotInAlphabet}
 use Rattle.octets.proofs.Table.{below}
 use Rattle.gsm7.specs.Alphabet.{alphabet, row_with, index_of}

@@ -9,7 +9,7 @@ use native.Mathlib.Omega.{arith}
 use borrow.Author.Tests.{eqb-true, eqb-false}
 use lib.Dec.{eqb}
 use lib.ListN.{length, length-append}
-use Rattle.octets.specs.Choice.{if◌then◌else◌}
+use Rattle.std.specs.Prelude.{if◌then◌else◌}
 use Rattle.septets.specs.Septets.{Digits, septets_in}
 use Rattle.septets.proofs.Inverse.{septets_septets, length_septets}
 use Rattle.gsm7.specs.declared.decode.Extension.{Extension}

@@ -10,7 +10,7 @@ use borrow.Author.Tests.{ltb-true, eqb-true, eqb-false, ne_eqb}
 use lib.Dec.{eqb, ltb}
 use lib.ListN.{get_or}
 use Rattle.octets.specs.Answers.{Said, gives, refuses}
-use Rattle.octets.specs.Choice.{if◌then◌else◌}
+use Rattle.std.specs.Prelude.{if◌then◌else◌}
 use Rattle.octets.specs.declared.Refusal.TheVariants.{NotInAlphabet}
 use Rattle.octets.proofs.Choice.{and_true}
 use Rattle.octets.proofs.Table.{below}

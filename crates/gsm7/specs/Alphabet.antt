@@ -1,7 +1,6 @@
 -- The default alphabet and its extension table (TS 23.038 §6.2.1, §6.2.1.1), as code points.
-use Rattle.std.specs.Prelude.{ℕ, zero, suc, ◌≡◌, refl, List, [], ◌∷◌, get_or, eqb}
+use Rattle.std.specs.Prelude.{ℕ, zero, suc, ◌≡◌, refl, List, [], ◌∷◌, get_or, eqb, if◌then◌else◌}
 use Rattle.std.proofs.Math.Option.{Option, none, some}
-use Rattle.octets.specs.Choice.{if◌then◌else◌}
 use Rattle.gsm7.specs.declared.decode.Extension.{Extension}
 
 -- the character of each code from 00 to 7F; the escape, 1B, reads as a space (NOTE 1)

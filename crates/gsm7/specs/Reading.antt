@@ -1,7 +1,6 @@
 -- The text of septets (TS 23.038 §6.2.1.1), in UTF-8, and what the text readers answer.
-use Rattle.std.specs.Prelude.{ℕ, ◌+◌, ◌/◌, ◌%◌, ◌≡◌, refl, List, [], ◌∷◌, ◌++◌, length, eqb, ltb}
+use Rattle.std.specs.Prelude.{ℕ, ◌+◌, ◌/◌, ◌%◌, ◌≡◌, refl, List, [], ◌∷◌, ◌++◌, length, eqb, ltb, if◌then◌else◌}
 use Rattle.octets.specs.Answers.{Said, refuses, fine, outcome_says}
-use Rattle.octets.specs.Choice.{if◌then◌else◌}
 use Rattle.octets.specs.Arrays.{pad}
 use Rattle.octets.specs.declared.Refusal.{Refusal}
 use Rattle.octets.specs.declared.Refusal.TheVariants.{LengthTooLarge, TooFewOctets}

@@ -1,7 +1,6 @@
 -- Elements of a user data header (TS 23.040 §9.2.3.24): an identifier octet, a length octet and that many octets; one after the other, until the header ends.
-use Rattle.std.specs.Prelude.{ℕ, zero, suc, ◌≡◌, refl, List, [], ◌∷◌, ◌++◌, length, get_or, take, drop, leb, ltb}
+use Rattle.std.specs.Prelude.{ℕ, zero, suc, ◌≡◌, refl, List, [], ◌∷◌, ◌++◌, length, get_or, take, drop, leb, ltb, if◌then◌else◌}
 use Rattle.octets.specs.Answers.{Said, gives, refuses}
-use Rattle.octets.specs.Choice.{if◌then◌else◌}
 use Rattle.octets.specs.declared.Refusal.TheVariants.{HeaderNotWhole, ElementPassesHeader}
 use Rattle.user_data_header.specs.Header.{header_octets}
 

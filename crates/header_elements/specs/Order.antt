@@ -1,6 +1,5 @@
 -- One order for header elements: by rising identifier, equal identifiers in the order given.
-use Rattle.std.specs.Prelude.{ℕ, zero, suc, ◌≤◌, ◌≡◌, refl, List, [], ◌∷◌, ◌++◌, eqb}
-use Rattle.octets.specs.Choice.{if◌then◌else◌}
+use Rattle.std.specs.Prelude.{ℕ, zero, suc, ◌≤◌, ◌≡◌, refl, List, [], ◌∷◌, ◌++◌, eqb, if◌then◌else◌}
 use Rattle.header_elements.specs.Elements.{Element, element}
 
 -- those with an identifier, in the order given

@@ -12,7 +12,8 @@ use borrow.Author.Tests.{ltb-true, leb-true, eqb-true, eqb-false, eq-eqb, ne_eqb
 use lib.Arith.{digits_lt}
 use lib.Dec.{leb, ltb, eqb}
 use lib.Pow.{pow_mono, high, low, field, mod-mod-pow}
-use Rattle.octets.specs.Choice.{if◌then◌else◌, flag}
+use Rattle.std.specs.Prelude.{if◌then◌else◌}
+use Rattle.octets.specs.Choice.{flag}
 use Rattle.octets.proofs.Choice.{and_true, or_means}
 use Rattle.layout.specs.Layout.{bit, is_set, message_type, kept, first_octet}
 

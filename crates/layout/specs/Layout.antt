@@ -1,8 +1,8 @@
 -- Layouts (document 01, "Messages") as data: the strings that a layout generates, their canonical octets, and the reader that it describes.
-use Rattle.std.specs.Prelude.{ℕ, suc, ◌+◌, ◌*◌, ◌/◌, ◌%◌, ◌^◌, ◌≡◌, refl, Bool, true, false, not, ◌&&◌, ◌||◌, List, [], ◌∷◌, ◌++◌, ◌⊎◌, leb, ltb, eqb, length, get_or, take, drop}
+use Rattle.std.specs.Prelude.{ℕ, suc, ◌+◌, ◌*◌, ◌/◌, ◌%◌, ◌^◌, ◌≡◌, refl, Bool, true, false, not, ◌&&◌, ◌||◌, List, [], ◌∷◌, ◌++◌, ◌⊎◌, leb, ltb, eqb, length, get_or, take, drop, if◌then◌else◌}
 use Rattle.std.specs.Int.Bits.{bit_and}
 use Rattle.octets.specs.Answers.{Said, refuses, fine}
-use Rattle.octets.specs.Choice.{if◌then◌else◌, flag}
+use Rattle.octets.specs.Choice.{flag}
 use Rattle.octets.specs.declared.Refusal.{Refusal}
 use Rattle.octets.specs.declared.Refusal.TheVariants.{OctetsEnd, WrongMessageType}
 use Rattle.gsm7.specs.Reading.{replaced_in_all}

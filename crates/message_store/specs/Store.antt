@@ -4,10 +4,9 @@
 --     2 to 9     for each number from 1 to 8, 0 where the part is not held
 --     10 to 307  the key: total, width, reference (high octet first), type, plan, length of the text (high octet first), text
 --     308 on     for each number 256 octets: TP-UDL, then the user data
-use Rattle.std.specs.Prelude.{ℕ, zero, suc, ◌+◌, ◌*◌, ◌/◌, ◌%◌, Bool, true, false, not, ◌&&◌, ◌||◌, List, [], ◌∷◌, ◌++◌, length, get_or, set, take, drop, replicate, eqb, leb}
+use Rattle.std.specs.Prelude.{ℕ, zero, suc, ◌+◌, ◌*◌, ◌/◌, ◌%◌, Bool, true, false, not, ◌&&◌, ◌||◌, List, [], ◌∷◌, ◌++◌, length, get_or, set, take, drop, replicate, eqb, leb, if◌then◌else◌}
 use Rattle.std.proofs.Math.Option.{Option, none, some}
 use Rattle.std.proofs.lemmas.List.Edits.{sets}
-use Rattle.octets.specs.Choice.{if◌then◌else◌}
 use Rattle.coding.specs.Coding.{coding_of, data_octets}
 use Rattle.part_number.specs.declared.Reference.{Reference}
 use Rattle.part_number.specs.declared.Reference.TheVariants.{Eight, Sixteen}

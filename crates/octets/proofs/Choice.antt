@@ -6,9 +6,10 @@ use mathlib.Core.Bool.{Bool, true, false, not, ◌&&◌, ◌||◌, false≢true,
 use mathlib.Core.Logic.{◌⊎◌, inl, inr, ⊎_elim, ◌↔◌}
 use borrow.Author.Tests.{le-leb, leb-true}
 use lib.Dec.{leb}
-use Rattle.octets.specs.Choice.{if◌then◌else◌, within}
+use Rattle.std.specs.Prelude.{if◌then◌else◌}
+use Rattle.octets.specs.Choice.{within}
 
-pub chosen {ℓ} : {A : Type ℓ} {x y z : A} (test : Bool) → if test then x else y ≡ z → ((test ≡ true) × (x ≡ z)) ⊎ ((test ≡ false) × (y ≡ z))
+pub chosen : {A : Type 0} {x y z : A} (test : Bool) → if test then x else y ≡ z → ((test ≡ true) × (x ≡ z)) ⊎ ((test ≡ false) × (y ≡ z))
 chosen true e = inl (refl, e)
 chosen false e = inr (refl, e)
 

@@ -1,11 +1,5 @@
--- A choice by a test, a test of a range, and a flag in an octet.
+-- A test of a range, and a flag in an octet. A choice by a test is the library's `if◌then◌else◌`.
 use Rattle.std.specs.Prelude.{ℕ, Bool, true, false, ◌&&◌, leb}
-
-infixr 5 if◌then◌else◌
--- the first where the test holds, else the second
-abbrev pub if◌then◌else◌ {ℓ} : {A : Type ℓ} → Bool → A → A → A
-if true then a else b = a
-if false then a else b = b
 
 -- from lo to hi
 abbrev pub within : ℕ → ℕ → ℕ → Bool

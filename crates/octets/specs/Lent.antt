@@ -1,9 +1,8 @@
 -- What every writer does with a lent buffer.
-use Rattle.std.specs.Prelude.{ℕ, ◌+◌, ◌≡◌, List, ◌++◌, length, drop, leb}
+use Rattle.std.specs.Prelude.{ℕ, ◌+◌, ◌≡◌, List, ◌++◌, length, drop, leb, if◌then◌else◌}
 use Rattle.std.proofs.lemmas.List.Edits.{sets}
 use Rattle.octets.specs.declared.Refusal.{Refusal}
 use Rattle.octets.specs.declared.Refusal.TheVariants.{OutputTooShort}
-use Rattle.octets.specs.Choice.{if◌then◌else◌}
 
 -- what a writer makes of its input: octets and the answer that tells of them, or a refusal
 pub data Making (A : Type 0) : Type 0 where

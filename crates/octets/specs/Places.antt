@@ -1,9 +1,8 @@
 -- What reading at a place finds. The octets end where a field is not whole: refusal 2.
-use Rattle.std.specs.Prelude.{ℕ, ◌+◌, ◌≡◌, refl, List, [], ◌∷◌, length, get_or, drop, ltb, leb}
+use Rattle.std.specs.Prelude.{ℕ, ◌+◌, ◌≡◌, refl, List, [], ◌∷◌, length, get_or, drop, ltb, leb, if◌then◌else◌}
 use Rattle.octets.specs.Answers.{Said, gives, refuses}
 use Rattle.octets.specs.declared.Place.{Place}
 use Rattle.octets.specs.declared.Refusal.TheVariants.{OctetsEnd}
-use Rattle.octets.specs.Choice.{if◌then◌else◌}
 
 -- one octet, and the place after it
 unfoldable pub octet_at : List ℕ → Place → Said (ℕ × Place)

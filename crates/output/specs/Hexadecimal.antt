@@ -1,6 +1,5 @@
 -- Octets as hexadecimal digits, two each.
-use Rattle.std.specs.Prelude.{ℕ, ◌+◌, ◌*◌, ◌/◌, ◌%◌, ◌≡◌, refl, Bool, true, false, ◌&&◌, List, [], ◌∷◌, ◌++◌, eqb, leb, length, get_or, drop}
-use Rattle.octets.specs.Choice.{if◌then◌else◌}
+use Rattle.std.specs.Prelude.{ℕ, ◌+◌, ◌*◌, ◌/◌, ◌%◌, ◌≡◌, refl, Bool, true, false, ◌&&◌, List, [], ◌∷◌, ◌++◌, eqb, leb, length, get_or, drop, if◌then◌else◌}
 use Rattle.octets.specs.Each.{each}
 use Rattle.octets.specs.Texts.{codes}
 use Rattle.time.specs.Time.{is_hex, hex_value}

@@ -1,6 +1,5 @@
 -- Octets appended to an output.
-use Rattle.std.specs.Prelude.{ℕ, ◌+◌, ◌≡◌, refl, List, ◌++◌, leb, length, take, drop}
-use Rattle.octets.specs.Choice.{if◌then◌else◌}
+use Rattle.std.specs.Prelude.{ℕ, ◌+◌, ◌≡◌, refl, List, ◌++◌, leb, length, take, drop, if◌then◌else◌}
 use Rattle.octets.specs.Texts.{codes}
 
 -- the place after octets that are appended to an output at a place, and the output then; octets that do not fit change nothing

@@ -9,7 +9,7 @@ use borrow.Author.Tests.{eq-eqb, eqb-true, leb-true, leb-false, le-leb, le-ltb, 
 use lib.Dec.{eqb, leb, ltb}
 use lib.ListN.{length}
 use Rattle.octets.specs.Answers.{Said, refuses, fine}
-use Rattle.octets.specs.Choice.{if◌then◌else◌}
+use Rattle.std.specs.Prelude.{if◌then◌else◌}
 use Rattle.octets.specs.Checks.{Check, checked, found}
 use Rattle.octets.specs.declared.Refusal.TheVariants.{IndicatorExtended, UserDataTooLong, UserDataWithoutLength}
 use Rattle.octets.proofs.Checks.{passed, against, all_passed, one_against, holds}

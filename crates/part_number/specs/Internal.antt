@@ -1,7 +1,6 @@
 -- What only functions of this crate say to each other: what the elements so far say.
-use Rattle.std.specs.Prelude.{◌%◌, eqb}
+use Rattle.std.specs.Prelude.{◌%◌, eqb, if◌then◌else◌}
 use Rattle.std.proofs.Math.Option.{Option, none, some}
-use Rattle.octets.specs.Choice.{if◌then◌else◌}
 use Rattle.part_number.specs.declared.Seen.{Seen}
 use Rattle.part_number.specs.declared.Reference.TheVariants.{Eight, Sixteen}
 use Rattle.part_number.specs.Numbering.{Numbering, numbered}

@@ -1,8 +1,8 @@
 -- What numbers a part of a concatenated short message: an element of its header (TS 23.040 §9.2.3.24.1, §9.2.3.24.8).
-use Rattle.std.specs.Prelude.{ℕ, ◌+◌, ◌*◌, ◌≡◌, refl, Bool, true, false, ◌&&◌, List, [], ◌∷◌, length, get_or, eqb, ltb}
+use Rattle.std.specs.Prelude.{ℕ, ◌+◌, ◌*◌, ◌≡◌, refl, Bool, true, false, ◌&&◌, List, [], ◌∷◌, length, get_or, eqb, ltb, if◌then◌else◌}
 use Rattle.std.proofs.Math.Option.{Option, none, some}
 use Rattle.octets.specs.Answers.{Said, gives, refuses}
-use Rattle.octets.specs.Choice.{if◌then◌else◌, within}
+use Rattle.octets.specs.Choice.{within}
 use Rattle.octets.specs.declared.Refusal.TheVariants.{HeaderNotWhole, HeaderPassesCount, ElementPassesHeader, NotAPart}
 use Rattle.coding.specs.Coding.{coding_of, character_set}
 use Rattle.user_data_header.specs.Header.{header_octets, in_count}

@@ -1,8 +1,7 @@
 -- What the four calls answer, and every octet of the store and of a lent output afterwards.
-use Rattle.std.specs.Prelude.{ℕ, not, List, [], ◌∷◌, ◌++◌, length, drop, replicate, eqb, leb, ltb}
+use Rattle.std.specs.Prelude.{ℕ, not, List, [], ◌∷◌, ◌++◌, length, drop, replicate, eqb, leb, ltb, if◌then◌else◌}
 use Rattle.octets.specs.Answers.{Said, gives, refuses, fine, outcome_says}
 use Rattle.octets.specs.Arrays.{pad}
-use Rattle.octets.specs.Choice.{if◌then◌else◌}
 use Rattle.octets.specs.Lent.{Making, made, lend}
 use Rattle.octets.specs.declared.Refusal.{Refusal}
 use Rattle.octets.specs.declared.Refusal.TheVariants.{LengthTooLarge, StoreFull, NotAPart}

@@ -12,7 +12,7 @@ use lib.Dec.{eqb, leb}
 use lib.ListN.{length, get_or, take, drop, replicate, length-append, length-replicate, length-take, get_or-replicate, get_or-append}
 use lib.Seq.{get_or-take, get_or-drop}
 use Rattle.octets.specs.Answers.{Said, gives, refuses, fine}
-use Rattle.octets.specs.Choice.{if◌then◌else◌}
+use Rattle.std.specs.Prelude.{if◌then◌else◌}
 use Rattle.octets.specs.Each.{Octets}
 use Rattle.octets.specs.Lent.{lend}
 use Rattle.octets.specs.declared.Refusal.{Refusal}

@@ -13,7 +13,7 @@ use lib.ListN.{length, get_or, take, drop, length-take}
 use lib.Seq.{get_or-take, get_or-drop}
 use Rattle.octets.specs.Answers.{Said, gives, refuses, fine}
 use Rattle.octets.specs.Arrays.{pad}
-use Rattle.octets.specs.Choice.{if◌then◌else◌}
+use Rattle.std.specs.Prelude.{if◌then◌else◌}
 use Rattle.octets.specs.Each.{Octets}
 use Rattle.octets.specs.declared.Refusal.{Refusal}
 use Rattle.octets.specs.declared.Refusal.TheVariants.{StoreFull, NotAPart}

@@ -9,7 +9,7 @@ use native.Mathlib.Omega.{arith}
 use borrow.Author.Tests.{eqb-true, eqb-false, ne_eqb, ltb-true, ltb-false, le-leb}
 use lib.Dec.{eqb, ltb}
 use lib.ListN.{length}
-use Rattle.octets.specs.Choice.{if◌then◌else◌}
+use Rattle.std.specs.Prelude.{if◌then◌else◌}
 use Rattle.user_data_header.specs.Header.{header_octets}
 use Rattle.message_store.specs.Part.{Key, Named, Part}
 use Rattle.message_store.specs.Store.{is_open, belongs, slot_fits, holding, slot_at, with_slot, slot_with, slot_of, fits, message_in, held_of}

@@ -11,7 +11,7 @@ use borrow.Author.Tests.{eqb-false}
 use lib.Dec.{eqb, leb}
 use lib.ListN.{length, get_or, drop, length-append, length-drop}
 use Rattle.octets.specs.Answers.{Said, gives, refuses}
-use Rattle.octets.specs.Choice.{if◌then◌else◌}
+use Rattle.std.specs.Prelude.{if◌then◌else◌}
 use Rattle.octets.specs.Lent.{lend}
 use Rattle.octets.specs.declared.Refusal.TheVariants.{OutputTooShort}
 use Rattle.octets.proofs.Checks.{never}

@@ -11,7 +11,7 @@ use borrow.Author.Tests.{eqb-true, eqb-false, eq-eqb, ne_eqb, ltb-true, ltb-fals
 use lib.Dec.{eqb, ltb}
 use lib.ListN.{length, get_or, set, drop, replicate, length-drop}
 use lib.Seq.{length-take-le, set-get_or}
-use Rattle.octets.specs.Choice.{if◌then◌else◌}
+use Rattle.std.specs.Prelude.{if◌then◌else◌}
 use Rattle.octets.specs.declared.Refusal.TheVariants.{StoreFull, NotAPart}
 use Rattle.coding.specs.Coding.{coding_of, data_octets}
 use Rattle.part_number.specs.declared.Reference.TheVariants.{Eight}

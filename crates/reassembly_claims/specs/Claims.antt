@@ -1,8 +1,7 @@
 -- What is claimed of a store that began empty and that only the calls wrote (document 02, Ask 6).
-use Rattle.std.specs.Prelude.{ℕ, ◌-◌, ◌≤◌, ◌<◌, ◌≡◌, List, [], ◌∷◌, ◌⊎◌, eqb, length, get_or, set, replicate}
+use Rattle.std.specs.Prelude.{ℕ, ◌-◌, ◌≤◌, ◌<◌, ◌≡◌, List, [], ◌∷◌, ◌⊎◌, eqb, length, get_or, set, replicate, if◌then◌else◌}
 use Rattle.std.proofs.Math.Option.{Option, none, some}
 use Rattle.octets.specs.Answers.{Said, gives, refuses, fine}
-use Rattle.octets.specs.Choice.{if◌then◌else◌}
 use Rattle.octets.specs.Each.{Octets}
 use Rattle.octets.specs.Lent.{lend}
 use Rattle.octets.specs.declared.Refusal.TheVariants.{StoreFull, NotAPart}

@@ -1,9 +1,8 @@
 -- Addresses of the relay layer (TS 24.011 §8.2.5): a length octet that counts the octets after it, a type octet, and the value, digits only.
-use Rattle.std.specs.Prelude.{ℕ, ◌+◌, ◌≡◌, refl, true, false, not, ◌&&◌, List, [], ◌∷◌, map, eqb, leb, length, get_or, take, drop}
+use Rattle.std.specs.Prelude.{ℕ, ◌+◌, ◌≡◌, refl, true, false, not, ◌&&◌, List, [], ◌∷◌, map, eqb, leb, length, get_or, take, drop, if◌then◌else◌}
 use Rattle.octets.specs.Answers.{Said, gives, refuses, fine, outcome_says}
 use Rattle.octets.specs.Arrays.{pad, cleared_array}
 use Rattle.octets.specs.Checks.{Check, ◌unless◌, checked}
-use Rattle.octets.specs.Choice.{if◌then◌else◌}
 use Rattle.octets.specs.Each.{each}
 use Rattle.octets.specs.Lent.{Making, made}
 use Rattle.octets.specs.SemiOctets.{semi_octets, in_pairs}

@@ -1,10 +1,10 @@
 -- The shift page: status reports laid out as lines of 38 characters and a line feed.
-use Rattle.std.specs.Prelude.{ℕ, ◌-◌, ◌≡◌, refl, Bool, false, ◌&&◌, List, [], ◌∷◌, ◌++◌, map, leb, ltb, length, take, replicate}
+use Rattle.std.specs.Prelude.{ℕ, ◌-◌, ◌≡◌, refl, Bool, false, ◌&&◌, List, [], ◌∷◌, ◌++◌, map, leb, ltb, length, take, replicate, if◌then◌else◌}
 use Prim.Native.Char.{code}
 use Rattle.octets.specs.Answers.{Said}
 use Rattle.octets.specs.Arrays.{pad}
 use Rattle.octets.specs.Checks.{Check, ◌unless◌, checked, all_fit}
-use Rattle.octets.specs.Choice.{if◌then◌else◌, within}
+use Rattle.octets.specs.Choice.{within}
 use Rattle.octets.specs.Decimal.{significant, decimal_text}
 use Rattle.octets.specs.Each.{each}
 use Rattle.octets.specs.Lent.{Making, refused}

@@ -10,7 +10,8 @@ use lib.Dec.{eqb}
 use lib.ListN.{length, take, length-append}
 use Rattle.octets.specs.Answers.{Said, gives, refuses, fine}
 use Rattle.octets.specs.Checks.{Check, ◌unless◌, found, checked, after_checked, all_fit}
-use Rattle.octets.specs.Choice.{if◌then◌else◌, length_if}
+use Rattle.std.specs.Prelude.{if◌then◌else◌}
+use Rattle.octets.specs.Choice.{length_if}
 use Rattle.octets.specs.Lent.{Making, refused, made}
 use Rattle.octets.specs.declared.Refusal.{Refusal}
 use Rattle.octets.specs.declared.Refusal.TheVariants.{LengthTooLarge, WrongMessageType, ValidityFormatDisagrees, NoDestination, NotATime}

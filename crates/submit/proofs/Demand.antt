@@ -11,7 +11,8 @@ use lib.ListN.{length, take, length-take}
 use Rattle.octets.specs.Answers.{Said, gives}
 use Rattle.octets.specs.Arrays.{pad}
 use Rattle.octets.specs.Checks.{checked}
-use Rattle.octets.specs.Choice.{if◌then◌else◌, length_if}
+use Rattle.std.specs.Prelude.{if◌then◌else◌}
+use Rattle.octets.specs.Choice.{length_if}
 use Rattle.octets.specs.Each.{Octets}
 use Rattle.octets.specs.Lent.{Making, refused, made}
 use Rattle.octets.specs.declared.Refusal.TheVariants.{LengthTooLarge, UserDataTooLong, AddressTooLong, NotATime}

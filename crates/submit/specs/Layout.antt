@@ -1,6 +1,5 @@
 -- SMS-SUBMIT (TS 23.040 §9.2.2.2): its layout.
-use Rattle.std.specs.Prelude.{ℕ, ◌/◌, ◌%◌, Bool, List, [], ◌∷◌, leb, length}
-use Rattle.octets.specs.Choice.{if◌then◌else◌}
+use Rattle.std.specs.Prelude.{ℕ, ◌/◌, ◌%◌, Bool, List, [], ◌∷◌, leb, length, if◌then◌else◌}
 use Rattle.octets.specs.declared.Refusal.TheVariants.{HeaderNotWhole, HeaderPassesCount}
 use Rattle.coding.specs.Coding.{coding_of, data_octets}
 use Rattle.user_data_header.specs.Header.{header_octets, in_count}

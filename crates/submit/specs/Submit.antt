@@ -1,9 +1,9 @@
 -- SMS-SUBMIT (TS 23.040 §9.2.2.2): the record that its fields make, what its writer makes of a record, and what is no part of one.
-use Rattle.std.specs.Prelude.{ℕ, ◌-◌, ◌≡◌, refl, Bool, true, false, List, [], ◌∷◌, ◌++◌, eqb, leb, length, take, drop}
+use Rattle.std.specs.Prelude.{ℕ, ◌-◌, ◌≡◌, refl, Bool, true, false, List, [], ◌∷◌, ◌++◌, eqb, leb, length, take, drop, if◌then◌else◌}
 use Rattle.octets.specs.Answers.{Said, outcome_says}
 use Rattle.octets.specs.Arrays.{pad, cleared_array}
 use Rattle.octets.specs.Checks.{◌unless◌, found, checked, all_fit}
-use Rattle.octets.specs.Choice.{if◌then◌else◌, length_if}
+use Rattle.octets.specs.Choice.{length_if}
 use Rattle.octets.specs.Lent.{Making}
 use Rattle.octets.specs.declared.Refusal.TheVariants.{LengthTooLarge, WrongMessageType, ValidityFormatDisagrees, NoDestination, NotATime, HeaderNotWhole, HeaderPassesCount}
 use Rattle.coding.specs.Coding.{coding_of, data_checks, data_with, data_of, cleared_data, TypedData}

@@ -1,8 +1,8 @@
 -- Times (TS 23.040 §9.2.3.11): fourteen hexadecimal digits are seven octets, the first digit of each pair in the low half.
-use Rattle.std.specs.Prelude.{ℕ, ◌+◌, ◌-◌, ◌*◌, ◌/◌, ◌%◌, ◌≡◌, refl, Bool, true, false, ◌&&◌, ◌||◌, List, [], ◌∷◌, map, eqb, leb, length, length as size, get_or, take}
+use Rattle.std.specs.Prelude.{ℕ, ◌+◌, ◌-◌, ◌*◌, ◌/◌, ◌%◌, ◌≡◌, refl, Bool, true, false, ◌&&◌, ◌||◌, List, [], ◌∷◌, map, eqb, leb, length, length as size, get_or, take, if◌then◌else◌}
 use Prim.Native.Char.{code}
 use Rattle.octets.specs.Arrays.{pad, cleared_array}
-use Rattle.octets.specs.Choice.{if◌then◌else◌, within}
+use Rattle.octets.specs.Choice.{within}
 use Rattle.octets.specs.Each.{each}
 use Rattle.octets.specs.Texts.{codes}
 use Rattle.time.specs.declared.Time.{Time}

@@ -1,8 +1,8 @@
 -- A time from its calendar values and zone (TS 23.040 §9.2.3.11): two decimal digits each, and the sign of the zone in its first digit.
-use Rattle.std.specs.Prelude.{ℕ, ◌+◌, ◌/◌, ◌%◌, ◌≡◌, refl, Bool, not, ◌&&◌, List, [], ◌∷◌, ◌++◌, leb, ltb, ℤ, pos, negsuc, nat_abs, replicate}
+use Rattle.std.specs.Prelude.{ℕ, ◌+◌, ◌/◌, ◌%◌, ◌≡◌, refl, Bool, not, ◌&&◌, List, [], ◌∷◌, ◌++◌, leb, ltb, ℤ, pos, negsuc, nat_abs, replicate, if◌then◌else◌}
 use Rattle.std.specs.Int.Signed.{lt_z}
 use Rattle.octets.specs.Answers.{Said, refuses, fine, outcome_says}
-use Rattle.octets.specs.Choice.{if◌then◌else◌, within}
+use Rattle.octets.specs.Choice.{within}
 use Rattle.octets.specs.Texts.{codes}
 use Rattle.octets.specs.declared.Refusal.{Refusal}
 use Rattle.octets.specs.declared.Refusal.TheVariants.{CalendarOutOfRange, ZoneOutOfRange}

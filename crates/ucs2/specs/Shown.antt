@@ -1,7 +1,6 @@
 -- What septets come back as from UCS2: each replaced escape as the character shown.
-use Rattle.std.specs.Prelude.{ℕ, ◌≡◌, refl, List, [], ◌∷◌, ◌++◌, eqb}
+use Rattle.std.specs.Prelude.{ℕ, ◌≡◌, refl, List, [], ◌∷◌, ◌++◌, eqb, if◌then◌else◌}
 use Rattle.std.proofs.Math.Option.{Option, none, some}
-use Rattle.octets.specs.Choice.{if◌then◌else◌}
 use Rattle.gsm7.specs.declared.decode.Extension.{Extension}
 use Rattle.gsm7.specs.Alphabet.{row_with, extension}
 

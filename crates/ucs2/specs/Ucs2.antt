@@ -1,8 +1,7 @@
 -- UCS2 user data (TS 23.038 §6.2.3): two octets a character, the high one first; what they are as packed septets (TS 23.038 §6.2.1), and packed septets as UCS2.
-use Rattle.std.specs.Prelude.{ℕ, ◌+◌, ◌*◌, ◌/◌, ◌%◌, ◌≡◌, refl, List, [], ◌∷◌, ◌++◌, length, eqb, ltb}
+use Rattle.std.specs.Prelude.{ℕ, ◌+◌, ◌*◌, ◌/◌, ◌%◌, ◌≡◌, refl, List, [], ◌∷◌, ◌++◌, length, eqb, ltb, if◌then◌else◌}
 use Rattle.std.proofs.Math.Option.{Option, none, some}
 use Rattle.octets.specs.Answers.{Said, gives, fine}
-use Rattle.octets.specs.Choice.{if◌then◌else◌}
 use Rattle.octets.specs.Lent.{Making, refused, made}
 use Rattle.octets.specs.declared.Refusal.TheVariants.{LengthTooLarge, TooFewOctets, OddOctets, InNeitherTable}
 use Rattle.septets.specs.Septets.{number_of, lowest_digits, packed_septets, septets_in, octet_count}

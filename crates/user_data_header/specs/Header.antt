@@ -1,7 +1,6 @@
 -- Text after a user data header (TS 23.040 §9.2.3.24), in 7-bit coding.
-use Rattle.std.specs.Prelude.{ℕ, ◌+◌, ◌-◌, ◌≡◌, refl, Bool, true, List, [], ◌∷◌, length, get_or, take, drop, eqb, leb, ltb}
+use Rattle.std.specs.Prelude.{ℕ, ◌+◌, ◌-◌, ◌≡◌, refl, Bool, true, List, [], ◌∷◌, length, get_or, take, drop, eqb, leb, ltb, if◌then◌else◌}
 use Rattle.octets.specs.Answers.{Said, refuses, fine, outcome_says}
-use Rattle.octets.specs.Choice.{if◌then◌else◌}
 use Rattle.octets.specs.Arrays.{pad}
 use Rattle.octets.specs.Lent.{Making, refused}
 use Rattle.octets.specs.declared.Refusal.{Refusal}

@@ -1,6 +1,6 @@
 -- Characters of UTF-16 and UTF-8.
-use Rattle.std.specs.Prelude.{ℕ, ◌+◌, ◌-◌, ◌*◌, ◌/◌, ◌%◌, ◌≡◌, refl, not, ◌&&◌, List, [], ◌∷◌, ltb, length, get_or}
-use Rattle.octets.specs.Choice.{if◌then◌else◌, within}
+use Rattle.std.specs.Prelude.{ℕ, ◌+◌, ◌-◌, ◌*◌, ◌/◌, ◌%◌, ◌≡◌, refl, not, ◌&&◌, List, [], ◌∷◌, ltb, length, get_or, if◌then◌else◌}
+use Rattle.octets.specs.Choice.{within}
 use Rattle.gsm7.specs.Reading.{utf8 as utf8OfUnit}
 use Rattle.utf16.specs.declared.Character.{Character}
 

@@ -1,6 +1,5 @@
 -- The validity period (TS 23.040 §9.2.3.3, §9.2.3.12).
-use Rattle.std.specs.Prelude.{ℕ, ◌≡◌, refl, Bool, true, List, [], ◌∷◌, eqb}
-use Rattle.octets.specs.Choice.{if◌then◌else◌}
+use Rattle.std.specs.Prelude.{ℕ, ◌≡◌, refl, Bool, true, List, [], ◌∷◌, eqb, if◌then◌else◌}
 use Rattle.time.specs.Time.{is_time, time_octets}
 use Rattle.layout.specs.Layout.{leading}
 use Rattle.validity_period.specs.declared.ValidityPeriod.{ValidityPeriod}

@@ -6,7 +6,8 @@ use mathlib.Core.Option.{some}
 use borrow.Author.Tests.{eq-eqb, ne_eqb}
 use lib.Dec.{eqb}
 use Rattle.octets.specs.Answers.{refuses}
-use Rattle.octets.specs.Choice.{if◌then◌else◌, within}
+use Rattle.std.specs.Prelude.{if◌then◌else◌}
+use Rattle.octets.specs.Choice.{within}
 use Rattle.octets.specs.declared.Refusal.TheVariants.{NotAPart}
 use Rattle.part_number.specs.declared.Reference.TheVariants.{Eight, Sixteen}
 use Rattle.part_number.specs.declared.Seen.{Seen}
