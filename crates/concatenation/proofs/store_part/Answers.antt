@@ -1,13 +1,12 @@
 -- `concatenation::store_part` meets its contract: as long as there is room, the characters passed are those of the part.
 use Prim.Native.Nat.{ℕ, ◌≤◌}
-use mathlib.Core.Path.{◌≡◌, sym, ap, ◌∙◌}
+use mathlib.Core.Path.{◌≡◌, sym, ◌∙◌}
 use mathlib.Core.List.{[], ◌∷◌}
 use native.Mathlib.Omega.{arith}
 use borrow.Author.Tests.{lt-ltb}
 use lib.ListN.{get_or, drop}
 use Rattle.octets.specs.Answers.{gives}
 use Rattle.octets.proofs.Laws.{wrote_one}
-use Rattle.gsm7.specs.Internal.{scalar_says}
 use Rattle.gsm7.specs.Writing.{code_of, first_character}
 use Rattle.gsm7.proofs.FirstCharacter.{first_one}
 use Rattle.gsm7.proofs.Scanning.{first_width, scan_broken, scan_absent, stored_few, stored_none, stored_some}
@@ -31,7 +30,7 @@ abbrev Stored : Type 0
 Stored = lts.After-add_character tie.the-claims reads.Pre reads.Post goal.the-invariant-loop-i goal.the-decreases-loop-i
 
 character : (c : Stored) → first_character (drop c.loop-i.i c.args.text.now) ≡ gives (c.in-Read.c, c.in-Read.width)
-character c = sym c.character_at.ensures ∙ ap scalar_says c.in-Read.is
+character c = sym c.in-Read.ensures
 
 wide : (c : Stored) → (1 ≤ c.in-Read.width) × (c.in-Read.width ≤ 3)
 wide c = first_width _ _ _ (character c)
@@ -48,7 +47,7 @@ loop-i-preserved-then-code-lt128 c =
 pub returns-in_default : goal.returns-in_default
 returns-in_default c =
     let l = c.loop-i in
-    storing_none _ _ _ l.i l.invariant.is (scan_broken _ l.i c.loop-i-test.true (sym c.character_at.ensures ∙ ap scalar_says c.in_default.is))
+    storing_none _ _ _ l.i l.invariant.is (scan_broken _ l.i c.loop-i-test.true (sym c.in_default.ensures))
 
 pub add_character-next-requires : goal.add_character-next-requires
 add_character-next-requires c = (c.requires.0, omega arith, c.loop-i.invariant.array)

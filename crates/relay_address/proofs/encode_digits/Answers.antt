@@ -1,10 +1,10 @@
 -- `relay_address::encode_digits` meets its contract: check, measure, write.
 use Prim.Native.Nat.{ℕ, ◌+◌, ◌/◌}
-use mathlib.Core.Path.{◌≡◌, sym, ap, ◌∙◌}
+use mathlib.Core.Path.{◌≡◌, sym}
 use mathlib.Core.List.{List}
 use native.Mathlib.Omega.{arith}
 use lib.ListN.{length}
-use Rattle.octets.specs.Answers.{gives, refuses, fine, checked_says}
+use Rattle.octets.specs.Answers.{gives, refuses, fine}
 use Rattle.octets.specs.Checks.{found, checked}
 use Rattle.octets.specs.Lent.{made}
 use Rattle.octets.proofs.Checks.{all_passed, one_against}
@@ -31,7 +31,7 @@ module _ (c : Passed) where
   text = c.args.text.now
 
   none_against : found (relay_checks ton npi text) ≡ fine
-  none_against = sym c.check_digits.ensures ∙ ap checked_says c.in_default.is
+  none_against = sym c.in_default.ensures
 
   writable : Writable ton npi text
   writable = passed ton npi text none_against
@@ -43,7 +43,7 @@ module _ (c : Passed) where
   size = octets_size ton npi text
 
 pub returns-in-Against : goal.returns-in-Against
-returns-in-Against c = lent_refused refuses _ _ (one_against _ _ (sym c.check_digits.ensures ∙ ap checked_says c.in-Against.is))
+returns-in-Against c = lent_refused refuses _ _ (one_against _ _ (sym c.in-Against.ensures))
 
 pub overflow_add-text : goal.overflow_add-text
 overflow_add-text c = omega (arith, (writable c.before).short)

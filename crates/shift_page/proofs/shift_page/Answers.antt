@@ -1,12 +1,12 @@
 -- `shift_page::shift_page` meets its contract: 33, the records' checks, 23, and then the lines one after the other.
 use Prim.Native.Nat.{ℕ, ◌+◌, ◌*◌, ◌≤◌}
-use mathlib.Core.Path.{◌≡◌, sym, ap, ◌∙◌}
+use mathlib.Core.Path.{◌≡◌, sym, ◌∙◌}
 use mathlib.Core.List.{List, map}
 use native.Mathlib.Omega.{arith}
 use borrow.Author.Rules.{rules}
 use lib.ListN.{length, take}
 use lib.Seq.{length-take-le}
-use Rattle.octets.specs.Answers.{refuses, fine, checked_says}
+use Rattle.octets.specs.Answers.{refuses, fine}
 use Rattle.octets.specs.Checks.{found}
 use Rattle.octets.proofs.Laws.{wrote_then, kept_by, lent_refused, lent_short, lent_written}
 use Rattle.status_report.specs.declared.SmsStatusReport.{SmsStatusReport}
@@ -28,20 +28,20 @@ module _ (rs : List SmsStatusReport) (n : ℕ) (room : length rs ≡ 99) (h : n 
 pub returns-in-Against : goal.returns-in-Against
 returns-in-Against c =
     let h : c.args.count ≤ 99 = omega arith in
-    lent_refused refuses _ _ (one_refuses _ _ h (sym c.check_reports.ensures ∙ ap checked_says c.in-Against.is))
+    lent_refused refuses _ _ (one_refuses _ _ h (sym c.in-Against.ensures))
 
 pub returns-then-out-count : goal.returns-then-out-count
 returns-then-out-count c =
     let a = c.args in
     let h : a.count ≤ 99 = omega arith in
-    let f = sym c.check_reports.ensures ∙ ap checked_says c.in_default.is in
+    let f = sym c.in_default.ensures in
     lent_short refuses _ (page_made _ _ h f) (omega (arith, page_measured a.reports a.count (search rules) h f))
 
 pub put_reports-last-requires : goal.put_reports-last-requires
 put_reports-last-requires c =
     let w = c.put_heading-first.ensures in
     let h : c.args.count ≤ 99 = omega arith in
-    (h, sym c.check_reports.ensures ∙ ap checked_says c.in_default.is, omega (arith, w.place, kept_by w, heading_size))
+    (h, sym c.in_default.ensures, omega (arith, w.place, kept_by w, heading_size))
 
 pub put_total-requires : goal.put_total-requires
 put_total-requires c =
@@ -49,14 +49,14 @@ put_total-requires c =
     let v = c.put_reports-last.ensures in
     let w = c.put_heading-first.ensures in
     let h : a.count ≤ 99 = omega arith in
-    let m = lines_measured a.reports a.count (search rules) h (sym c.check_reports.ensures ∙ ap checked_says c.in_default.is) in
+    let m = lines_measured a.reports a.count (search rules) h (sym c.in_default.ensures) in
     (h, omega (arith, w.place, kept_by w, heading_size, v.place, kept_by v, m))
 
 pub returns : goal.returns
 returns c =
     let a = c.args in
     let h : a.count ≤ 99 = omega arith in
-    let f = sym c.check_reports.ensures ∙ ap checked_says c.in_default.is in
+    let f = sym c.in_default.ensures in
     let room : length a.reports ≡ 99 = search rules in
     let w = wrote_then c.put_heading-first.ensures (wrote_then c.put_reports-last.ensures (rw (← count_is a.reports a.count room h f) at c.put_total.ensures)) in
     lent_written _ (page_made _ _ h f) (omega (arith, page_measured a.reports a.count room h f)) (rw page_is w)

@@ -7,8 +7,6 @@ use Rattle.octets.proofs.Laws.{left_start, left_step, left_end, wrote_one}
 use Rattle.time.proofs.Laws.{time_means, octets_next, octets_end}
 use Rattle.time.proofs.encode_time.Goals as goal
 
--- TODO not placed: (λ c. c.before.loop.invariant.2)
-
 pub loop-i-init : goal.loop-i-init
 loop-i-init c = (omega arith, ((time_means _).0 c.requires.0).0, refl, rw add-zero (left_start _ _ _))
 

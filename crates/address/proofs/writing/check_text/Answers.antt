@@ -21,12 +21,6 @@ Counted = lts.Past-After-known_told tie.the-claims reads.Pre reads.Post
 scanned : (c : Counted) → (ss : List ℕ) × (septets_of c.args.text.now ≡ some ss) × (c.in-Counted.count ≡ length ss) × (c.scan_text.new.codes ≡ sets (replicate 255 0) 0 ss)
 scanned c = scanned_some (septets_of c.args.text.now) (replicate 255 0) c.scan_text.new.codes c.scan_text.ensures c.in-Counted.is
 
-pub enum_known-count : goal.enum_known-count
-enum_known-count c = c.in-Counted.in-Counted-own.keys1
-
-pub enum_told-1 : goal.enum_told-1
-enum_told-1 c = c.in_default.in_default-own.keys2
-
 pub returns-in_default : goal.returns-in_default
 returns-in_default c =
     sym (text_none 5 _ (scanned_not (septets_of c.args.text.now) (replicate 255 0) c.scan_text.new.codes c.scan_text.ensures c.in_default.is))

@@ -1,9 +1,9 @@
 -- `address::writing::encode_address` meets its contract: check, measure, write.
-use mathlib.Core.Path.{◌≡◌, sym, ap, ◌∙◌}
+use mathlib.Core.Path.{◌≡◌, sym}
 use native.Mathlib.Omega.{arith}
 use Rattle.octets.specs.Answers.{gives, refuses}
 use Rattle.octets.proofs.Laws.{kept_by, lent_refused, lent_short, lent_written}
-use Rattle.address.specs.Writing.{address_making, address_check_says}
+use Rattle.address.specs.Writing.{address_making}
 use Rattle.address.specs.Internal.{check_of}
 use Rattle.address.proofs.Checks.{fine_small, fine_size, fine_made, refused_made}
 use Rattle.address.proofs.writing.encode_address.Goals as goal
@@ -16,13 +16,7 @@ abbrev Passed : Type 0
 Passed = lts.Past-After-known_told2 tie.the-claims reads.Pre reads.Post
 
 passed : (c : Passed) → let a = c.args in check_of (address_making a.ton a.npi a.text.now) ≡ gives c.in-Fine.count
-passed c = sym c.check_address.ensures ∙ ap address_check_says c.in-Fine.is
-
-pub enum_known-r : goal.enum_known-r
-enum_known-r c = c.in-Refused.in-Refused-own.keys1
-
-pub enum_known-count : goal.enum_known-count
-enum_known-count c = c.in-Fine.in-Fine-own.keys2
+passed c = sym c.in-Fine.ensures
 
 pub overflow_add-needed : goal.overflow_add-needed
 overflow_add-needed c = omega (arith, fine_small _ _ _ _ (passed c.before))
@@ -39,7 +33,7 @@ pub put_address-requires : goal.put_address-requires
 put_address-requires c = (passed c.before.before.before, omega arith)
 
 pub returns-in-Refused : goal.returns-in-Refused
-returns-in-Refused c = lent_refused refuses _ _ (refused_made (sym c.check_address.ensures ∙ ap address_check_says c.in-Refused.is))
+returns-in-Refused c = lent_refused refuses _ _ (refused_made (sym c.in-Refused.ensures))
 
 pub shape_of-out : goal.shape_of-out
 shape_of-out c = kept_by c.put_address.ensures

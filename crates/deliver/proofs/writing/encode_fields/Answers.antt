@@ -1,12 +1,12 @@
 -- `deliver::writing::encode_fields` meets its contract: each answer is a case of what the writer makes.
-use mathlib.Core.Path.{◌≡◌, sym, ◌∙◌, ap}
+use mathlib.Core.Path.{◌≡◌, sym, ◌∙◌}
 use mathlib.Core.Bool.{true}
 use native.Mathlib.Omega.{arith}
 use lib.ListN.{length}
-use Rattle.octets.specs.Answers.{gives, fine, checked_says}
+use Rattle.octets.specs.Answers.{gives, fine}
 use Rattle.coding.specs.Coding.{checked_data}
 use Rattle.time.specs.Time.{is_time}
-use Rattle.address.specs.Writing.{address_making, address_check_says}
+use Rattle.address.specs.Writing.{address_making}
 use Rattle.address.specs.Internal.{check_of}
 use Rattle.address.proofs.Checks.{fine_small}
 use Rattle.deliver.proofs.CheckByCheck.{another_type, data_against, address_against, no_time, short, written}
@@ -20,10 +20,10 @@ mti_is : (c : lts.Past-After-known_told3 tie.the-claims reads.Pre reads.Post) �
 mti_is c = c.if-mti-ne-MTI_DELIVER.false
 
 data_fine : (c : lts.Past-After-known_told3 tie.the-claims reads.Pre reads.Post) → let a = c.args in checked_data a.dcs a.udl (length a.«data».now) ≡ fine
-data_fine c = sym c.check_user_data.ensures ∙ ap checked_says c.in_default.is
+data_fine c = sym c.in_default.ensures
 
 counted : (c : lts.Past-After-known_told3 tie.the-claims reads.Pre reads.Post) → let a = c.args in check_of (address_making a.ton a.npi a.text.now) ≡ gives c.in-Fine.count
-counted c = sym c.check_address.ensures ∙ ap address_check_says c.in-Fine.is
+counted c = sym c.in-Fine.ensures
 
 time_is : (c : lts.Else2 tie.the-claims reads.Pre reads.Post) → is_time c.args.digits.now ≡ true
 time_is c = sym c.is_time.ensures ∙ c.if-not-is_time.false
@@ -32,7 +32,7 @@ pub returns-then-mti-ne-MTI_DELIVER : goal.returns-then-mti-ne-MTI_DELIVER
 returns-then-mti-ne-MTI_DELIVER c = another_type _ _ _ _ _ _ _ _ _ _ _ c.if-mti-ne-MTI_DELIVER.true
 
 pub returns-in-Against : goal.returns-in-Against
-returns-in-Against c = data_against _ _ _ _ _ _ _ _ _ _ _ c.if-mti-ne-MTI_DELIVER.false (sym c.check_user_data.ensures ∙ ap checked_says c.in-Against.is)
+returns-in-Against c = data_against _ _ _ _ _ _ _ _ _ _ _ c.if-mti-ne-MTI_DELIVER.false (sym c.in-Against.ensures)
 
 pub returns-then-not-is_time : goal.returns-then-not-is_time
 returns-then-not-is_time c = let p = c.before.before.before in no_time _ _ _ _ _ _ _ _ _ _ _ (mti_is p) (data_fine p) (counted p) (sym c.is_time.ensures ∙ c.if-not-is_time.true)
@@ -53,7 +53,7 @@ pub put_fields-requires : goal.put_fields-requires
 put_fields-requires c = (counted c.before.before.before.before.before, time_is c.before.before.before, c.if-out-count.false)
 
 pub returns-in-Refused : goal.returns-in-Refused
-returns-in-Refused c = address_against _ _ _ _ _ _ _ _ _ _ _ c.if-mti-ne-MTI_DELIVER.false (sym c.check_user_data.ensures ∙ ap checked_says c.in_default.is) (sym c.check_address.ensures ∙ ap address_check_says c.in-Refused.is)
+returns-in-Refused c = address_against _ _ _ _ _ _ _ _ _ _ _ c.if-mti-ne-MTI_DELIVER.false (sym c.in_default.ensures) (sym c.in-Refused.ensures)
 
 pub returns-else-out-count : goal.returns-else-out-count
 returns-else-out-count c = let p = c.before.before.before.before.before.before.before.before in written _ _ _ _ _ _ _ _ _ _ _ (mti_is p) (data_fine p) (counted p) (time_is c.before.before.before.before.before.before) c.if-out-count.false c.put_fields.ensures

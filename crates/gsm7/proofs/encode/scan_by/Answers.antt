@@ -1,13 +1,12 @@
 -- `gsm7::encode::scan_by` meets its contract: the septets of what is left of the text, stored too, still give the whole.
 use Prim.Native.Nat.{ℕ, ◌≤◌}
-use mathlib.Core.Path.{◌≡◌, refl, sym, ap, ◌∙◌}
+use mathlib.Core.Path.{◌≡◌, refl, sym, ◌∙◌}
 use mathlib.Core.List.{List, [], ◌∷◌}
 use native.Mathlib.Omega.{arith}
 use borrow.Author.Tests.{lt-ltb}
 use lib.ListN.{get_or, drop}
 use Rattle.octets.proofs.Laws.{kept_by}
 use Rattle.octets.specs.Answers.{gives}
-use Rattle.gsm7.specs.Internal.{scalar_says}
 use Rattle.gsm7.specs.Writing.{code_of, first_character}
 use Rattle.gsm7.proofs.FirstCharacter.{first_one}
 use Rattle.gsm7.proofs.Scanning.{first_width, scan_end, scan_broken, scan_absent, scan_more, stored_few, stored_none, stored_some, scanned_none, scanned_done}
@@ -33,7 +32,7 @@ abbrev width_of : Stored → ℕ
 width_of c = c.in-Read.width
 
 first_read : (c : Stored) → first_character (drop (i_of c) (text_of_lem c)) ≡ gives (char_of c, width_of c)
-first_read c = sym c.character_at.ensures ∙ ap scalar_says c.in-Read.is
+first_read c = sym c.in-Read.ensures
 
 wide : (c : Stored) → (1 ≤ width_of c) × (width_of c ≤ 3)
 wide c = first_width (drop (i_of c) (text_of_lem c)) (char_of c) (width_of c) (first_read c)
@@ -57,7 +56,7 @@ loop-i-preserved-then-code-lt128 c =
 pub returns-in_default : goal.returns-in_default
 returns-in_default c =
     let l = c.loop-i in
-    scanned_none _ l.codes _ _ l.count _ (scan_broken _ l.i c.loop-i-test.true (sym c.character_at.ensures ∙ ap scalar_says c.in_default.is)) l.invariant.2
+    scanned_none _ l.codes _ _ l.count _ (scan_broken _ l.i c.loop-i-test.true (sym c.in_default.ensures)) l.invariant.2
 
 pub add_character-next-requires : goal.add_character-next-requires
 add_character-next-requires c = (c.requires.0, omega arith, c.loop-i.invariant.1)

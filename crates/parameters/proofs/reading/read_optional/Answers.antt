@@ -1,15 +1,14 @@
 -- `parameters::reading::read_optional` meets its contract: an octet where it is announced, else none.
-use mathlib.Core.Path.{sym, ◌∙◌, ap}
-use Rattle.octets.specs.Answers.{octet_says}
+use mathlib.Core.Path.{sym}
 use Rattle.layout.proofs.Steps.{done_reached}
 use Rattle.parameters.proofs.StepsOfReader.{announced_read, announced_ends}
 use Rattle.parameters.proofs.reading.read_optional.Goals as goal
 
 pub returns-in_default : goal.returns-in_default
-returns-in_default c = rw (c.if-is_announced.true, announced_ends _ _ (sym c.octet.ensures ∙ ap octet_says c.in_default.is))
+returns-in_default c = rw (c.if-is_announced.true, announced_ends _ _ (sym c.in_default.ensures))
 
 pub returns-then-is_announced : goal.returns-then-is_announced
-returns-then-is_announced c = rw (c.if-is_announced.true, announced_read _ _ (sym c.octet.ensures ∙ ap octet_says c.in-Read.is))
+returns-then-is_announced c = rw (c.if-is_announced.true, announced_read _ _ (sym c.in-Read.ensures))
 
 pub returns : goal.returns
 returns c = rw (c.if-is_announced.false, done_reached)

@@ -1,10 +1,10 @@
 -- `relay_address::RelayAddress::decode` meets its contract, field by field.
 use Prim.Native.Nat.{ℕ, ◌-◌, ◌≤◌}
-use mathlib.Core.Path.{◌≡◌, sym, ap, ◌∙◌}
+use mathlib.Core.Path.{◌≡◌, sym, ◌∙◌}
 use mathlib.Core.List.{List}
 use native.Mathlib.Omega.{arith}
 use lib.ListN.{length, take, drop}
-use Rattle.octets.specs.Answers.{gives, octet_says, span_says}
+use Rattle.octets.specs.Answers.{gives}
 use Rattle.octets.specs.Places.{octet_at, span_at}
 use Rattle.octets.specs.declared.Place.{Place}
 use Rattle.octets.proofs.Places.{start}
@@ -37,7 +37,7 @@ module _ (c : Counted) where
   after_length = c.in-Read.after_length
 
   first : octet_at string start ≡ gives (l, after_length)
-  first = sym c.octet.ensures ∙ ap octet_says c.in-Read.is
+  first = sym c.in-Read.ensures
 
 module _ (c : Typed) where
   abbrev counted : Counted
@@ -50,7 +50,7 @@ module _ (c : Typed) where
   after_type = c.in-Read-octet.after_type
 
   second : octet_at (string counted) (after_length counted) ≡ gives (c.in-Read-octet.type_of_address, after_type)
-  second = sym c.octet-2.ensures ∙ ap octet_says c.in-Read-octet.is
+  second = sym c.in-Read-octet.ensures
 
 module _ (c : Whole) where
   abbrev typed : Typed
@@ -66,7 +66,7 @@ module _ (c : Whole) where
   next = c.in-There.next
 
   third : span_at s (after_type typed) (l (counted typed) - 1) ≡ gives (at, next)
-  third = sym c.span.ensures ∙ ap span_says c.in-There.is
+  third = sym c.in-There.ensures
 
   inside : (at ≤ next.at) × (next.at ≤ length s)
   inside = value_there s (first (counted typed)) (some typed) (second typed) third
@@ -75,16 +75,16 @@ module _ (c : Whole) where
   size = value_size s (first (counted typed)) (some typed) (second typed) third
 
 pub returns-in_default : goal.returns-in_default
-returns-in_default c = c.no_address.ensures ∙ none_there _ (sym c.octet.ensures ∙ ap octet_says c.in_default.is)
+returns-in_default c = c.no_address.ensures ∙ none_there _ (sym c.in_default.ensures)
 
 pub returns-then-length-eq0 : goal.returns-then-length-eq0
 returns-then-length-eq0 c = c.no_address-then-length-eq0.ensures ∙ absent _ (first c.before.before.before) c.if-length-eq0.true
 
 pub returns-in_default-octet : goal.returns-in_default-octet
-returns-in_default-octet c = c.no_address-in_default-octet.ensures ∙ type_missing _ (first c.before.before.before.before.before) (λ e. omega arith) (sym c.octet-2.ensures ∙ ap octet_says c.in_default-octet.is)
+returns-in_default-octet c = c.no_address-in_default-octet.ensures ∙ type_missing _ (first c.before.before.before.before.before) (λ e. omega arith) (sym c.in_default-octet.ensures)
 
 pub returns-in_default-span : goal.returns-in_default-span
-returns-in_default-span c = let k = c.before.before.before.before in c.no_address-in_default-span.ensures ∙ value_missing _ (first (counted k)) (some k) (second k) (sym c.span.ensures ∙ ap span_says c.in_default-span.is)
+returns-in_default-span c = let k = c.before.before.before.before in c.no_address-in_default-span.ensures ∙ value_missing _ (first (counted k)) (some k) (second k) (sym c.in_default-span.ensures)
 
 pub slice_bounds-digits_text-count : goal.slice_bounds-digits_text-count
 slice_bounds-digits_text-count c = (inside c.before).0

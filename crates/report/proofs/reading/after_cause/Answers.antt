@@ -1,30 +1,28 @@
 -- `report::reading::after_cause` meets its contract: indicator, time, then parameters.
-use mathlib.Core.Path.{sym, ap, ◌∙◌}
-use Rattle.octets.specs.Answers.{octet_says, span_says}
-use Rattle.parameters.specs.Internal.{parameters_says}
+use mathlib.Core.Path.{sym}
 use Rattle.report.proofs.FieldByField.{refused_found, no_indicator, no_time, no_parameters_lem, found, all_there}
 use Rattle.report.proofs.reading.after_cause.Goals as goal
 
 pub returns-in_default : goal.returns-in_default
-returns-in_default c = refused_found _ c.refused.ensures (no_indicator _ _ c.args.has_time _ _ _ (sym c.read_indicator.ensures ∙ ap octet_says c.in_default.is))
+returns-in_default c = refused_found _ c.refused.ensures (no_indicator _ _ c.args.has_time _ _ _ (sym c.in_default.ensures))
 
 pub returns-in_default-span : goal.returns-in_default-span
 returns-in_default-span c =
     refused_found _ c.refused-in_default-span.ensures
-    (no_time _ _ c.args.has_time _ _ _ (sym c.read_indicator.ensures ∙ ap octet_says c.in-Read.is) (rw c.time_size.ensures at (sym c.span.ensures ∙ ap span_says c.in_default-span.is)))
+    (no_time _ _ c.args.has_time _ _ _ (sym c.in-Read.ensures) (rw c.time_size.ensures at (sym c.in_default-span.ensures)))
 
 pub returns-in_default-read_parameters : goal.returns-in_default-read_parameters
 returns-in_default-read_parameters c =
     refused_found _ c.refused-in_default-read_parameters.ensures
-    (no_parameters_lem _ _ c.args.has_time _ _ _ (sym c.read_indicator.ensures ∙ ap octet_says c.in-Read.is) (rw c.time_size.ensures at (sym c.span.ensures ∙ ap span_says c.in-There.is))
-    (sym c.read_parameters.ensures ∙ ap parameters_says c.in_default-read_parameters.is))
+    (no_parameters_lem _ _ c.args.has_time _ _ _ (sym c.in-Read.ensures) (rw c.time_size.ensures at (sym c.in-There.ensures))
+    (sym c.in_default-read_parameters.ensures))
 
 pub overflow_sub-result : goal.overflow_sub-result
 overflow_sub-result c =
-    (found _ _ c.args.has_time (sym c.read_indicator.ensures ∙ ap octet_says c.in-Read.is) (rw c.time_size.ensures at (sym c.span.ensures ∙ ap span_says c.in-There.is))
-    (λ j. (c.type_inv.«data» j).fits) (sym c.read_parameters.ensures ∙ ap parameters_says c.in-Read-read_parameters.is)).start
+    (found _ _ c.args.has_time (sym c.in-Read.ensures) (rw c.time_size.ensures at (sym c.in-There.ensures))
+    (λ j. (c.type_inv.«data» j).fits) (sym c.in-Read-read_parameters.ensures)).start
 
 pub returns : goal.returns
 returns c =
-    all_there _ _ c.args.has_time _ _ _ (sym c.read_indicator.ensures ∙ ap octet_says c.in-Read.is) (rw c.time_size.ensures at (sym c.span.ensures ∙ ap span_says c.in-There.is))
-    (λ j. (c.type_inv.«data» j).fits) (sym c.read_parameters.ensures ∙ ap parameters_says c.in-Read-read_parameters.is)
+    all_there _ _ c.args.has_time _ _ _ (sym c.in-Read.ensures) (rw c.time_size.ensures at (sym c.in-There.ensures))
+    (λ j. (c.type_inv.«data» j).fits) (sym c.in-Read-read_parameters.ensures)

@@ -1,9 +1,9 @@
 -- `report::writing::encode_fields` meets its contract: each answer is a case of what the writer makes.
-use mathlib.Core.Path.{◌≡◌, sym, ◌∙◌, ap}
+use mathlib.Core.Path.{◌≡◌, sym, ◌∙◌}
 use mathlib.Core.Bool.{true}
 use native.Mathlib.Omega.{arith}
 use lib.ListN.{length}
-use Rattle.octets.specs.Answers.{gives, refuses, checked_says}
+use Rattle.octets.specs.Answers.{gives, refuses}
 use Rattle.octets.specs.Lent.{made}
 use Rattle.octets.proofs.Laws.{lent_refused, lent_short, lent_written}
 use Rattle.parameters.specs.Parameters.{Parameters}
@@ -30,20 +30,20 @@ module _ (c : Passed) where
       let octets = octets_of a.mti (fields_with a.has_time a.udhi a.cause a.indicator a.digits.now p) in
       making a.limit a.mti a.has_time a.udhi a.cause a.indicator a.digits.now p ≡ made octets (gives (length octets)))
   is_made =
-      all_made _ _ _ _ _ _ _ _ (sym c.check_parameter_indicator.ensures ∙ ap checked_says c.in_default.is) time_is (sym c.check_data.ensures ∙ ap checked_says c.in_default-check_data.is)
+      all_made _ _ _ _ _ _ _ _ (sym c.in_default.ensures) time_is (sym c.in_default-check_data.ensures)
 
 pub returns-in-Against : goal.returns-in-Against
-returns-in-Against c = lent_refused refuses _ _ (indicator_against _ _ _ _ _ _ _ _ (sym c.check_parameter_indicator.ensures ∙ ap checked_says c.in-Against.is))
+returns-in-Against c = lent_refused refuses _ _ (indicator_against _ _ _ _ _ _ _ _ (sym c.in-Against.ensures))
 
 pub returns-then-not-time_holds : goal.returns-then-not-time_holds
 returns-then-not-time_holds c =
-    lent_refused refuses _ _ (no_time _ _ _ _ _ _ _ _ (sym c.check_parameter_indicator.ensures ∙ ap checked_says c.in_default.is) (sym c.time_holds.ensures ∙ c.if-not-time_holds.true))
+    lent_refused refuses _ _ (no_time _ _ _ _ _ _ _ _ (sym c.in_default.ensures) (sym c.time_holds.ensures ∙ c.if-not-time_holds.true))
 
 pub returns-in-Against-check_data : goal.returns-in-Against-check_data
 returns-in-Against-check_data c =
     lent_refused refuses _ _
-    (data_against _ _ _ _ _ _ _ _ (sym c.check_parameter_indicator.ensures ∙ ap checked_says c.in_default.is) (sym c.time_holds.ensures ∙ c.if-not-time_holds.false)
-    (sym c.check_data.ensures ∙ ap checked_says c.in-Against-check_data.is))
+    (data_against _ _ _ _ _ _ _ _ (sym c.in_default.ensures) (sym c.time_holds.ensures ∙ c.if-not-time_holds.false)
+    (sym c.in-Against-check_data.ensures))
 
 pub overflow_add-size : goal.overflow_add-size
 overflow_add-size c = omega (arith, c.parameters_size.ensures, c.time_size.ensures, size_small c.args.has_time c.args.pid c.args.dcs c.args.udl, c.requires.1)

@@ -1,7 +1,7 @@
 -- `status_report::reading::after_address` meets its contract: field by field, as the layout has them.
 use mathlib.Core.Path.{◌≡◌, sym, ◌∙◌, ap}
 use native.Mathlib.Omega.{arith}
-use Rattle.octets.specs.Answers.{gives, octet_says, span_says}
+use Rattle.octets.specs.Answers.{gives, span_says}
 use Rattle.octets.specs.Places.{octet_at, span_at}
 use Rattle.octets.proofs.Places.{octet_read, span_inside}
 use Rattle.status_report.proofs.FieldByField.{no_time, no_discharge, no_status, to_status_lem}
@@ -18,16 +18,16 @@ discharge : (d : lts.Past-After-known_told2 tie.the-claims reads.Pre reads.Post)
 discharge d = sym d.span-2.ensures ∙ ap span_says d.in-There-span.is
 
 status : (c : lts.Past-After-known_told3 tie.the-claims reads.Pre reads.Post) → octet_at c.args.«data».now c.in-There-span.place3 ≡ gives (c.in-Read.status, c.in-Read.place4)
-status c = sym c.octet.ensures ∙ ap octet_says c.in-Read.is
+status c = sym c.in-Read.ensures
 
 pub returns-in_default : goal.returns-in_default
-returns-in_default c = (no_time _ _ _ _ _ (sym c.span.ensures ∙ ap span_says c.in_default.is), tt)
+returns-in_default c = (no_time _ _ _ _ _ (sym c.in_default.ensures), tt)
 
 pub returns-in_default-span : goal.returns-in_default-span
-returns-in_default-span c = (no_discharge _ _ _ _ _ (timestamp c.before.before.before) (sym c.span-2.ensures ∙ ap span_says c.in_default-span.is), tt)
+returns-in_default-span c = (no_discharge _ _ _ _ _ (timestamp c.before.before.before) (sym c.in_default-span.ensures), tt)
 
 pub returns-in_default-octet : goal.returns-in_default-octet
-returns-in_default-octet c = (no_status _ _ _ _ _ (timestamp c.before.before.before.before.before) (discharge c.before.before.before) (sym c.octet.ensures ∙ ap octet_says c.in_default-octet.is), tt)
+returns-in_default-octet c = (no_status _ _ _ _ _ (timestamp c.before.before.before.before.before) (discharge c.before.before.before) (sym c.in_default-octet.ensures), tt)
 
 pub after_status-requires : goal.after_status-requires
 after_status-requires c = let t = c.before.before.before.before.before in

@@ -3,7 +3,6 @@ use mathlib.Core.Path.{◌≡◌, refl, sym, ◌∙◌, ap}
 use native.Mathlib.Omega.{arith}
 use Rattle.octets.specs.Answers.{gives, octet_says}
 use Rattle.layout.specs.Internal.{indicator_at}
-use Rattle.parameters.specs.Internal.{parameters_says}
 use Rattle.parameters.proofs.StepsOfReader.{Found, parameters_after}
 use Rattle.status_report.specs.Internal.{fields_at}
 use Rattle.status_report.proofs.FieldByField.{ended, no_indicator, no_parameters_lem, whole}
@@ -20,19 +19,19 @@ found : (c : lts.After-struct_known tie.the-claims reads.Pre reads.Post) → let
 found c =
     let i = c.before.before.before in
     parameters_after _ _ (announced i) (λ j. (c.shared_slice_known-1.given j).fits)
-    (sym c.read_parameters.ensures ∙ ap parameters_says c.in-Read-read_parameters.is)
+    (sym c.in-Read-read_parameters.ensures)
 
 pub returns-then-at-data : goal.returns-then-at-data
 unfolding fields_at
 returns-then-at-data c = let p = c.requires in (ended _ _ _ c.if-at-data.true, (p.0, p.1, p.2, omega arith, omega arith, refl))
 
 pub returns-in_default : goal.returns-in_default
-returns-in_default c = (no_indicator _ _ _ c.if-at-data.false (sym c.read_indicator.ensures ∙ ap octet_says c.in_default.is), tt)
+returns-in_default c = (no_indicator _ _ _ c.if-at-data.false (sym c.in_default.ensures), tt)
 
 pub returns-in_default-read_parameters : goal.returns-in_default-read_parameters
 returns-in_default-read_parameters c =
     let i = c.before.before.before in
-    (no_parameters_lem _ _ _ c.if-at-data.false (announced i) (sym c.read_parameters.ensures ∙ ap parameters_says c.in_default-read_parameters.is), tt)
+    (no_parameters_lem _ _ _ c.if-at-data.false (announced i) (sym c.in_default-read_parameters.ensures), tt)
 
 pub returns : goal.returns
 unfolding fields_at

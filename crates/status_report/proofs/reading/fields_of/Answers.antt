@@ -21,16 +21,16 @@ address : (a : lts.Past-After-known_told3 tie.the-claims reads.Pre reads.Post) �
 address a = sym a.address_span.ensures ∙ ap span_says a.in-There.is
 
 pub returns-in_default : goal.returns-in_default
-returns-in_default c = (no_first _ (sym c.octet.ensures ∙ ap octet_says c.in_default.is), tt)
+returns-in_default c = (no_first _ (sym c.in_default.ensures), tt)
 
 pub returns-then-first-ne-MTI_STATUS_REPORT : goal.returns-then-first-ne-MTI_STATUS_REPORT
 returns-then-first-ne-MTI_STATUS_REPORT c = (other_type _ (first c.before.before) c.if-first-ne-MTI_STATUS_REPORT.true, tt)
 
 pub returns-in_default-octet : goal.returns-in_default-octet
-returns-in_default-octet c = (no_reference _ (first c.before.before.before.before) c.if-first-ne-MTI_STATUS_REPORT.false (sym c.octet-2.ensures ∙ ap octet_says c.in_default-octet.is), tt)
+returns-in_default-octet c = (no_reference _ (first c.before.before.before.before) c.if-first-ne-MTI_STATUS_REPORT.false (sym c.in_default-octet.ensures), tt)
 
 pub returns-in_default-address_span : goal.returns-in_default-address_span
-returns-in_default-address_span c = (no_address _ (first c.before.before.before.before.before.before) c.if-first-ne-MTI_STATUS_REPORT.false (reference c.before.before.before) (sym c.address_span.ensures ∙ ap span_says c.in_default-address_span.is), tt)
+returns-in_default-address_span c = (no_address _ (first c.before.before.before.before.before.before) c.if-first-ne-MTI_STATUS_REPORT.false (reference c.before.before.before) (sym c.in_default-address_span.ensures), tt)
 
 pub after_address-requires : goal.after_address-requires
 after_address-requires c = let (room, past, is, place) = to_address_lem _ (first c.before.before.before.before.before.before) c.if-first-ne-MTI_STATUS_REPORT.false (reference c.before.before.before) (address c.before) in (room, past)

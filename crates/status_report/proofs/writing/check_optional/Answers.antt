@@ -1,6 +1,5 @@
 -- `status_report::writing::check_optional` meets its contract: with an indicator its checks, without one nothing may be held.
-use mathlib.Core.Path.{sym, ◌∙◌, ap}
-use Rattle.octets.specs.Answers.{checked_says}
+use mathlib.Core.Path.{sym, ◌∙◌}
 use Rattle.status_report.proofs.CheckByCheck.{none_against, none_fine, indicator_against, indicator_fine}
 use Rattle.status_report.proofs.writing.check_optional.Goals as goal
 
@@ -14,7 +13,7 @@ pub returns-in_default : goal.returns-in_default
 returns-in_default c = rw c.in_default.is (none_fine _ _ c.parameters_size.ensures c.if-parameters_size-ne0.false)
 
 pub returns-in-Against : goal.returns-in-Against
-returns-in-Against c = rw c.in-Present.is (indicator_against _ _ _ (sym c.check_parameter_indicator.ensures ∙ ap checked_says c.in-Against.is))
+returns-in-Against c = rw c.in-Present.is (indicator_against _ _ _ (sym c.in-Against.ensures))
 
 pub returns : goal.returns
-returns c = c.check_data.ensures ∙ rw c.in-Present.is (indicator_fine _ _ _ (sym c.check_parameter_indicator.ensures ∙ ap checked_says c.in_default-check_parameter_indicator.is))
+returns c = c.check_data.ensures ∙ rw c.in-Present.is (indicator_fine _ _ _ (sym c.in_default-check_parameter_indicator.ensures))

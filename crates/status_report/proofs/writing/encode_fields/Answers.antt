@@ -5,7 +5,7 @@ use native.Mathlib.Omega.{arith}
 use lib.ListN.{length}
 use Rattle.octets.specs.Answers.{gives, fine, checked_says}
 use Rattle.octets.specs.Checks.{found}
-use Rattle.address.specs.Writing.{address_making, address_check_says}
+use Rattle.address.specs.Writing.{address_making}
 use Rattle.address.specs.Internal.{check_of}
 use Rattle.address.proofs.Checks.{fine_small}
 use Rattle.parameters.proofs.Laws.{one_at_most}
@@ -18,7 +18,7 @@ use Rattle.status_report.proofs.writing.encode_fields.Reads as reads
 
 -- the address has passed: its length octet is known
 counted : (c : lts.Past-After-known_told2 tie.the-claims reads.Pre reads.Post) → let a = c.args in check_of (address_making a.v.ton a.v.npi a.text.now) ≡ gives c.in-Fine.count
-counted c = sym c.check_address.ensures ∙ ap address_check_says c.in-Fine.is
+counted c = sym c.in-Fine.ensures
 
 -- what the checks after it find
 rest_found : (c : lts.After-check_optional tie.the-claims reads.Pre reads.Post) → let a = c.args in found (checks_after a.limit a.v a.scts.now a.dt.now a.«data».now) ≡ checked_says c.check_optional.result
@@ -75,7 +75,7 @@ put_fields-requires c = let s = c.before.before.before in
     (counted s.before.before.before.before.before.before.before.before, scts, dt, omega (arith, c.if-out-count.false, size_is s))
 
 pub returns-in-Refused : goal.returns-in-Refused
-returns-in-Refused c = address_against _ _ _ _ _ _ _ (sym c.check_address.ensures ∙ ap address_check_says c.in-Refused.is)
+returns-in-Refused c = address_against _ _ _ _ _ _ _ (sym c.in-Refused.ensures)
 
 pub returns-else-out-count : goal.returns-else-out-count
 returns-else-out-count c = let s = c.before.before.before.before.before.before in written _ _ _ _ _ _ _ (counted s.before.before.before.before.before.before.before.before) (passes s) (omega (arith, c.if-out-count.false, size_is s)) c.put_fields.ensures

@@ -1,34 +1,33 @@
 -- `submit::reading::fields_of` meets its contract: it finds what the layout reads.
-use mathlib.Core.Path.{sym, ◌∙◌, ap}
-use Rattle.octets.specs.Answers.{octet_says, span_says}
+use mathlib.Core.Path.{sym, ◌∙◌}
 use Rattle.submit.proofs.FieldByField.{no_first, other_type, no_mr, no_address, no_pid, no_dcs, to_dcs, room, address_third}
 use Rattle.submit.proofs.reading.fields_of.Goals as goal
 
 pub returns-in_default : goal.returns-in_default
-returns-in_default c = (no_first _ (sym c.octet.ensures ∙ ap octet_says c.in_default.is), tt)
+returns-in_default c = (no_first _ (sym c.in_default.ensures), tt)
 
 pub returns-then-first-ne-MTI_SUBMIT : goal.returns-then-first-ne-MTI_SUBMIT
-returns-then-first-ne-MTI_SUBMIT c = (other_type _ (sym c.octet.ensures ∙ ap octet_says c.in-Read.is) c.if-first-ne-MTI_SUBMIT.true, tt)
+returns-then-first-ne-MTI_SUBMIT c = (other_type _ (sym c.in-Read.ensures) c.if-first-ne-MTI_SUBMIT.true, tt)
 
 pub returns-in_default-octet : goal.returns-in_default-octet
-returns-in_default-octet c = (no_mr _ (sym c.octet.ensures ∙ ap octet_says c.in-Read.is) c.if-first-ne-MTI_SUBMIT.false (sym c.octet-2.ensures ∙ ap octet_says c.in_default-octet.is), tt)
+returns-in_default-octet c = (no_mr _ (sym c.in-Read.ensures) c.if-first-ne-MTI_SUBMIT.false (sym c.in_default-octet.ensures), tt)
 
 pub returns-in_default-address_span : goal.returns-in_default-address_span
-returns-in_default-address_span c = (no_address _ (sym c.octet.ensures ∙ ap octet_says c.in-Read.is) c.if-first-ne-MTI_SUBMIT.false (sym c.octet-2.ensures ∙ ap octet_says c.in-Read-octet.is) (sym c.address_span.ensures ∙ ap span_says c.in_default-address_span.is), tt)
+returns-in_default-address_span c = (no_address _ (sym c.in-Read.ensures) c.if-first-ne-MTI_SUBMIT.false (sym c.in-Read-octet.ensures) (sym c.in_default-address_span.ensures), tt)
 
 pub returns-in_default-octet-2 : goal.returns-in_default-octet-2
 returns-in_default-octet-2 c =
-    (no_pid _ (sym c.octet.ensures ∙ ap octet_says c.in-Read.is) c.if-first-ne-MTI_SUBMIT.false (sym c.octet-2.ensures ∙ ap octet_says c.in-Read-octet.is) (sym c.address_span.ensures ∙ ap span_says c.in-There.is) (sym c.octet-3.ensures ∙ ap octet_says c.in_default-octet-2.is), tt)
+    (no_pid _ (sym c.in-Read.ensures) c.if-first-ne-MTI_SUBMIT.false (sym c.in-Read-octet.ensures) (sym c.in-There.ensures) (sym c.in_default-octet-2.ensures), tt)
 
 pub returns-in_default-octet-3 : goal.returns-in_default-octet-3
 returns-in_default-octet-3 c =
-    (no_dcs _ (sym c.octet.ensures ∙ ap octet_says c.in-Read.is) c.if-first-ne-MTI_SUBMIT.false (sym c.octet-2.ensures ∙ ap octet_says c.in-Read-octet.is) (sym c.address_span.ensures ∙ ap span_says c.in-There.is) (sym c.octet-3.ensures ∙ ap octet_says c.in-Read-octet-2.is) (sym c.octet-4.ensures ∙ ap octet_says c.in_default-octet-3.is), tt)
+    (no_dcs _ (sym c.in-Read.ensures) c.if-first-ne-MTI_SUBMIT.false (sym c.in-Read-octet.ensures) (sym c.in-There.ensures) (sym c.in-Read-octet-2.ensures) (sym c.in_default-octet-3.ensures), tt)
 
 pub after_coding-requires : goal.after_coding-requires
 after_coding-requires c =
-    room _ (sym c.octet.ensures ∙ ap octet_says c.in-Read.is) c.if-first-ne-MTI_SUBMIT.false (sym c.octet-2.ensures ∙ ap octet_says c.in-Read-octet.is) (sym c.address_span.ensures ∙ ap span_says c.in-There.is) (sym c.octet-3.ensures ∙ ap octet_says c.in-Read-octet-2.is) (sym c.octet-4.ensures ∙ ap octet_says c.in-Read-octet-3.is)
+    room _ (sym c.in-Read.ensures) c.if-first-ne-MTI_SUBMIT.false (sym c.in-Read-octet.ensures) (sym c.in-There.ensures) (sym c.in-Read-octet-2.ensures) (sym c.in-Read-octet-3.ensures)
 
 pub returns : goal.returns
 returns c =
     let r = c.after_coding.ensures in
-    (r.0 ∙ to_dcs _ (sym c.octet.ensures ∙ ap octet_says c.in-Read.is) c.if-first-ne-MTI_SUBMIT.false (sym c.octet-2.ensures ∙ ap octet_says c.in-Read-octet.is) (sym c.address_span.ensures ∙ ap span_says c.in-There.is) (sym c.octet-3.ensures ∙ ap octet_says c.in-Read-octet-2.is) (sym c.octet-4.ensures ∙ ap octet_says c.in-Read-octet-3.is) (λ j. (c.type_inv.«data» j).fits), rw (address_third _ (sym c.octet.ensures ∙ ap octet_says c.in-Read.is) c.if-first-ne-MTI_SUBMIT.false (sym c.octet-2.ensures ∙ ap octet_says c.in-Read-octet.is) (sym c.address_span.ensures ∙ ap span_says c.in-There.is)) at r.1)
+    (r.0 ∙ to_dcs _ (sym c.in-Read.ensures) c.if-first-ne-MTI_SUBMIT.false (sym c.in-Read-octet.ensures) (sym c.in-There.ensures) (sym c.in-Read-octet-2.ensures) (sym c.in-Read-octet-3.ensures) (λ j. (c.type_inv.«data» j).fits), rw (address_third _ (sym c.in-Read.ensures) c.if-first-ne-MTI_SUBMIT.false (sym c.in-Read-octet.ensures) (sym c.in-There.ensures)) at r.1)

@@ -1,16 +1,16 @@
 -- `submit::writing::encode_fields` meets its contract: each answer is a case of what the writer makes.
 use Prim.Native.Nat.{ℕ, ◌+◌, ◌/◌}
-use mathlib.Core.Path.{◌≡◌, sym, ap, ◌∙◌}
+use mathlib.Core.Path.{◌≡◌, sym, ◌∙◌}
 use mathlib.Core.Bool.{true}
 use mathlib.Core.List.{List}
 use native.Mathlib.Omega.{arith}
 use borrow.Author.Rules.{rules}
 use lib.ListN.{length}
-use Rattle.octets.specs.Answers.{gives, refuses, fine, checked_says}
+use Rattle.octets.specs.Answers.{gives, refuses, fine}
 use Rattle.octets.specs.Lent.{made}
 use Rattle.octets.proofs.Laws.{kept_by, lent_refused, lent_short, lent_written}
 use Rattle.coding.specs.Coding.{checked_data}
-use Rattle.address.specs.Writing.{address_making, address_check_says}
+use Rattle.address.specs.Writing.{address_making}
 use Rattle.address.specs.Internal.{check_of}
 use Rattle.address.proofs.Checks.{fine_small}
 use Rattle.validity_period.specs.Validity.{format_of, period_size, period_octets, time_holds}
@@ -60,10 +60,10 @@ module _ (c : lts.Past-After-known_told3 tie.the-claims reads.Pre reads.Post) wh
   octets = octets_in (values begun) (start begun).args.text.now (period_octets (values begun).period digits enhanced) ud
 
   data_fine : checked_data (values begun).dcs (values begun).udl (length ud) ≡ fine
-  data_fine = sym c.check_user_data.ensures ∙ ap checked_says c.in_default.is
+  data_fine = sym c.in_default.ensures
 
   address_fine : check_of (address_making (values begun).ton (values begun).npi (start begun).args.text.now) ≡ gives count
-  address_fine = sym c.check_address.ensures ∙ ap address_check_says c.in-Fine.is
+  address_fine = sym c.in-Fine.ensures
 
   seven : length enhanced ≡ 7
   seven = search rules
@@ -89,7 +89,7 @@ pub returns-then-not-there : goal.returns-then-not-there
 returns-then-not-there c = lent_refused refuses _ _ (no_destination _ _ _ _ _ _ _ _ c.if-mti-ne-MTI_SUBMIT.false (c.if-vpf-format.false ∙ c.format.ensures.0) (c.if-not-there.true))
 
 pub returns-in-Against : goal.returns-in-Against
-returns-in-Against c = let b = c.before.before.before in lent_refused refuses _ _ (data_against _ _ _ _ _ _ _ _ (mti_is b) (format_is b) (there_is b) (sym c.check_user_data.ensures ∙ ap checked_says c.in-Against.is))
+returns-in-Against c = let b = c.before.before.before in lent_refused refuses _ _ (data_against _ _ _ _ _ _ _ _ (mti_is b) (format_is b) (there_is b) (sym c.in-Against.ensures))
 
 pub returns-then-not-check_period : goal.returns-then-not-check_period
 returns-then-not-check_period c = let p = c.before.before.before in let b = begun p in lent_refused refuses _ _ (no_time _ _ _ _ _ _ _ _ (mti_is b) (format_is b) (there_is b) (data_fine p) (address_fine p) (sym c.check_period.ensures ∙ c.if-not-check_period.true))
@@ -120,7 +120,7 @@ put_fields-requires c =
     (address_fine p, time_held b.before.before, seven p, rw (← format_is (begun p), ← size) c.if-out-count.false)
 
 pub returns-in-Refused : goal.returns-in-Refused
-returns-in-Refused c = let b = c.before.before.before.before.before in lent_refused refuses _ _ (address_against _ _ _ _ _ _ _ _ (mti_is b) (format_is b) (there_is b) (sym c.check_user_data.ensures ∙ ap checked_says c.in_default.is) (sym c.check_address.ensures ∙ ap address_check_says c.in-Refused.is))
+returns-in-Refused c = let b = c.before.before.before.before.before in lent_refused refuses _ _ (address_against _ _ _ _ _ _ _ _ (mti_is b) (format_is b) (there_is b) (sym c.in_default.ensures) (sym c.in-Refused.ensures))
 
 pub shape_of-out : goal.shape_of-out
 shape_of-out c = kept_by c.put_fields.ensures
