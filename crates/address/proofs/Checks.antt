@@ -1,5 +1,6 @@
 -- What a check of an address tells, case by case.
 -- Assumes nothing.
+use Rattle.std.specs.Prelude.{Ok, Err}
 use Prim.Native.Nat.{ℕ, suc, ◌+◌, ◌*◌, ◌/◌, ◌≤◌, ◌<◌}
 use mathlib.Core.Path.{◌≡◌, refl, sym, ◌∙◌, ap}
 use mathlib.Core.Bool.{Bool, true, false, ◌&&◌, ◌||◌, false≢true}
@@ -10,7 +11,7 @@ use native.Mathlib.Numerals.{add-one, add-two}
 use borrow.Author.Tests.{lt-ltb, le-ltb, eq-eqb, ne_eqb, ltb-true, ltb-false, eqb-true, eqb-false, leb-true, leb-false}
 use lib.Dec.{eqb, leb, ltb}
 use lib.ListN.{length, set}
-use Rattle.octets.specs.Answers.{Said, gives, refuses, fine}
+use Rattle.octets.specs.Answers.{Said, fine}
 use Rattle.octets.specs.Checks.{Check, ◌unless◌, found, checked}
 use Rattle.octets.specs.Each.{each}
 use Rattle.octets.specs.Lent.{Making, refused, made, Wrote}
@@ -31,19 +32,19 @@ module _ (ton npi l : ℕ) (value : List ℕ) where
   pub limited_long : 10 < length value → limited (some (field_of ton npi l value)) ≡ refused AddressTooLong
   limited_long h = rw (lt-ltb 12 (suc (suc (length value))) (omega arith))
 
-  pub limited_fine : length value ≤ 10 → limited (some (field_of ton npi l value)) ≡ made (field_of ton npi l value) (gives (length (field_of ton npi l value)))
+  pub limited_fine : length value ≤ 10 → limited (some (field_of ton npi l value)) ≡ made (field_of ton npi l value) (length (field_of ton npi l value))
   limited_fine h = rw (le-ltb 12 (suc (suc (length value))) (omega arith))
 
 -- a text in septets: eleven take ten octets
 module _ (ton npi : ℕ) {o : Option (List ℕ)} where
-  pub text_none : o ≡ none → check_of (limited (text_field ton npi o)) ≡ refuses NotInAlphabet
+  pub text_none : o ≡ none → check_of (limited (text_field ton npi o)) ≡ Err NotInAlphabet
   text_none e = rw e
 
   module _ (ss : List ℕ) (e : o ≡ some ss) where
-    pub text_long : 11 < length ss → check_of (limited (text_field ton npi o)) ≡ refuses AddressTooLong
+    pub text_long : 11 < length ss → check_of (limited (text_field ton npi o)) ≡ Err AddressTooLong
     text_long h = rw (e, limited_long ton npi ((length ss * 7 + 3) / 4) (packed_septets 0 ss) (rw length_packed (omega arith)))
 
-    pub text_fine : length ss ≤ 11 → check_of (limited (text_field ton npi o)) ≡ gives ((length ss * 7 + 3) / 4)
+    pub text_fine : length ss ≤ 11 → check_of (limited (text_field ton npi o)) ≡ Ok ((length ss * 7 + 3) / 4)
     text_fine h = rw (e, limited_fine ton npi ((length ss * 7 + 3) / 4) (packed_septets 0 ss) (rw length_packed (omega arith)))
 
 -- type, plan and text
@@ -80,15 +81,15 @@ module _ (ton npi : ℕ) (text : List ℕ) where
           digits_long h = digits_octets ∙ limited_long ton npi (length text) (in_pairs (map digit_value text)) (rw (digits_size text) (omega arith))
 
           pub digits_fine : length text ≤ 20 → address_making ton npi text
-              ≡ made (field_of ton npi (length text) (in_pairs (map digit_value text))) (gives (length (field_of ton npi (length text) (in_pairs (map digit_value text)))))
+              ≡ made (field_of ton npi (length text) (in_pairs (map digit_value text))) (length (field_of ton npi (length text) (in_pairs (map digit_value text))))
           digits_fine h = digits_octets ∙ limited_fine ton npi (length text) (in_pairs (map digit_value text)) (rw (digits_size text) (omega arith))
 
 -- ---- an address that a check passed
 
-no : {A : Type 0} {c : Said ℕ} {l : ℕ} (r : Refusal) → c ≡ gives l → c ≡ refuses r → A
+no : {A : Type 0} {c : Said ℕ} {l : ℕ} (r : Refusal) → c ≡ Ok l → c ≡ Err r → A
 no r p q = let z : ◌≡◌ {A = ℕ} 0 1 = cc in absurd (omega arith)
 
-module _ (ton npi : ℕ) (text : List ℕ) (l : ℕ) (fine : check_of (address_making ton npi text) ≡ gives l) where
+module _ (ton npi : ℕ) (text : List ℕ) (l : ℕ) (fine : check_of (address_making ton npi text) ≡ Ok l) where
   pub fine_range : (ton ≤ 7) × (npi ≤ 15)
   fine_range = by (ltb 7 ton) refl (ltb 15 npi) refl
     where
@@ -106,7 +107,7 @@ module _ (ton npi : ℕ) (text : List ℕ) (l : ℕ) (fine : check_of (address_m
   unfolding address_octets
   fine_text e = by (septets_of text) refl
     where
-      told : check_of (limited (text_field 5 npi (septets_of text))) ≡ gives l
+      told : check_of (limited (text_field 5 npi (septets_of text))) ≡ Ok l
       told = sym (ap check_of (text_making ton npi text fine_range.0 fine_range.1 e)) ∙ fine
 
       by_count : (ss : List ℕ) → septets_of text ≡ some ss → (t : Bool) → ltb 11 (length ss) ≡ t → InSeptets
@@ -153,20 +154,20 @@ module _ (ton npi : ℕ) (text : List ℕ) (l : ℕ) (fine : check_of (address_m
       by true e = let f = fine_text (eqb-true _ _ e) in omega (arith, ap (λ (o : Option (List ℕ)). length (octets_or [] o)) f.4, f.3, length_packed 0 f.0)
       by false e = let f = fine_digits (eqb-false _ _ e) in omega (arith, ap (λ (o : Option (List ℕ)). length (octets_or [] o)) f.2, f.1, digits_size text)
 
-  pub fine_made : address_making ton npi text ≡ made octets (gives (length octets))
+  pub fine_made : address_making ton npi text ≡ made octets (length octets)
   fine_made = making ∙ by (address_octets ton npi text) refl
     where
       making : address_making ton npi text ≡ limited (address_octets ton npi text)
       making = making_limited ton npi text fine_range.0 fine_range.1
 
-      by : (o : Option (List ℕ)) → address_octets ton npi text ≡ o → limited (address_octets ton npi text) ≡ made octets (gives (length octets))
+      by : (o : Option (List ℕ)) → address_octets ton npi text ≡ o → limited (address_octets ton npi text) ≡ made octets (length octets)
       by none e = no _ fine (ap check_of making ∙ ap (λ (o : Option (List ℕ)). check_of (limited o)) e)
       by (some xs) e =
           let few : length xs ≤ 12 = omega (arith, fine_size, fine_small, ap (λ (o : Option (List ℕ)). length (octets_or [] o)) e) in
           rw (e, le-ltb 12 (length xs) few)
 
 -- what a check refuses is refused
-pub refused_made : {m : Making (Said ℕ)} {r : Refusal} → check_of m ≡ refuses r → m ≡ refused r
+pub refused_made : {m : Making ℕ} {r : Refusal} → check_of m ≡ Err r → m ≡ refused r
 refused_made {m = refused k} e = cc
 refused_made {m = made xs w} e = let z : ◌≡◌ {A = ℕ} 0 1 = cc in absurd (omega arith)
 
@@ -179,9 +180,9 @@ pub wrote_field : (at l t : ℕ) (value out : List ℕ) {next : ℕ} {after : Li
 wrote_field at l t value out w = record { place = w.place ∙ omega arith; list = w.list ∙ rw (add-one, add-two) }
 
 -- the address among the checks of a writer of several fields: the check's answer decides
-abbrev pub after_check : Said ℕ → Making (Said ℕ) → Making (Said ℕ)
-after_check (gives l) next = next
-after_check (refuses r) next = refused r
+abbrev pub after_check : Said ℕ → Making ℕ → Making ℕ
+after_check (Ok l) next = next
+after_check (Err r) next = refused r
 
 pub address_checked : (ton npi : ℕ) (text : List ℕ) (checks : List Check) (xs : List ℕ)
     → checked (address_checks ton npi text ++ checks) xs ≡ after_check (check_of (address_making ton npi text)) (checked checks xs)
@@ -203,12 +204,12 @@ address_checked ton npi text checks xs = by_type (leb ton 7) refl (leb npi 15) r
 
 -- ---- what was written
 
-limited_made : (o : Option (List ℕ)) (xs : List ℕ) (w : Said ℕ) → limited o ≡ made xs w → o ≡ some xs
+limited_made : (o : Option (List ℕ)) (xs : List ℕ) (w : ℕ) → limited o ≡ made xs w → o ≡ some xs
 limited_made none xs w e = let z : ◌≡◌ {A = ℕ} 0 1 = cc in absurd (omega arith)
 limited_made (some ys) xs w e = let (few, m) = made_unless AddressTooLong (ltb 12 (length ys)) e in cc
 
 -- where octets are made, they are those of the address, and type and plan are small
-pub octets_made : (ton npi : ℕ) (text xs : List ℕ) (w : Said ℕ) → address_making ton npi text ≡ made xs w → (ton ≤ 7) × (npi ≤ 15) × (address_octets ton npi text ≡ some xs)
+pub octets_made : (ton npi : ℕ) (text xs : List ℕ) (w : ℕ) → address_making ton npi text ≡ made xs w → (ton ≤ 7) × (npi ≤ 15) × (address_octets ton npi text ≡ some xs)
 unfolding address_making
 octets_made ton npi text xs w e =
     let (small, o) = made_unless NumberTypeOrPlanTooLarge (ltb 7 ton || ltb 15 npi) e in

@@ -4,8 +4,9 @@ use Prim.Native.Nat.{ℕ, zero, suc, ◌+◌, ◌-◌, ◌*◌, ◌/◌, ◌<◌
 use mathlib.Core.Path.{◌≡◌, refl, ◌∙◌}
 use mathlib.Core.Bool.{Bool, true, false}
 use mathlib.Core.List.{List, [], ◌∷◌, map}
+use mathlib.Core.Logic.{◌↔◌}
 use native.Mathlib.Omega.{arith}
-use borrow.Author.Tests.{eqb-true}
+use borrow.Author.Tests.{eqb-true, ltb-true, lt-ltb}
 use lib.Dec.{eqb}
 use lib.ListN.{length, get_or, drop, length-map}
 use Rattle.std.specs.Prelude.{if◌then◌else◌}
@@ -15,7 +16,7 @@ use Rattle.octets.specs.Texts.{codes}
 use Rattle.octets.proofs.SemiOctets.{length_pairs}
 use Rattle.octets.proofs.Table.{below}
 use Rattle.gsm7.specs.Alphabet.{index_of}
-use Rattle.address.specs.Writing.{digit_characters, digit_value}
+use Rattle.address.specs.Writing.{digit_characters, digit_value, is_digit}
 
 -- a place in a list is at most its length
 index_small : (t : List ℕ) (x : ℕ) → index_of t x ≤ length t
@@ -42,6 +43,11 @@ value_by_range c h = eqb-true _ _ (below value_test 256 refl c h)
 pub value_small : (c : ℕ) → digit_value c ≤ 15
 unfolding digit_value digit_characters codes
 value_small c = index_small (codes "0123456789*#abc") c
+
+-- a character is a digit exactly when its value isn't 15
+pub digit_told : (c : ℕ) → (is_digit c ≡ true) ↔ (digit_value c ≡ 15 → ⊥)
+unfolding is_digit
+digit_told c = ((λ e p. let h = ltb-true (digit_value c) 15 e in omega arith), λ n. lt-ltb (digit_value c) 15 (omega (arith, value_small c)))
 
 -- the values of characters, one by one
 pub value_at : (text : List ℕ) (i : ℕ) → i < length text → get_or (map digit_value text) i 15 ≡ digit_value (get_or text i 0)

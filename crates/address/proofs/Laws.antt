@@ -11,9 +11,9 @@ use borrow.Author.Tests.{le-ltb}
 use lib.Dec.{eqb, ltb}
 use lib.ListN.{length, get_or, take, drop}
 use lib.Seq.{get_or-drop}
-use Rattle.octets.specs.Answers.{Said, gives, fine}
+use Rattle.octets.specs.Answers.{Said, fine}
 use Rattle.octets.specs.Checks.{Check, found, checked}
-use Rattle.std.specs.Prelude.{if◌then◌else◌}
+use Rattle.std.specs.Prelude.{if◌then◌else◌, Ok}
 use Rattle.octets.specs.Each.{Octets}
 use Rattle.octets.specs.Lent.{refused, made}
 use Rattle.octets.specs.declared.Refusal.TheVariants.{LengthTooLarge, AddressTooLong}
@@ -82,7 +82,7 @@ module _ (f : List ℕ) (field : Field f) where
 
   -- an address that was read is written as its canonical octets exactly when their value has at most 10 octets, else refused with 11
   pub read_written : encoding (address_in f)
-      ≡ (if ltb 12 (length (canonical_address f)) then refused AddressTooLong else made (canonical_address f) (gives (length (canonical_address f))))
+      ≡ (if ltb 12 (length (canonical_address f)) then refused AddressTooLong else made (canonical_address f) (length (canonical_address f)))
   unfolding encoding address_in address_with address_making
   read_written = rw (le-ltb 290 (length (text_in f)) text_short, take_pad, le-ltb 7 (ton_in f) (omega arith), le-ltb 15 (npi_in f) (omega arith), canonical_written.0)
 
@@ -101,7 +101,7 @@ module _ (f : List ℕ) (field : Field f) where
   read_checked checks xs =
       address_checked _ _ _ checks xs ∙ ap (λ m. after_check (check_of m) (checked checks xs)) (sym (encoding_parts (address_in f) length_short) ∙ read_written) ∙ decided (ltb 12 (length (canonical_address f)))
     where
-      decided : (b : Bool) → after_check (check_of (if b then refused AddressTooLong else made (canonical_address f) (gives (length (canonical_address f))))) (checked checks xs) ≡ (if b then refused AddressTooLong else checked checks xs)
+      decided : (b : Bool) → after_check (check_of (if b then refused AddressTooLong else made (canonical_address f) (length (canonical_address f)))) (checked checks xs) ≡ (if b then refused AddressTooLong else checked checks xs)
       decided true = refl
       decided false = refl
 
@@ -154,7 +154,7 @@ module _ (f : List ℕ) where
 -- ---- what was written
 
 -- what was written is a whole field, and reads back as the same record
-pub written_reads : (a : SMSAddress) (xs : List ℕ) (w : Said ℕ) → encoding a ≡ made xs w
+pub written_reads : (a : SMSAddress) (xs : List ℕ) (w : ℕ) → encoding a ≡ made xs w
     → (address_size xs ≡ length xs) × (address_in xs ≡ address_with a.ton a.npi (take a.address_length a.address))
 unfolding encoding
 written_reads a xs w e =

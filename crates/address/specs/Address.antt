@@ -78,7 +78,7 @@ abbrev pub TypedAddress : SMSAddress → Type 0
 TypedAddress a = length a.address ≡ 290
 
 -- what writing a record makes: 1, and then what writing its type, plan and text makes
-unfoldable pub encoding : SMSAddress → Making (Said ℕ)
+unfoldable pub encoding : SMSAddress → Making ℕ
 encoding a = if ltb 290 a.address_length then refused LengthTooLarge else address_making a.ton a.npi (take a.address_length a.address)
 
 -- ---- known rows: 03 91 F1 02 read, and its canonical octets

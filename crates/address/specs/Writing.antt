@@ -1,14 +1,13 @@
 -- Addresses (TS 23.040 §9.1.2.5), what a writer makes of type, plan and text: a length octet L in semi-octets, a type octet, and ceil(L/2) value octets.
-use Rattle.std.specs.Prelude.{ℕ, ◌+◌, ◌*◌, ◌/◌, ◌≡◌, refl, Bool, true, false, ◌&&◌, ◌||◌, List, [], ◌∷◌, map, eqb, leb, ltb, length, if◌then◌else◌}
+use Rattle.std.specs.Prelude.{ℕ, ◌+◌, ◌*◌, ◌/◌, ◌≡◌, refl, Bool, true, false, ◌&&◌, ◌||◌, List, [], ◌∷◌, map, eqb, leb, ltb, length, if◌then◌else◌, Ok}
 use Rattle.std.proofs.Math.Option.{Option, none, some}
-use Rattle.octets.specs.Answers.{Said, gives, refuses}
+use Rattle.octets.specs.Answers.{Said}
 use Rattle.octets.specs.Checks.{Check, ◌unless◌}
 use Rattle.octets.specs.Each.{each}
 use Rattle.octets.specs.Lent.{Making, refused, made}
 use Rattle.octets.specs.SemiOctets.{in_pairs}
 use Rattle.octets.specs.Texts.{codes}
 use Rattle.octets.specs.declared.Refusal.TheVariants.{NumberTypeOrPlanTooLarge, NotInAlphabet, AddressTooLong}
-use Rattle.address.specs.declared.writing.AddressCheck.{AddressCheck}
 use Rattle.septets.specs.Septets.{packed_septets}
 use Rattle.gsm7.specs.Alphabet.{index_of}
 use Rattle.gsm7.specs.Writing.{septets_of}
@@ -52,18 +51,13 @@ octets_or other (some octets) = octets
 -- ---- what is written
 
 -- an address field of more than 12 octets has a value of more than 10
-abbrev pub limited : Option (List ℕ) → Making (Said ℕ)
+abbrev pub limited : Option (List ℕ) → Making ℕ
 limited none = refused NotInAlphabet
-limited (some octets) = if ltb 12 (length octets) then refused AddressTooLong else made octets (gives (length octets))
+limited (some octets) = if ltb 12 (length octets) then refused AddressTooLong else made octets (length octets)
 
 -- what writing type, plan and text makes: refusals 9, 10, 11
-unfoldable pub address_making : ℕ → ℕ → List ℕ → Making (Said ℕ)
+unfoldable pub address_making : ℕ → ℕ → List ℕ → Making ℕ
 address_making ton npi text = if ltb 7 ton || ltb 15 npi then refused NumberTypeOrPlanTooLarge else limited (address_octets ton npi text)
-
--- what a check of an address says: the length octet
-abbrev pub address_check_says : AddressCheck → Said ℕ
-address_check_says (AddressCheck.Fine l) = gives l
-address_check_says (AddressCheck.Refused why) = refuses why
 
 -- those refusals as checks of a writer of several fields
 abbrev pub is_some : Option (List ℕ) → Bool

@@ -3,8 +3,8 @@
 
 pub mod writing;
 
-ghost use Rattle.std.specs.Prelude.{◌≡◌, [], map, ◌+◌, ◌/◌, ◌≤◌, ◌<◌, length, get_or, take, drop};
-ghost use Rattle.octets.specs.Answers.{refuses, span_says, written_says};
+ghost use Rattle.std.specs.Prelude.{◌≡◌, [], map, ◌+◌, ◌/◌, ◌≤◌, ◌<◌, length, get_or, take, drop, Err, ok_or};
+ghost use Rattle.octets.specs.declared.Refusal.TheVariants.{OctetsEnd};
 ghost use Rattle.octets.specs.Lent.{Wrote, lend};
 ghost use Rattle.octets.specs.SemiOctets.{semi_octets};
 ghost use Rattle.gsm7.specs.Reading.{replaced_in};
@@ -13,10 +13,11 @@ ghost use Rattle.address.specs.Internal.{address_span};
 
 use crate::writing::TYPE_OF_NUMBER_ALPHANUMERIC;
 use gsm7::decode::TextPut;
-use octets::{Octet, Place, Refusal, Span, Written};
+use octets::{Place, Refusal};
 
 // An SMS address. `address` holds digits, and text with type of number 5.
-#[derive(Clone, Copy)]
+// An array with its length: there is no heap, and a length past the array is what refusal 1 is of.
+#[derive(Clone, Copy, Debug)]
 pub struct SMSAddress {
     pub ton: u8,
     pub npi: u8,
@@ -25,7 +26,7 @@ pub struct SMSAddress {
 }
 
 // An address that was read, and the number of escapes in its text that led to no character of the extension table.
-#[derive(Clone, Copy)]
+#[derive(Clone, Copy, Debug)]
 pub struct AddressRead {
     pub address: SMSAddress,
     pub replaced: usize,
@@ -59,10 +60,8 @@ pub fn digits_text(value: &[u8], count: usize, text: &mut [u8]) -> usize
     ensures { Wrote 0 (map digit_character (without_f (take count (semi_octets value.now)))) text.old result text.new }
 {
     let mut n = 0;
-    let mut i = 0;
-    while i < count {
+    for i in 0..count {
         let semi = semi_octet(value, i);
-        i += 1;
         if semi == 0xF {
             continue;
         }
@@ -99,11 +98,11 @@ pub fn no_address() -> SMSAddress
 }
 
 // The address field at a place, if it is there whole: where it starts, and the place after it.
-pub fn address_span(data: &[u8], place: Place) -> Span
-    ensures { span_says result ≡ address_span «data».now place }
+pub fn address_span(data: &[u8], place: Place) -> Option<(usize, Place)>
+    ensures { ok_or result OctetsEnd ≡ address_span «data».now place }
 {
-    let Octet::Read(length, _) = place.octet(data) else {
-        return Span::Ended;
+    let Some((length, _)) = place.octet(data) else {
+        return None;
     };
     place.span(data, 2 + (length as usize + 1) / 2)
 }
@@ -133,12 +132,12 @@ pub fn address_at(data: &[u8], at: usize) -> AddressRead
 
 impl SMSAddress {
     // Writes the address to the start of a lent output (TS 23.040 §9.1.2.5).
-    pub fn encode(self, out: &mut [u8]) -> Written
-        ensures { (written_says result, out.new) ≡ lend refuses (encoding self) out.old }
+    pub fn encode(self, out: &mut [u8]) -> Result<usize, Refusal>
+        ensures { (result, out.new) ≡ lend (encoding self) out.old }
     {
         let n = self.address_length;
         if 290 < n {
-            return Written::Refused(Refusal::LengthTooLarge);
+            return Err(Refusal::LengthTooLarge);
         }
         let address = self.address;
         writing::encode_address(self.ton, self.npi, &address[..n], out)

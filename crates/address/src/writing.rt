@@ -1,25 +1,16 @@
 // Addresses (TS 23.040 §9.1.2.5), written from type of number, plan and text.
-ghost use Rattle.std.specs.Prelude.{◌≡◌, [], map, ◌+◌, ◌/◌, ◌≤◌, length, get_or};
-ghost use Rattle.octets.specs.Answers.{gives, refuses, written_says};
+ghost use Rattle.std.specs.Prelude.{◌≡◌, [], map, ◌+◌, ◌/◌, ◌≤◌, length, get_or, Ok, Err};
 ghost use Rattle.octets.specs.Each.{each};
 ghost use Rattle.octets.specs.Lent.{Wrote, lend};
 ghost use Rattle.octets.specs.SemiOctets.{in_pairs};
 ghost use Rattle.septets.specs.Septets.{octet_count, packed_septets};
 ghost use Rattle.gsm7.specs.Writing.{septets_of};
-ghost use Rattle.address.specs.Writing.{address_check_says, digit_value, is_digit, address_octets, octets_or, text_field, limited, address_making};
+ghost use Rattle.address.specs.Writing.{digit_value, is_digit, address_octets, octets_or, text_field, limited, address_making};
 ghost use Rattle.address.specs.Internal.{check_of, Spells, septets_or};
 
-use gsm7::encode::Scanned;
-use octets::{Refusal, Written};
+use octets::Refusal;
 
 pub const TYPE_OF_NUMBER_ALPHANUMERIC: u8 = 5;
-
-// Whether an address can be written: its length octet, or the refusal.
-#[derive(Clone, Copy)]
-pub enum AddressCheck {
-    Fine(usize),
-    Refused(Refusal),
-}
 
 // The semi-octet of a character; F for one that is no digit.
 fn semi_octet_from_character(character: u8) -> u8
@@ -38,50 +29,41 @@ fn semi_octet_from_character(character: u8) -> u8
 pub fn all_digits(text: &[u8]) -> bool
     ensures { result ≡ each is_digit text.now }
 {
-    let mut i = 0;
-    while i < text.len() {
-        if semi_octet_from_character(text[i]) == 0xF {
-            return false;
-        }
-        i += 1;
-    }
-    true
+    text.iter().all(|c| semi_octet_from_character(*c) != 0xF)
 }
 
-// Whether a text in septets can be written.
-fn check_text(npi: u8, text: &[u8]) -> AddressCheck
-    ensures { address_check_says result ≡ check_of (limited (text_field 5 npi (septets_of text.now))) }
+// Whether a text in septets can be written: its length octet, or the refusal.
+fn check_text(npi: u8, text: &[u8]) -> Result<usize, Refusal>
+    ensures { result ≡ check_of (limited (text_field 5 npi (septets_of text.now))) }
 {
     let mut codes = [0u8; 255];
-    let Scanned::Counted(count) = gsm7::encode::scan_text(text, &mut codes) else {
-        return AddressCheck::Refused(Refusal::NotInAlphabet);
-    };
+    let count = gsm7::encode::scan_text(text, &mut codes)?;
     if 11 < count {
-        return AddressCheck::Refused(Refusal::AddressTooLong);
+        return Err(Refusal::AddressTooLong);
     }
-    AddressCheck::Fine((count * 7 + 3) / 4)
+    Ok((count * 7 + 3) / 4)
 }
 
-// Whether type, plan and text can be written.
-pub fn check_address(ton: u8, npi: u8, text: &[u8]) -> AddressCheck
-    ensures { address_check_says result ≡ check_of (address_making ton npi text.now) }
+// Whether type, plan and text can be written: the length octet, or the refusal.
+pub fn check_address(ton: u8, npi: u8, text: &[u8]) -> Result<usize, Refusal>
+    ensures { result ≡ check_of (address_making ton npi text.now) }
 {
     if 7 < ton {
-        return AddressCheck::Refused(Refusal::NumberTypeOrPlanTooLarge);
+        return Err(Refusal::NumberTypeOrPlanTooLarge);
     }
     if 15 < npi {
-        return AddressCheck::Refused(Refusal::NumberTypeOrPlanTooLarge);
+        return Err(Refusal::NumberTypeOrPlanTooLarge);
     }
     if ton == TYPE_OF_NUMBER_ALPHANUMERIC {
         return check_text(npi, text);
     }
     if !all_digits(text) {
-        return AddressCheck::Refused(Refusal::NotInAlphabet);
+        return Err(Refusal::NotInAlphabet);
     }
     if 20 < text.len() {
-        return AddressCheck::Refused(Refusal::AddressTooLong);
+        return Err(Refusal::AddressTooLong);
     }
-    AddressCheck::Fine(text.len())
+    Ok(text.len())
 }
 
 // The semi-octet of character i, F after the end.
@@ -101,12 +83,10 @@ pub fn put_digits(text: &[u8], out: &mut [u8], at: usize) -> usize
     ensures { Wrote at (in_pairs (map digit_value text.now)) out.old result out.new }
 {
     let octets = (text.len() + 1) / 2;
-    let mut j = 0;
-    while j < octets {
+    for j in 0..octets {
         let first = semi_octet_or_f(text, 2 * j);
         let second = semi_octet_or_f(text, 2 * j + 1);
         out[at + j] = first + 16 * second;
-        j += 1;
     }
     at + octets
 }
@@ -117,7 +97,7 @@ fn put_septets(text: &[u8], out: &mut [u8], at: usize) -> usize
     ensures { Wrote at (packed_septets 0 (septets_or (septets_of text.now))) out.old result out.new }
 {
     let mut codes = [0u8; 255];
-    let Scanned::Counted(count) = gsm7::encode::scan_text(text, &mut codes) else {
+    let Ok(count) = gsm7::encode::scan_text(text, &mut codes) else {
         return at;
     };
     septets::pack_octets(&codes[..count], 0, out, at)
@@ -125,7 +105,7 @@ fn put_septets(text: &[u8], out: &mut [u8], at: usize) -> usize
 
 // Writes an address that was checked, with the length octet that the check told; the place after it.
 pub fn put_address(ton: u8, npi: u8, text: &[u8], count: usize, out: &mut [u8], at: usize) -> usize
-    requires { (check_of (address_making ton npi text.now) ≡ gives count) × (at + 2 + (count + 1) / 2 ≤ length out.old) }
+    requires { (check_of (address_making ton npi text.now) ≡ Ok count) × (at + 2 + (count + 1) / 2 ≤ length out.old) }
     ensures { Wrote at (octets_or [] (address_octets ton npi text.now)) out.old result out.new }
 {
     out[at] = count as u8;
@@ -137,17 +117,13 @@ pub fn put_address(ton: u8, npi: u8, text: &[u8], count: usize, out: &mut [u8], 
 }
 
 // Writes type, plan and text to the start of a lent output.
-pub fn encode_address(ton: u8, npi: u8, text: &[u8], out: &mut [u8]) -> Written
-    ensures { (written_says result, out.new) ≡ lend refuses (address_making ton npi text.now) out.old }
+pub fn encode_address(ton: u8, npi: u8, text: &[u8], out: &mut [u8]) -> Result<usize, Refusal>
+    ensures { (result, out.new) ≡ lend (address_making ton npi text.now) out.old }
 {
-    match check_address(ton, npi, text) {
-        AddressCheck::Refused(r) => Written::Refused(r),
-        AddressCheck::Fine(count) => {
-            let needed = 2 + (count + 1) / 2;
-            if out.len() < needed {
-                return Written::Refused(Refusal::OutputTooShort);
-            }
-            Written::Done(put_address(ton, npi, text, count, out, 0))
-        }
+    let count = check_address(ton, npi, text)?;
+    let needed = 2 + (count + 1) / 2;
+    if out.len() < needed {
+        return Err(Refusal::OutputTooShort);
     }
+    Ok(put_address(ton, npi, text, count, out, 0))
 }

@@ -6,6 +6,8 @@ use tpdu::ALPHABET_OCTETS;
 
 fn main(rt: HostRuntime) -> io::Result<()> {
     let mut lines = [0u8; ALPHABET_OCTETS];
-    tpdu::alphabet_lines(&mut lines);
-    rt.write_all(&lines)
+    match tpdu::alphabet_lines(&mut lines) {
+        Ok(_) => rt.write_all(&lines),
+        Err(why) => println!(rt; "refused {}", why.number()),
+    }
 }

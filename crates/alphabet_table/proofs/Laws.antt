@@ -1,12 +1,13 @@
 -- What the lines show: line by line the tables' characters, as the text readers give them; each character stands for one code only, the space of 1B apart; the codes rise.
 -- Assumes nothing.
+use Rattle.std.specs.Prelude.{Ok, Err}
 use Prim.Native.Nat.{ℕ, suc, ◌+◌, ◌*◌, ◌<◌}
 use mathlib.Core.Path.{◌≡◌, refl, sym, ap, ◌∙◌}
 use mathlib.Core.List.{List, [], ◌∷◌, ◌++◌}
 use borrow.Author.Tests.{ltb-true}
 use lib.Dec.{ltb}
 use lib.ListN.{get_or, take, drop}
-use Rattle.octets.specs.Answers.{Said, gives, refuses}
+use Rattle.octets.specs.Answers.{Said}
 use Rattle.octets.specs.Texts.{codes}
 use Rattle.octets.proofs.Table.{below}
 use Rattle.time.specs.Time.{hex_digit}
@@ -20,13 +21,13 @@ use Rattle.alphabet_table.specs.AlphabetLines.{line_of, septet_lines, escape_lin
 
 -- ---- each character stands for one code only
 
-coded : (e : Entry) → code_of (shown_for e) ≡ gives (septets_for e)
+coded : (e : Entry) → code_of (shown_for e) ≡ Ok (septets_for e)
 coded (plain code h n) = alphabet_one_to_one code h n
 coded (extended place h) = extension_coded place h
 
 abbrev septets : Said (List ℕ) → List ℕ
-septets (gives ks) = ks
-septets (refuses why) = []
+septets (Ok ks) = ks
+septets (Err why) = []
 
 -- of both tables together: entries that show one character have one code
 pub one_code : (e f : Entry) → shown_for e ≡ shown_for f → septets_for e ≡ septets_for f

@@ -1,13 +1,12 @@
 // The default alphabet and its extension table (TS 23.038 §6.2.1), a line for each code, for people with phones to test.
 #![tactic(auto)]
 
-ghost use Rattle.std.specs.Prelude.{◌≡◌, ◌+◌, ◌≤◌, length};
-ghost use Rattle.octets.specs.Answers.{gives, refuses, written_says};
+ghost use Rattle.std.specs.Prelude.{◌≡◌, ◌+◌, ◌≤◌, length, Ok, Err};
 ghost use Rattle.octets.specs.Lent.{Wrote, made, lend};
 ghost use Rattle.gsm7.specs.Alphabet.{alphabet, extension};
 ghost use Rattle.alphabet_table.specs.AlphabetLines.{line_of, septet_lines, escape_lines, alphabet_lines};
 
-use octets::{Refusal, Written};
+use octets::Refusal;
 use time::hex_digit;
 
 // How many octets the lines take: 128 of eight octets and ten of ten.
@@ -37,10 +36,8 @@ fn put_septets(out: &mut [u8], table: &[u16; 128]) -> usize
     ensures { Wrote 0 (septet_lines 0 alphabet) out.old result out.new }
 {
     let mut at = 0;
-    let mut septet = 0;
-    while septet < 128 {
-        at = put_line(out, at, septet as u8, table[septet]);
-        septet += 1;
+    for (septet, &character) in table.iter().enumerate() {
+        at = put_line(out, at, septet as u8, character);
     }
     at
 }
@@ -51,24 +48,22 @@ fn put_escapes(out: &mut [u8], at: usize) -> usize
     ensures { Wrote at (escape_lines extension) out.old result out.new }
 {
     let mut next = at;
-    let mut place = 0;
-    while place < 10 {
+    for place in 0..10 {
         let row = gsm7::decode::extension_row(place);
         next = octets::put_octets(out, next, b"1B");
         next = put_line(out, next, row.code, row.character);
-        place += 1;
     }
     next
 }
 
 // Writes a line for each septet and each code that follows an escape to the start of a lent output: of the tables that the text readers use.
-pub fn alphabet_lines(out: &mut [u8]) -> Written
-    ensures { (written_says result, out.new) ≡ lend refuses (made alphabet_lines (gives (length alphabet_lines))) out.old }
+pub fn alphabet_lines(out: &mut [u8]) -> Result<usize, Refusal>
+    ensures { (result, out.new) ≡ lend (made alphabet_lines (length alphabet_lines)) out.old }
 {
     if out.len() < ALPHABET_OCTETS {
-        return Written::Refused(Refusal::OutputTooShort);
+        return Err(Refusal::OutputTooShort);
     }
     let table = gsm7::decode::ALPHABET;
     let at = put_septets(out, &table);
-    Written::Done(put_escapes(out, at))
+    Ok(put_escapes(out, at))
 }

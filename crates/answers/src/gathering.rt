@@ -1,105 +1,114 @@
 // The requests for parts gathered as they come, in the one store that the program keeps.
 use crate::conversions::address_in;
 use crate::fields;
-use crate::fields::unless_refused;
 use output::Output;
-use request_line::{reasons, values};
+use request_line::reasons::{Reason, check_fields};
+use request_line::values;
 use text_fields::fields::field;
-use text_fields::lists::{entry, entry_number};
-use text_fields::slices::between;
-use tpdu::{MessageDropped, MessageTaken, Reference};
+use text_fields::slices::first;
+use tpdu::{MessageDropped, MessageTaken, Reference, Refusal};
 
 // The store.
 pub type Store = [u8; 37696];
 
-// ---- the requests by number, in the order of their names
+// ---- the requests
 
-const EMPTY_STORE: usize = 0;
+#[derive(Clone, Copy, Debug, PartialEq, Eq)]
+pub enum StoreRequest {
+    EmptyStore,
+    Part,
+    Take,
+    Drop,
+}
 
-const PART: usize = 1;
-
-const TAKE: usize = 2;
-
-const DROP: usize = 3;
-
-// How many there are; as a request's number it says that there is no such request.
-pub const REQUESTS: usize = 4;
-
-// The number of the request with a name.
-pub fn request_named(name: &[u8]) -> usize {
-    entry_number(b"empty-store\npart\ntake\ndrop\n", name)
+// The request with a name.
+pub fn store_request_named(name: &[u8]) -> Option<StoreRequest> {
+    match name {
+        b"empty-store" => Some(StoreRequest::EmptyStore),
+        b"part" => Some(StoreRequest::Part),
+        b"take" => Some(StoreRequest::Take),
+        b"drop" => Some(StoreRequest::Drop),
+        _ => None,
+    }
 }
 
 // Whether the reference of a request passes its width.
 fn passes_width(line: &[u8]) -> bool {
-    values::number_of(field(line, 5)) == 8 && 255 < values::reference_of(field(line, 4))
+    values::number_of(field(line, 5).unwrap_or_default()) == 8
+        && 255 < values::reference_of(field(line, 4).unwrap_or_default())
 }
 
-// The reason against the line of a request; `request_line::values::has_form` says which form each letter stands for.
-pub fn against_request(request: usize, line: &[u8]) -> usize {
-    let forms = b"w\nwo\nwnnorbn\nwnnorbn\n";
-    let reason = reasons::against_fields(entry(forms, request), line);
-    if reason != reasons::NONE {
-        return reason;
+// The line of a request for a message.
+fn check_message(line: &[u8]) -> Result<(), Reason> {
+    check_fields(b"wnnorbn", line)?;
+    if passes_width(line) {
+        return Err(Reason::Number);
     }
-    if TAKE <= request {
-        if passes_width(line) {
-            return reasons::NUMBER;
-        }
+    Ok(())
+}
+
+// Whether the line of a request is well formed. `request_line::values::has_form` says which form each letter stands
+// for.
+pub fn check(request: StoreRequest, line: &[u8]) -> Result<(), Reason> {
+    match request {
+        StoreRequest::EmptyStore => check_fields(b"w", line),
+        StoreRequest::Part => check_fields(b"wo", line),
+        StoreRequest::Take | StoreRequest::Drop => check_message(line),
     }
-    reasons::NONE
 }
 
 // ---- answers
 
 // Empties the store.
-fn empty(store: &mut Store, show: bool, out: &mut Output, at: usize) -> usize {
-    let outcome = tpdu::empty_store(store);
-    let next = output::put(out, at, b"ok");
-    unless_refused(out, at, next, outcome, show)
+fn empty(store: &mut Store, out: &mut Output) -> Result<(), Refusal> {
+    tpdu::empty_store(store)?;
+    out.put(b"ok");
+    Ok(())
 }
 
 // A reference and its width.
-fn put_reference(out: &mut Output, at: usize, reference: Reference) -> usize {
-    let start = output::put(out, at, b"ok reference=");
+fn put_reference(out: &mut Output, reference: Reference) {
+    out.put(b"ok reference=");
     match reference {
         Reference::Eight(r) => {
-            let next = output::put_decimal(out, start, r as u64);
-            output::put(out, next, b" width=8")
+            out.put_decimal(u64::from(r));
+            out.put(b" width=8");
         }
         Reference::Sixteen(r) => {
-            let next = output::put_decimal(out, start, r as u64);
-            output::put(out, next, b" width=16")
+            out.put_decimal(u64::from(r));
+            out.put(b" width=16");
         }
     }
 }
 
 // Accepts a part: its numbers, and those that are still missing.
-fn part(store: &mut Store, octets: &[u8], show: bool, out: &mut Output, at: usize) -> usize {
-    let a = tpdu::accept_part(store, octets);
-    let outcome = a.outcome;
-    let reference = a.reference;
-    let missing = a.missing;
-    let p1 = put_reference(out, at, reference);
-    let p2 = fields::number(out, p1, b" total=", a.total);
-    let p3 = fields::number(out, p2, b" number=", a.number);
-    let p4 = output::put(out, p3, b" missing=");
-    let numbers = between(&missing, 0, a.missing_count);
-    let p5 = fields::numbers(out, p4, b"\n,\n,\n,\n,\n,\n,\n,\n", numbers);
-    unless_refused(out, at, p5, outcome, show)
+fn part(store: &mut Store, octets: &[u8], out: &mut Output) -> Result<(), Refusal> {
+    let accepted = tpdu::accept_part(store, octets)?;
+    put_reference(out, accepted.reference);
+    fields::number(out, " total=", accepted.total);
+    fields::number(out, " number=", accepted.number);
+    out.put(b" missing=");
+    let missing = first(&accepted.missing, accepted.missing_count);
+    for (i, number) in missing.iter().enumerate() {
+        if 0 < i {
+            out.put(b",");
+        }
+        out.put_decimal(u64::from(*number));
+    }
+    Ok(())
 }
 
 // The reference that a request names.
 fn reference_in(line: &[u8]) -> Reference {
-    if values::number_of(field(line, 5)) == 8 {
-        return Reference::Eight(values::number_of(field(line, 4)));
+    if values::number_of(field(line, 5).unwrap_or_default()) == 8 {
+        return Reference::Eight(values::number_of(field(line, 4).unwrap_or_default()));
     }
-    Reference::Sixteen(values::reference_of(field(line, 4)))
+    Reference::Sixteen(values::reference_of(field(line, 4).unwrap_or_default()))
 }
 
 // Takes a message.
-fn take(store: &mut Store, line: &[u8], show: bool, out: &mut Output, at: usize) -> usize {
-    let total = values::number_of(field(line, 6));
+fn take(store: &mut Store, line: &[u8], out: &mut Output) -> Result<(), Refusal> {
+    let total = values::number_of(field(line, 6).unwrap_or_default());
     let mut lent = [0u8; 4080];
     match tpdu::take_message(
         store,
@@ -107,42 +116,39 @@ fn take(store: &mut Store, line: &[u8], show: bool, out: &mut Output, at: usize)
         reference_in(line),
         total,
         &mut lent,
-    ) {
+    )? {
         MessageTaken::Whole(dcs, n) => {
-            let next = fields::octet(out, at, b"ok dcs=", dcs);
-            fields::octets(out, next, b" octets=", between(&lent, 0, n))
+            fields::octet(out, "ok dcs=", dcs);
+            fields::octets(out, " octets=", first(&lent, n));
         }
-        MessageTaken::NotOpen => output::put(out, at, b"not open"),
-        MessageTaken::NotWhole => output::put(out, at, b"not whole"),
-        MessageTaken::Refused(why) => fields::refused(out, at, why.number(), show),
+        MessageTaken::NotOpen => out.put(b"not open"),
+        MessageTaken::NotWhole => out.put(b"not whole"),
     }
+    Ok(())
 }
 
 // Drops a message.
-fn drop(store: &mut Store, line: &[u8], show: bool, out: &mut Output, at: usize) -> usize {
-    let total = values::number_of(field(line, 6));
-    match tpdu::drop_message(store, address_in(line), reference_in(line), total) {
-        MessageDropped::Done => output::put(out, at, b"ok"),
-        MessageDropped::NotOpen => output::put(out, at, b"not open"),
-        MessageDropped::Refused(why) => fields::refused(out, at, why.number(), show),
+fn drop(store: &mut Store, line: &[u8], out: &mut Output) -> Result<(), Refusal> {
+    let total = values::number_of(field(line, 6).unwrap_or_default());
+    match tpdu::drop_message(store, address_in(line), reference_in(line), total)? {
+        MessageDropped::Done => out.put(b"ok"),
+        MessageDropped::NotOpen => out.put(b"not open"),
     }
+    Ok(())
 }
 
 // The answer to a request whose last field holds these octets.
 pub fn answer(
-    request: usize,
+    request: StoreRequest,
     line: &[u8],
     octets: &[u8],
     store: &mut Store,
-    show: bool,
     out: &mut Output,
-    at: usize,
-) -> usize {
+) -> Result<(), Refusal> {
     match request {
-        EMPTY_STORE => empty(store, show, out, at),
-        PART => part(store, octets, show, out, at),
-        TAKE => take(store, line, show, out, at),
-        DROP => drop(store, line, show, out, at),
-        _ => at,
+        StoreRequest::EmptyStore => empty(store, out),
+        StoreRequest::Part => part(store, octets, out),
+        StoreRequest::Take => take(store, line, out),
+        StoreRequest::Drop => drop(store, line, out),
     }
 }

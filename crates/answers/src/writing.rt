@@ -2,89 +2,91 @@
 use crate::fields;
 use crate::fields::Lent;
 use output::Output;
-use request_line::keys::value;
+use request_line::keys::{Key, Kind, Report, value};
+use request_line::values::PeriodFormat;
 use request_line::{keys, values};
+use text_fields::slices::first;
 use tpdu::{
-    OptionalOctet, RpOutcome, SMSAddress, SmsDeliver, SmsDeliverReport, SmsStatusReport, SmsSubmit,
-    SmsSubmitReport, SubmitText, Time, UserData, ValidityPeriod, Written,
+    Refusal, RpOutcome, SMSAddress, SmsDeliver, SmsDeliverReport, SmsStatusReport, SmsSubmit,
+    SmsSubmitReport, SubmitText, Time, UserData, ValidityPeriod,
 };
 
 // ---- the values of keys
 
-fn flag(line: &[u8], key: usize) -> bool {
+fn flag(line: &[u8], key: Key) -> bool {
     values::flag_of(value(line, key))
 }
 
-fn number(line: &[u8], key: usize) -> u8 {
+fn number(line: &[u8], key: Key) -> u8 {
     values::number_of(value(line, key))
 }
 
-fn octet(line: &[u8], key: usize) -> u8 {
+fn octet(line: &[u8], key: Key) -> u8 {
     values::octet_of(value(line, key))
 }
 
-fn optional_number(line: &[u8], key: usize) -> OptionalOctet {
+fn optional_number(line: &[u8], key: Key) -> Option<u8> {
     if values::is_absent(value(line, key)) {
-        return OptionalOctet::Absent;
+        return None;
     }
-    OptionalOctet::Present(number(line, key))
+    Some(number(line, key))
 }
 
-fn optional_octet(line: &[u8], key: usize) -> OptionalOctet {
+fn optional_octet(line: &[u8], key: Key) -> Option<u8> {
     if values::is_absent(value(line, key)) {
-        return OptionalOctet::Absent;
+        return None;
     }
-    OptionalOctet::Present(octet(line, key))
+    Some(octet(line, key))
 }
 
 fn outcome(line: &[u8]) -> RpOutcome {
-    if values::is_error(value(line, keys::OUTCOME)) {
+    if values::is_error(value(line, Key::Outcome)) {
         return RpOutcome::RpError;
     }
     RpOutcome::RpAck
 }
 
-fn time(line: &[u8], key: usize) -> Time {
+fn time(line: &[u8], key: Key) -> Time {
     values::time_of(value(line, key))
 }
 
 fn user_data(line: &[u8]) -> UserData {
-    values::data_of(value(line, keys::UD))
+    values::data_of(value(line, Key::Ud))
 }
 
 fn address_of(line: &[u8]) -> SMSAddress {
     let mut address = [0u8; 290];
-    let address_length = values::octets_of(value(line, keys::ADDRESS), &mut address);
+    let address_length = values::octets_of(value(line, Key::Address), &mut address);
     SMSAddress {
-        ton: number(line, keys::TON),
-        npi: number(line, keys::NPI),
+        ton: number(line, Key::Ton),
+        npi: number(line, Key::Npi),
         address,
         address_length,
     }
 }
 
 fn period_of(value: &[u8]) -> ValidityPeriod {
-    match values::period_format(value) {
-        values::RELATIVE => ValidityPeriod::Relative(values::octet_of(values::period_value(value))),
-        values::ABSOLUTE => ValidityPeriod::Absolute,
-        values::ENHANCED => ValidityPeriod::Enhanced,
-        _ => ValidityPeriod::None,
+    match values::period(value) {
+        Some((PeriodFormat::Relative, octet)) => ValidityPeriod::Relative(values::octet_of(octet)),
+        Some((PeriodFormat::Absolute, _)) => ValidityPeriod::Absolute,
+        Some((PeriodFormat::Enhanced, _)) => ValidityPeriod::Enhanced,
+        None => ValidityPeriod::None,
     }
 }
 
 // The digits of an absolute validity period; none beside another.
 fn period_digits_of(value: &[u8]) -> Time {
-    if values::period_format(value) == values::ABSOLUTE {
-        return values::time_of(values::period_value(value));
+    match values::period(value) {
+        Some((PeriodFormat::Absolute, digits)) => values::time_of(digits),
+        _ => values::time_of(b""),
     }
-    values::time_of(b"")
 }
 
 // The octets of an enhanced validity period; zeros beside another.
 fn period_octets_of(value: &[u8]) -> [u8; 7] {
     let mut octets = [0u8; 7];
-    if values::period_format(value) == values::ENHANCED {
-        values::octets_of(values::period_value(value), &mut octets);
+    if let Some((PeriodFormat::Enhanced, given)) = values::period(value) {
+        values::octets_of(given, &mut octets);
     }
     octets
 }
@@ -93,72 +95,62 @@ fn period_octets_of(value: &[u8]) -> [u8; 7] {
 
 fn deliver(line: &[u8]) -> SmsDeliver {
     let originator = address_of(line);
-    let scts = time(line, keys::SCTS);
+    let scts = time(line, Key::Scts);
     let ud = user_data(line);
     SmsDeliver {
-        tp_rp: flag(line, keys::RP),
-        tp_udhi: flag(line, keys::UDHI),
-        tp_sri: flag(line, keys::SRI),
-        tp_lp: flag(line, keys::LP),
-        tp_mms: flag(line, keys::MMS),
-        tp_mti: number(line, keys::MTI),
+        tp_rp: flag(line, Key::Rp),
+        tp_udhi: flag(line, Key::Udhi),
+        tp_sri: flag(line, Key::Sri),
+        tp_lp: flag(line, Key::Lp),
+        tp_mms: flag(line, Key::Mms),
+        tp_mti: number(line, Key::Mti),
         tp_originating_address: originator,
-        tp_pid: octet(line, keys::PID),
-        tp_dcs: octet(line, keys::DCS),
+        tp_pid: octet(line, Key::Pid),
+        tp_dcs: octet(line, Key::Dcs),
         tp_service_centre_timestamp: scts,
-        tp_user_data_length: number(line, keys::UDL),
+        tp_user_data_length: number(line, Key::Udl),
         tp_user_data: ud,
     }
 }
 
 fn submit(line: &[u8]) -> SmsSubmit {
-    let destination = address_of(line);
-    let period = period_of(value(line, keys::VP));
-    let digits = period_digits_of(value(line, keys::VP));
-    let octets = period_octets_of(value(line, keys::VP));
+    let destination = (!keys::no_destination(line)).then_some(address_of(line));
+    let period = period_of(value(line, Key::Vp));
+    let digits = period_digits_of(value(line, Key::Vp));
+    let octets = period_octets_of(value(line, Key::Vp));
     let ud = user_data(line);
-    let header = UserData {
-        octets: [0u8; 255],
-        length: 0,
-    };
-    let text = SubmitText {
-        octets: [0u8; 510],
-        length: 0,
-    };
     SmsSubmit {
-        tp_rp: flag(line, keys::RP),
-        tp_udhi: flag(line, keys::UDHI),
-        tp_srr: flag(line, keys::SRR),
-        tp_mti: number(line, keys::MTI),
-        tp_rd: flag(line, keys::RD),
-        tp_vpf: number(line, keys::VPF),
-        tp_mr: octet(line, keys::MR),
-        has_destination_address: !keys::no_destination(line),
+        tp_rp: flag(line, Key::Rp),
+        tp_udhi: flag(line, Key::Udhi),
+        tp_srr: flag(line, Key::Srr),
+        tp_mti: number(line, Key::Mti),
+        tp_rd: flag(line, Key::Rd),
+        tp_vpf: number(line, Key::Vpf),
+        tp_mr: octet(line, Key::Mr),
         tp_destination_address: destination,
-        tp_pid: octet(line, keys::PID),
-        tp_dcs: octet(line, keys::DCS),
+        tp_pid: octet(line, Key::Pid),
+        tp_dcs: octet(line, Key::Dcs),
         tp_validity_period: period,
         validity_period_digits: digits,
         validity_period_octets: octets,
-        tp_user_data_length: number(line, keys::UDL),
+        tp_user_data_length: number(line, Key::Udl),
         tp_user_data_raw: ud,
-        has_user_data_header: false,
-        tp_user_data_header: header,
-        tp_user_data: text,
+        tp_user_data_header: None,
+        tp_user_data: SubmitText::default(),
     }
 }
 
 fn submit_report(line: &[u8]) -> SmsSubmitReport {
-    let scts = time(line, keys::SCTS);
+    let scts = time(line, Key::Scts);
     let ud = user_data(line);
     SmsSubmitReport {
-        tp_udhi: number(line, keys::UDHI),
-        tp_failure_cause: optional_octet(line, keys::FCS),
-        tp_parameter_indicator: octet(line, keys::PI),
+        tp_udhi: number(line, Key::Udhi),
+        tp_failure_cause: optional_octet(line, Key::Fcs),
+        tp_parameter_indicator: octet(line, Key::Pi),
         tp_service_centre_timestamp: scts,
-        tp_pid: optional_octet(line, keys::PID),
-        tp_dcs: optional_octet(line, keys::DCS),
-        tp_user_data_length: optional_number(line, keys::UDL),
+        tp_pid: optional_octet(line, Key::Pid),
+        tp_dcs: optional_octet(line, Key::Dcs),
+        tp_user_data_length: optional_number(line, Key::Udl),
         tp_user_data: ud,
         rp_outcome: outcome(line),
     }
@@ -167,12 +159,12 @@ fn submit_report(line: &[u8]) -> SmsSubmitReport {
 fn deliver_report(line: &[u8]) -> SmsDeliverReport {
     let ud = user_data(line);
     SmsDeliverReport {
-        tp_udhi: flag(line, keys::UDHI),
-        tp_failure_cause: optional_octet(line, keys::FCS),
-        tp_parameter_indicator: octet(line, keys::PI),
-        tp_pid: optional_octet(line, keys::PID),
-        tp_dcs: optional_octet(line, keys::DCS),
-        tp_user_data_length: optional_number(line, keys::UDL),
+        tp_udhi: flag(line, Key::Udhi),
+        tp_failure_cause: optional_octet(line, Key::Fcs),
+        tp_parameter_indicator: octet(line, Key::Pi),
+        tp_pid: optional_octet(line, Key::Pid),
+        tp_dcs: optional_octet(line, Key::Dcs),
+        tp_user_data_length: optional_number(line, Key::Udl),
         tp_user_data: ud,
         rp_outcome: outcome(line),
     }
@@ -180,69 +172,60 @@ fn deliver_report(line: &[u8]) -> SmsDeliverReport {
 
 fn status_report(line: &[u8]) -> SmsStatusReport {
     let recipient = address_of(line);
-    let scts = time(line, keys::SCTS);
-    let dt = time(line, keys::DT);
+    let scts = time(line, Key::Scts);
+    let dt = time(line, Key::Dt);
     let ud = user_data(line);
     SmsStatusReport {
-        tp_udhi: flag(line, keys::UDHI),
-        tp_srq: flag(line, keys::SRQ),
-        tp_lp: flag(line, keys::LP),
-        tp_mms: flag(line, keys::MMS),
-        tp_mr: octet(line, keys::MR),
+        tp_udhi: flag(line, Key::Udhi),
+        tp_srq: flag(line, Key::Srq),
+        tp_lp: flag(line, Key::Lp),
+        tp_mms: flag(line, Key::Mms),
+        tp_mr: octet(line, Key::Mr),
         tp_recipient_address: recipient,
         tp_service_centre_timestamp: scts,
         tp_discharge_time: dt,
-        tp_status: octet(line, keys::ST),
-        tp_parameter_indicator: optional_octet(line, keys::PI),
-        tp_pid: optional_octet(line, keys::PID),
-        tp_dcs: optional_octet(line, keys::DCS),
-        tp_user_data_length: optional_number(line, keys::UDL),
+        tp_status: octet(line, Key::St),
+        tp_parameter_indicator: optional_octet(line, Key::Pi),
+        tp_pid: optional_octet(line, Key::Pid),
+        tp_dcs: optional_octet(line, Key::Dcs),
+        tp_user_data_length: optional_number(line, Key::Udl),
         tp_user_data: ud,
     }
 }
 
 // ---- answers
 
-// Writes a record within the standard's limit of user data, if it is a report.
-fn write_to_standard(kind: usize, line: &[u8], lent: &mut Lent) -> Written {
+// Writes a record within the published crate's limit of user data.
+fn write(kind: Kind, line: &[u8], lent: &mut Lent) -> Result<usize, Refusal> {
     match kind {
-        keys::SUBMIT_REPORT => submit_report(line).encode_to_standard(lent),
-        keys::DELIVER_REPORT => deliver_report(line).encode_to_standard(lent),
-        keys::STATUS_REPORT => status_report(line).encode_to_standard(lent),
-        _ => Written::Done(0),
+        Kind::Deliver => deliver(line).encode(lent),
+        Kind::Submit => submit(line).encode(lent),
+        Kind::Report(Report::SubmitReport) => submit_report(line).encode(lent),
+        Kind::Report(Report::DeliverReport) => deliver_report(line).encode(lent),
+        Kind::Report(Report::StatusReport) => status_report(line).encode(lent),
     }
 }
 
-// Writes a record within the published crate's limit.
-fn write(kind: usize, line: &[u8], lent: &mut Lent) -> Written {
-    match kind {
-        keys::DELIVER => deliver(line).encode(lent),
-        keys::SUBMIT => submit(line).encode(lent),
-        keys::SUBMIT_REPORT => submit_report(line).encode(lent),
-        keys::DELIVER_REPORT => deliver_report(line).encode(lent),
-        keys::STATUS_REPORT => status_report(line).encode(lent),
-        _ => Written::Done(0),
-    }
-}
-
-fn write_within(to_standard: bool, kind: usize, line: &[u8], lent: &mut Lent) -> Written {
-    if to_standard {
-        return write_to_standard(kind, line, lent);
-    }
-    write(kind, line, lent)
-}
-
-// The answer to a line that gives a record of a kind, written within the published crate's limit of user data or, if it
-// is a report, the standard's.
-pub fn answer(
-    kind: usize,
-    to_standard: bool,
-    line: &[u8],
-    show: bool,
-    out: &mut Output,
-    at: usize,
-) -> usize {
+// The answer to a line that gives a record of a kind.
+pub fn answer(kind: Kind, line: &[u8], out: &mut Output) -> Result<(), Refusal> {
     let mut lent = [0u8; 255];
-    let w = write_within(to_standard, kind, line, &mut lent);
-    fields::written(out, at, w, &lent, show)
+    let n = write(kind, line, &mut lent)?;
+    fields::written(out, first(&lent, n));
+    Ok(())
+}
+
+// Writes a report within the standard's limit.
+fn write_to_standard(report: Report, line: &[u8], lent: &mut Lent) -> Result<usize, Refusal> {
+    match report {
+        Report::SubmitReport => submit_report(line).encode_to_standard(lent),
+        Report::DeliverReport => deliver_report(line).encode_to_standard(lent),
+        Report::StatusReport => status_report(line).encode_to_standard(lent),
+    }
+}
+
+pub fn answer_to_standard(report: Report, line: &[u8], out: &mut Output) -> Result<(), Refusal> {
+    let mut lent = [0u8; 255];
+    let n = write_to_standard(report, line, &mut lent)?;
+    fields::written(out, first(&lent, n));
+    Ok(())
 }

@@ -3,54 +3,79 @@
 // ones, so that the compiler can't leave them out.
 #![tactic(auto)]
 
-ghost use Rattle.std.specs.Prelude.{◌≡◌, true, [], replicate};
-ghost use Rattle.octets.specs.Answers.{refuses, outcome_says, written_says};
+ghost use Rattle.std.specs.Prelude.{◌≡◌, ◌+◌, true, [], replicate, Some, None, Ok, Err};
+ghost use Rattle.std.specs.Bool.{then_some};
 ghost use Rattle.octets.specs.Lent.{lend};
-ghost use Rattle.gsm7.specs.Packing.{packing, not_packed};
+ghost use Rattle.gsm7.specs.Packing.{packing};
 ghost use Rattle.gsm7.specs.Reading.{unpacked};
-ghost use Rattle.concatenation.specs.Messages.{concatenating, not_sent};
+ghost use Rattle.concatenation.specs.Messages.{concatenating};
 ghost use Rattle.ucs2.specs.Ucs2.{to_gsm7, to_ucs2};
 ghost use Rattle.part_number.specs.declared.Reference.TheVariants.{Eight};
 ghost use Rattle.header_elements.specs.Record.{elements_read, header_making};
 ghost use Rattle.relay_address.specs.Relay.{relay_read, relay_making};
-ghost use Rattle.reassembly.specs.Calls.{emptied, accepting, taking_by, taken_says};
+ghost use Rattle.reassembly.specs.Calls.{emptied, accepting, taking_by};
 ghost use Rattle.columns.specs.Answers.{writing, reading, lend_both};
 ghost use Rattle.time.specs.Timestamp.{timestamp};
 ghost use Rattle.address.specs.Address.{encoding};
 ghost use Rattle.layout.specs.Layout.{read, answer};
-ghost use Rattle.parameters.specs.declared.OptionalOctet.TheVariants.{Absent, Present};
 ghost use Rattle.parameters.specs.declared.RpOutcome.TheVariants.{RpAck};
 ghost use Rattle.validity_period.specs.declared.ValidityPeriod.TheVariants.{Relative};
-ghost use Rattle.submit.specs.Submit.{submit, submitting, octets_taken, blank as blankSubmit};
-ghost use Rattle.deliver.specs.Deliver.{deliver, delivering, blank as blankDeliver};
-ghost use Rattle.status_report.specs.StatusReport.{status_report, status_reporting, blank as blankStatusReport};
-ghost use Rattle.submit_report.specs.SubmitReport.{layout_of as submitReportLayout, submit_reporting, blank as blankSubmitReport};
-ghost use Rattle.deliver_report.specs.DeliverReport.{layout_of as deliverReportLayout, deliver_reporting, blank as blankDeliverReport};
-ghost use Rattle.bench_exports.specs.Numbers.{numbered, read_number, deliver_number, submit_number, status_report_number, submit_report_number, elements_number, count_number, lent_number, packed_number, emptied_number, accepted_number, strings_number, message_number, taken_number};
+ghost use Rattle.submit.specs.Submit.{submit, submitting, read_with as submitReadWith};
+ghost use Rattle.deliver.specs.Deliver.{deliver, delivering, read_with as deliverReadWith};
+ghost use Rattle.status_report.specs.StatusReport.{status_report, status_reporting, read_with as statusReportReadWith};
+ghost use Rattle.submit_report.specs.SubmitReport.{layout_of as submitReportLayout, submit_reporting, read_with as submitReportReadWith};
+ghost use Rattle.deliver_report.specs.DeliverReport.{layout_of as deliverReportLayout, deliver_reporting, read_with as deliverReportReadWith};
+ghost use Rattle.octets.specs.Refusals.{refusal_number};
+ghost use Rattle.bench_exports.specs.Numbers.{address_array, user_data_array, digits_array, count_number, lent_number, packed_number, sent_number, emptied_number, accepted_number, strings_number, message_number, taken_number, deliver_number, submit_number, status_report_number, submit_report_number, deliver_report_number, unpacked_number, digits_number, elements_number, relay_number};
 
 use tpdu::{
-    HeaderElements, MessageTaken, OptionalOctet, Outcome, Reference, RelayAddress, RpOutcome,
-    SMSAddress, SmsDeliver, SmsDeliverReport, SmsStatusReport, SmsSubmit, SmsSubmitReport,
-    SubmitText, Time, UserData, ValidityPeriod, Written,
+    HeaderElements, MessageTaken, Reference, Refusal, RelayAddress, RpOutcome, SMSAddress,
+    SmsDeliver, SmsDeliverReport, SmsStatusReport, SmsSubmit, SmsSubmitReport, SubmitText, Time,
+    UserData, ValidityPeriod,
 };
 
-// The number of an outcome with a count beside it.
-fn taken(outcome: Outcome, number: usize) -> usize
-    ensures { result ≡ numbered (outcome_says outcome) number }
+// The number of a refusal.
+fn refused(why: Refusal) -> usize
+    ensures { result ≡ 256 + refusal_number why }
 {
-    match outcome {
-        Outcome::Done => number,
-        Outcome::Refused(r) => 256 + r.number() as usize,
-    }
+    256 + why.number() as usize
 }
 
 // The number of a writer's answer.
-fn written(w: Written) -> usize
-    ensures { result ≡ count_number (written_says w) }
+fn written(w: Result<usize, Refusal>) -> usize
+    ensures { result ≡ count_number w }
 {
     match w {
-        Written::Done(n) => n,
-        Written::Refused(r) => 256 + r.number() as usize,
+        Ok(n) => n,
+        Err(why) => refused(why),
+    }
+}
+
+// The arrays of what a message may have: zeros where it isn't there.
+fn address_array(address: Option<SMSAddress>) -> [u8; 290]
+    ensures { result ≡ address_array address }
+{
+    match address {
+        Some(given) => given.address,
+        None => [0; 290],
+    }
+}
+
+fn user_data_array(user_data: Option<UserData>) -> [u8; 255]
+    ensures { result ≡ user_data_array user_data }
+{
+    match user_data {
+        Some(given) => given.octets,
+        None => [0; 255],
+    }
+}
+
+fn digits_array(address: Option<RelayAddress>) -> [u8; 508]
+    ensures { result ≡ digits_array address }
+{
+    match address {
+        Some(given) => given.address,
+        None => [0; 508],
     }
 }
 
@@ -62,20 +87,25 @@ pub extern "C" fn tpdu_read_deliver(
     time: &mut [u8; 14],
     user_data: &mut [u8; 255],
 ) -> usize
-    ensures { (result, address.new, time.new, user_data.new) ≡ deliver_number (answer blankDeliver (read deliver «data».now)) }
+    ensures { (result, address.new, time.new, user_data.new) ≡ deliver_number (answer (deliverReadWith «data».now) (read deliver «data».now)) }
 {
-    let read = SmsDeliver::decode(data);
-    let outcome = read.outcome;
-    let from = read.message.tp_originating_address;
-    let text = from.address;
-    *address = text;
-    let sent = read.message.tp_service_centre_timestamp;
-    let digits = sent.digits;
-    *time = digits;
-    let held = read.message.tp_user_data;
-    let octets = held.octets;
-    *user_data = octets;
-    taken(outcome, held.length)
+    match SmsDeliver::decode(data) {
+        Ok(read) => {
+            let number = read.message.tp_originating_address.address;
+            *address = number;
+            let sent_digits = read.message.tp_service_centre_timestamp.digits;
+            *time = sent_digits;
+            let octets = read.message.tp_user_data.octets;
+            *user_data = octets;
+            read.message.tp_user_data.length
+        }
+        Err(why) => {
+            *address = [0; 290];
+            *time = [0; 14];
+            *user_data = [0; 255];
+            refused(why)
+        }
+    }
 }
 
 // The number of octets read, and the arrays of the message, without those of its validity period.
@@ -87,23 +117,26 @@ pub extern "C" fn tpdu_read_submit(
     header: &mut [u8; 255],
     text: &mut [u8; 510],
 ) -> usize
-    ensures { let x = read submit «data».now in (result, address.new, user_data.new, header.new, text.new) ≡ submit_number (answer blankSubmit x) (octets_taken x) }
+    ensures { (result, address.new, user_data.new, header.new, text.new) ≡ submit_number (answer (submitReadWith «data».now) (read submit «data».now)) }
 {
-    let read = tpdu::decode_sms_submit_tpdu(data);
-    let outcome = read.outcome;
-    let to = read.message.tp_destination_address;
-    let digits = to.address;
-    *address = digits;
-    let raw = read.message.tp_user_data_raw;
-    let raw_octets = raw.octets;
-    *user_data = raw_octets;
-    let front = read.message.tp_user_data_header;
-    let front_octets = front.octets;
-    *header = front_octets;
-    let shown = read.message.tp_user_data;
-    let shown_octets = shown.octets;
-    *text = shown_octets;
-    taken(outcome, read.octets_read)
+    match tpdu::decode_sms_submit_tpdu(data) {
+        Ok(read) => {
+            *address = address_array(read.message.tp_destination_address);
+            let octets = read.message.tp_user_data_raw.octets;
+            *user_data = octets;
+            *header = user_data_array(read.message.tp_user_data_header);
+            let shown = read.message.tp_user_data.octets;
+            *text = shown;
+            read.octets_read
+        }
+        Err(why) => {
+            *address = [0; 290];
+            *user_data = [0; 255];
+            *header = [0; 255];
+            *text = [0; 510];
+            refused(why)
+        }
+    }
 }
 
 // The number of octets of user data, and the arrays of the message.
@@ -115,23 +148,28 @@ pub extern "C" fn tpdu_read_status_report(
     done: &mut [u8; 14],
     user_data: &mut [u8; 255],
 ) -> usize
-    ensures { (result, address.new, sent.new, done.new, user_data.new) ≡ status_report_number (answer blankStatusReport (read status_report «data».now)) }
+    ensures { (result, address.new, sent.new, done.new, user_data.new) ≡ status_report_number (answer (statusReportReadWith «data».now) (read status_report «data».now)) }
 {
-    let read = SmsStatusReport::decode(data);
-    let outcome = read.outcome;
-    let to = read.message.tp_recipient_address;
-    let text = to.address;
-    *address = text;
-    let first = read.message.tp_service_centre_timestamp;
-    let first_digits = first.digits;
-    *sent = first_digits;
-    let second = read.message.tp_discharge_time;
-    let second_digits = second.digits;
-    *done = second_digits;
-    let held = read.message.tp_user_data;
-    let octets = held.octets;
-    *user_data = octets;
-    taken(outcome, held.length)
+    match SmsStatusReport::decode(data) {
+        Ok(read) => {
+            let number = read.message.tp_recipient_address.address;
+            *address = number;
+            let sent_digits = read.message.tp_service_centre_timestamp.digits;
+            *sent = sent_digits;
+            let done_digits = read.message.tp_discharge_time.digits;
+            *done = done_digits;
+            let octets = read.message.tp_user_data.octets;
+            *user_data = octets;
+            read.message.tp_user_data.length
+        }
+        Err(why) => {
+            *address = [0; 290];
+            *sent = [0; 14];
+            *done = [0; 14];
+            *user_data = [0; 255];
+            refused(why)
+        }
+    }
 }
 
 #[unsafe(no_mangle)]
@@ -140,55 +178,67 @@ pub extern "C" fn tpdu_read_submit_report(
     time: &mut [u8; 14],
     user_data: &mut [u8; 255],
 ) -> usize
-    ensures { (result, time.new, user_data.new) ≡ submit_report_number (answer blankSubmitReport (read (submitReportLayout RpAck) «data».now)) }
+    ensures { (result, time.new, user_data.new) ≡ submit_report_number (answer (submitReportReadWith «data».now) (read (submitReportLayout RpAck) «data».now)) }
 {
-    let read = SmsSubmitReport::decode_for_rp_ack(data);
-    let outcome = read.outcome;
-    let sent = read.message.tp_service_centre_timestamp;
-    let digits = sent.digits;
-    *time = digits;
-    let held = read.message.tp_user_data;
-    let octets = held.octets;
-    *user_data = octets;
-    taken(outcome, held.length)
+    match SmsSubmitReport::decode_for_rp_ack(data) {
+        Ok(read) => {
+            let sent_digits = read.message.tp_service_centre_timestamp.digits;
+            *time = sent_digits;
+            let octets = read.message.tp_user_data.octets;
+            *user_data = octets;
+            read.message.tp_user_data.length
+        }
+        Err(why) => {
+            *time = [0; 14];
+            *user_data = [0; 255];
+            refused(why)
+        }
+    }
 }
 
 #[unsafe(no_mangle)]
 pub extern "C" fn tpdu_read_deliver_report(data: &[u8], user_data: &mut [u8; 255]) -> usize
-    ensures { let a = answer blankDeliverReport (read (deliverReportLayout RpAck) «data».now) in (result, user_data.new) ≡ read_number a.0 a.1.tp_user_data.length a.1.tp_user_data.octets }
+    ensures { (result, user_data.new) ≡ deliver_report_number (answer (deliverReportReadWith «data».now) (read (deliverReportLayout RpAck) «data».now)) }
 {
-    let read = SmsDeliverReport::decode_for_rp_ack(data);
-    let outcome = read.outcome;
-    let held = read.message.tp_user_data;
-    let octets = held.octets;
-    *user_data = octets;
-    taken(outcome, held.length)
+    match SmsDeliverReport::decode_for_rp_ack(data) {
+        Ok(read) => {
+            let octets = read.message.tp_user_data.octets;
+            *user_data = octets;
+            read.message.tp_user_data.length
+        }
+        Err(why) => {
+            *user_data = [0; 255];
+            refused(why)
+        }
+    }
 }
 
 // The number of octets packed.
 #[unsafe(no_mangle)]
 pub extern "C" fn tpdu_pack(text: &[u8], out: &mut [u8]) -> usize
-    ensures { (result, out.new) ≡ packed_number (lend not_packed (packing [] text.now) out.old) }
+    ensures { (result, out.new) ≡ packed_number (lend (packing [] text.now) out.old) }
 {
-    let p = tpdu::pack_gsm7(text, out);
-    let outcome = p.outcome;
-    taken(outcome, p.octets)
+    match tpdu::pack_gsm7(text, out) {
+        Ok(packed) => packed.octets,
+        Err(why) => refused(why),
+    }
 }
 
 // The number of octets of a text's messages.
 #[unsafe(no_mangle)]
 pub extern "C" fn tpdu_concatenate(text: &[u8], reference: u8, out: &mut [u8]) -> usize
-    ensures { (result, out.new) ≡ packed_number (lend not_sent (concatenating reference text.now) out.old) }
+    ensures { (result, out.new) ≡ sent_number (lend (concatenating reference text.now) out.old) }
 {
-    let c = tpdu::pack_gsm7_concatenated(text, reference, out);
-    let outcome = c.outcome;
-    taken(outcome, c.octets)
+    match tpdu::pack_gsm7_concatenated(text, reference, out) {
+        Ok(sent) => sent.octets,
+        Err(why) => refused(why),
+    }
 }
 
 // The number of octets of a block by column.
 #[unsafe(no_mangle)]
 pub extern "C" fn tpdu_to_columns(octets: &[u8], lengths: &[usize], out: &mut [u8]) -> usize
-    ensures { (result, out.new) ≡ lent_number (lend refuses (writing octets.now lengths.now) out.old) }
+    ensures { (result, out.new) ≡ lent_number (lend (writing octets.now lengths.now) out.old) }
 {
     written(tpdu::to_columns(octets, lengths, out))
 }
@@ -198,9 +248,10 @@ pub extern "C" fn tpdu_to_columns(octets: &[u8], lengths: &[usize], out: &mut [u
 pub extern "C" fn tpdu_from_columns(block: &[u8], octets: &mut [u8], lengths: &mut [usize]) -> usize
     ensures { (result, octets.new, lengths.new) ≡ strings_number (lend_both (reading block.now) octets.old lengths.old) }
 {
-    let s = tpdu::from_columns(block, octets, lengths);
-    let outcome = s.outcome;
-    taken(outcome, s.octets)
+    match tpdu::from_columns(block, octets, lengths) {
+        Ok(strings) => strings.octets,
+        Err(why) => refused(why),
+    }
 }
 
 // 0, and the store is empty.
@@ -208,8 +259,10 @@ pub extern "C" fn tpdu_from_columns(block: &[u8], octets: &mut [u8], lengths: &m
 pub extern "C" fn tpdu_empty_store(store: &mut [u8]) -> usize
     ensures { (result, store.new) ≡ emptied_number (emptied store.old) }
 {
-    let outcome = tpdu::empty_store(store);
-    taken(outcome, 0)
+    match tpdu::empty_store(store) {
+        Ok(()) => 0,
+        Err(why) => refused(why),
+    }
 }
 
 // How many parts of the message are still missing.
@@ -217,37 +270,45 @@ pub extern "C" fn tpdu_empty_store(store: &mut [u8]) -> usize
 pub extern "C" fn tpdu_accept_part(store: &mut [u8], data: &[u8]) -> usize
     ensures { (result, store.new) ≡ accepted_number (accepting «data».now store.old) }
 {
-    let a = tpdu::accept_part(store, data);
-    let outcome = a.outcome;
-    taken(outcome, a.missing_count)
+    match tpdu::accept_part(store, data) {
+        Ok(part) => part.missing_count,
+        Err(why) => refused(why),
+    }
 }
 
 // The number of octets of text, and the text.
 #[unsafe(no_mangle)]
 pub extern "C" fn tpdu_unpack(data: &[u8], septets: usize, text: &mut [u8; 510]) -> usize
-    ensures { let u = unpacked «data».now 0 septets in (result, text.new) ≡ read_number u.0 u.2 u.1 }
+    ensures { (result, text.new) ≡ unpacked_number (unpacked «data».now 0 septets) }
 {
-    let u = tpdu::unpack_gsm7(data, septets);
-    let outcome = u.outcome;
-    let held = u.text;
-    *text = held;
-    taken(outcome, u.text_length)
+    match tpdu::unpack_gsm7(data, septets) {
+        Ok(read) => {
+            let shown = read.text;
+            *text = shown;
+            read.text_length
+        }
+        Err(why) => {
+            *text = [0; 510];
+            refused(why)
+        }
+    }
 }
 
 // The number of octets packed.
 #[unsafe(no_mangle)]
 pub extern "C" fn tpdu_ucs2_to_gsm7(ucs2: &[u8], out: &mut [u8]) -> usize
-    ensures { (result, out.new) ≡ packed_number (lend not_packed (to_gsm7 ucs2.now) out.old) }
+    ensures { (result, out.new) ≡ packed_number (lend (to_gsm7 ucs2.now) out.old) }
 {
-    let p = tpdu::ucs2_to_gsm7(ucs2, out);
-    let outcome = p.outcome;
-    taken(outcome, p.octets)
+    match tpdu::ucs2_to_gsm7(ucs2, out) {
+        Ok(packed) => packed.octets,
+        Err(why) => refused(why),
+    }
 }
 
 // The number of octets of UCS2.
 #[unsafe(no_mangle)]
 pub extern "C" fn tpdu_gsm7_to_ucs2(data: &[u8], septets: usize, out: &mut [u8]) -> usize
-    ensures { (result, out.new) ≡ lent_number (lend refuses (to_ucs2 «data».now septets) out.old) }
+    ensures { (result, out.new) ≡ lent_number (lend (to_ucs2 «data».now septets) out.old) }
 {
     written(tpdu::gsm7_to_ucs2(data, septets, out))
 }
@@ -261,7 +322,7 @@ pub extern "C" fn tpdu_address(
     length: usize,
     out: &mut [u8],
 ) -> usize
-    ensures { (result, out.new) ≡ lent_number (lend refuses (encoding (record { ton = ton; npi = npi; address = text.now; address_length = length })) out.old) }
+    ensures { (result, out.new) ≡ lent_number (lend (encoding (record { ton = ton; npi = npi; address = text.now; address_length = length })) out.old) }
 {
     let address = *text;
     let a = SMSAddress {
@@ -285,13 +346,18 @@ pub extern "C" fn tpdu_digits(
     zone: i8,
     digits: &mut [u8; 14],
 ) -> usize
-    ensures { let t = timestamp year month day hour minute second zone in (result, digits.new) ≡ read_number t.0 14 t.1 }
+    ensures { (result, digits.new) ≡ digits_number (timestamp year month day hour minute second zone) }
 {
-    let t = tpdu::timestamp_digits(year, month, day, hour, minute, second, zone);
-    let outcome = t.outcome;
-    let held = t.digits;
-    *digits = held;
-    taken(outcome, 14)
+    match tpdu::timestamp_digits(year, month, day, hour, minute, second, zone) {
+        Ok(read) => {
+            *digits = read;
+            14
+        }
+        Err(why) => {
+            *digits = [0; 14];
+            refused(why)
+        }
+    }
 }
 
 // The number of elements of a header, and their arrays.
@@ -304,16 +370,23 @@ pub extern "C" fn tpdu_read_elements(
 ) -> usize
     ensures { (result, identifiers.new, lengths.new, values.new) ≡ elements_number (elements_read header.now) }
 {
-    let read = tpdu::read_header_elements(header);
-    let outcome = read.outcome;
-    let held = read.elements;
-    let given = held.identifiers;
-    *identifiers = given;
-    let sizes = held.lengths;
-    *lengths = sizes;
-    let octets = held.octets;
-    *values = octets;
-    taken(outcome, held.count)
+    match tpdu::read_header_elements(header) {
+        Ok(read) => {
+            let given = read.identifiers;
+            *identifiers = given;
+            let sizes = read.lengths;
+            *lengths = sizes;
+            let octets = read.octets;
+            *values = octets;
+            read.count
+        }
+        Err(why) => {
+            *identifiers = [0; 127];
+            *lengths = [0; 127];
+            *values = [0; 253];
+            refused(why)
+        }
+    }
 }
 
 // A header of elements that lie in arrays.
@@ -325,7 +398,7 @@ pub extern "C" fn tpdu_write_elements(
     values: &[u8; 253],
     out: &mut [u8],
 ) -> usize
-    ensures { (result, out.new) ≡ lent_number (lend refuses (header_making (record { count = count; identifiers = identifiers.now; lengths = lengths.now; octets = values.now })) out.old) }
+    ensures { (result, out.new) ≡ lent_number (lend (header_making (record { count = count; identifiers = identifiers.now; lengths = lengths.now; octets = values.now })) out.old) }
 {
     let given = *identifiers;
     let sizes = *lengths;
@@ -342,14 +415,18 @@ pub extern "C" fn tpdu_write_elements(
 // The number of octets of an address of the relay layer, and its digits.
 #[unsafe(no_mangle)]
 pub extern "C" fn tpdu_read_relay_address(data: &[u8], digits: &mut [u8; 508]) -> usize
-    ensures { let a = relay_read «data».now in (result, digits.new) ≡ read_number a.0 a.2 a.1.address }
+    ensures { (result, digits.new) ≡ relay_number (relay_read «data».now) }
 {
-    let read = RelayAddress::decode(data);
-    let outcome = read.outcome;
-    let held = read.address;
-    let address = held.address;
-    *digits = address;
-    taken(outcome, read.octets_read)
+    match tpdu::RelayAddress::decode(data) {
+        Ok(read) => {
+            *digits = digits_array(read.address);
+            read.octets_read
+        }
+        Err(why) => {
+            *digits = [0; 508];
+            refused(why)
+        }
+    }
 }
 
 // An address of the relay layer whose digits are the first octets of an array.
@@ -361,28 +438,27 @@ pub extern "C" fn tpdu_write_relay_address(
     length: usize,
     out: &mut [u8],
 ) -> usize
-    ensures { (result, out.new) ≡ lent_number (lend refuses (relay_making (record { is_present = true; ton = ton; npi = npi; address = digits.now; address_length = length })) out.old) }
+    ensures { (result, out.new) ≡ lent_number (lend (relay_making (Some (record { ton = ton; npi = npi; address = digits.now; address_length = length }))) out.old) }
 {
     let address = *digits;
     let a = RelayAddress {
-        is_present: true,
         ton,
         npi,
         address,
         address_length: length,
     };
-    written(a.encode(out))
+    written(RelayAddress::encode(Some(a), out))
 }
 
 // The number of what taking a message answers.
-fn message_octets(t: MessageTaken) -> usize
-    ensures { result ≡ message_number (taken_says t) }
+fn message_octets(taken: Result<MessageTaken, Refusal>) -> usize
+    ensures { result ≡ message_number taken }
 {
-    match t {
-        MessageTaken::Whole(_, n) => n,
-        MessageTaken::NotOpen => 0,
-        MessageTaken::NotWhole => 0,
-        MessageTaken::Refused(r) => 256 + r.number() as usize,
+    match taken {
+        Ok(MessageTaken::Whole(_, n)) => n,
+        Ok(MessageTaken::NotOpen) => 0,
+        Ok(MessageTaken::NotWhole) => 0,
+        Err(why) => refused(why),
     }
 }
 
@@ -432,7 +508,7 @@ pub extern "C" fn tpdu_write_deliver(
     length: usize,
     out: &mut [u8],
 ) -> usize
-    ensures { (result, out.new) ≡ lent_number (lend refuses (delivering (record { tp_rp = tp_rp; tp_udhi = tp_udhi; tp_sri = tp_sri; tp_lp = tp_lp; tp_mms = tp_mms; tp_mti = tp_mti; tp_originating_address = record { ton = ton; npi = npi; address = address.now; address_length = address_length }; tp_pid = tp_pid; tp_dcs = tp_dcs; tp_service_centre_timestamp = record { digits = time.now; length = 14 }; tp_user_data_length = tp_user_data_length; tp_user_data = record { octets = user_data.now; length = length } })) out.old) }
+    ensures { (result, out.new) ≡ lent_number (lend (delivering (record { tp_rp = tp_rp; tp_udhi = tp_udhi; tp_sri = tp_sri; tp_lp = tp_lp; tp_mms = tp_mms; tp_mti = tp_mti; tp_originating_address = record { ton = ton; npi = npi; address = address.now; address_length = address_length }; tp_pid = tp_pid; tp_dcs = tp_dcs; tp_service_centre_timestamp = record { digits = time.now; length = 14 }; tp_user_data_length = tp_user_data_length; tp_user_data = record { octets = user_data.now; length = length } })) out.old) }
 {
     let text = *address;
     let number = SMSAddress {
@@ -480,7 +556,7 @@ pub extern "C" fn tpdu_write_status_report(
     length: usize,
     out: &mut [u8],
 ) -> usize
-    ensures { (result, out.new) ≡ lent_number (lend refuses (status_reporting (record { tp_udhi = tp_udhi; tp_srq = tp_srq; tp_lp = tp_lp; tp_mms = tp_mms; tp_mr = tp_mr; tp_recipient_address = record { ton = ton; npi = npi; address = address.now; address_length = address_length }; tp_service_centre_timestamp = record { digits = sent.now; length = 14 }; tp_discharge_time = record { digits = done.now; length = 14 }; tp_status = tp_status; tp_parameter_indicator = Absent; tp_pid = Absent; tp_dcs = Absent; tp_user_data_length = Absent; tp_user_data = record { octets = user_data.now; length = length } })) out.old) }
+    ensures { (result, out.new) ≡ lent_number (lend (status_reporting (record { tp_udhi = tp_udhi; tp_srq = tp_srq; tp_lp = tp_lp; tp_mms = tp_mms; tp_mr = tp_mr; tp_recipient_address = record { ton = ton; npi = npi; address = address.now; address_length = address_length }; tp_service_centre_timestamp = record { digits = sent.now; length = 14 }; tp_discharge_time = record { digits = done.now; length = 14 }; tp_status = tp_status; tp_parameter_indicator = None; tp_pid = None; tp_dcs = None; tp_user_data_length = None; tp_user_data = record { octets = user_data.now; length = length } })) out.old) }
 {
     let text = *address;
     let number = SMSAddress {
@@ -511,10 +587,10 @@ pub extern "C" fn tpdu_write_status_report(
         tp_service_centre_timestamp: first,
         tp_discharge_time: second,
         tp_status,
-        tp_parameter_indicator: OptionalOctet::Absent,
-        tp_pid: OptionalOctet::Absent,
-        tp_dcs: OptionalOctet::Absent,
-        tp_user_data_length: OptionalOctet::Absent,
+        tp_parameter_indicator: None,
+        tp_pid: None,
+        tp_dcs: None,
+        tp_user_data_length: None,
         tp_user_data: held,
     };
     written(m.encode(out))
@@ -532,7 +608,7 @@ pub extern "C" fn tpdu_write_submit_report(
     length: usize,
     out: &mut [u8],
 ) -> usize
-    ensures { (result, out.new) ≡ lent_number (lend refuses (submit_reporting (record { tp_udhi = tp_udhi; tp_failure_cause = Absent; tp_parameter_indicator = tp_parameter_indicator; tp_service_centre_timestamp = record { digits = time.now; length = 14 }; tp_pid = Present pid; tp_dcs = Present dcs; tp_user_data_length = Present udl; tp_user_data = record { octets = user_data.now; length = length }; rp_outcome = RpAck })) out.old) }
+    ensures { (result, out.new) ≡ lent_number (lend (submit_reporting (record { tp_udhi = tp_udhi; tp_failure_cause = None; tp_parameter_indicator = tp_parameter_indicator; tp_service_centre_timestamp = record { digits = time.now; length = 14 }; tp_pid = Some pid; tp_dcs = Some dcs; tp_user_data_length = Some udl; tp_user_data = record { octets = user_data.now; length = length }; rp_outcome = RpAck })) out.old) }
 {
     let digits = *time;
     let sent = Time { digits, length: 14 };
@@ -540,12 +616,12 @@ pub extern "C" fn tpdu_write_submit_report(
     let held = UserData { length, octets };
     let m = SmsSubmitReport {
         tp_udhi,
-        tp_failure_cause: OptionalOctet::Absent,
+        tp_failure_cause: None,
         tp_parameter_indicator,
         tp_service_centre_timestamp: sent,
-        tp_pid: OptionalOctet::Present(pid),
-        tp_dcs: OptionalOctet::Present(dcs),
-        tp_user_data_length: OptionalOctet::Present(udl),
+        tp_pid: Some(pid),
+        tp_dcs: Some(dcs),
+        tp_user_data_length: Some(udl),
         tp_user_data: held,
         rp_outcome: RpOutcome::RpAck,
     };
@@ -563,17 +639,17 @@ pub extern "C" fn tpdu_write_deliver_report(
     length: usize,
     out: &mut [u8],
 ) -> usize
-    ensures { (result, out.new) ≡ lent_number (lend refuses (deliver_reporting (record { tp_udhi = tp_udhi; tp_failure_cause = Absent; tp_parameter_indicator = tp_parameter_indicator; tp_pid = Present pid; tp_dcs = Present dcs; tp_user_data_length = Present udl; tp_user_data = record { octets = user_data.now; length = length }; rp_outcome = RpAck })) out.old) }
+    ensures { (result, out.new) ≡ lent_number (lend (deliver_reporting (record { tp_udhi = tp_udhi; tp_failure_cause = None; tp_parameter_indicator = tp_parameter_indicator; tp_pid = Some pid; tp_dcs = Some dcs; tp_user_data_length = Some udl; tp_user_data = record { octets = user_data.now; length = length }; rp_outcome = RpAck })) out.old) }
 {
     let octets = *user_data;
     let held = UserData { length, octets };
     let m = SmsDeliverReport {
         tp_udhi,
-        tp_failure_cause: OptionalOctet::Absent,
+        tp_failure_cause: None,
         tp_parameter_indicator,
-        tp_pid: OptionalOctet::Present(pid),
-        tp_dcs: OptionalOctet::Present(dcs),
-        tp_user_data_length: OptionalOctet::Present(udl),
+        tp_pid: Some(pid),
+        tp_dcs: Some(dcs),
+        tp_user_data_length: Some(udl),
         tp_user_data: held,
         rp_outcome: RpOutcome::RpAck,
     };
@@ -607,7 +683,7 @@ pub extern "C" fn tpdu_write_submit(
     text_length: usize,
     out: &mut [u8],
 ) -> usize
-    ensures { (result, out.new) ≡ lent_number (lend refuses (submitting (record { tp_rp = tp_rp; tp_udhi = tp_udhi; tp_srr = tp_srr; tp_mti = tp_mti; tp_rd = tp_rd; tp_vpf = tp_vpf; tp_mr = tp_mr; has_destination_address = true; tp_destination_address = record { ton = ton; npi = npi; address = address.now; address_length = address_length }; tp_pid = tp_pid; tp_dcs = tp_dcs; tp_validity_period = Relative period; validity_period_digits = record { digits = replicate 14 0; length = 0 }; validity_period_octets = replicate 7 0; tp_user_data_length = tp_user_data_length; tp_user_data_raw = record { octets = user_data.now; length = length }; has_user_data_header = has_user_data_header; tp_user_data_header = record { octets = header.now; length = header_length }; tp_user_data = record { octets = text.now; length = text_length } })) out.old) }
+    ensures { (result, out.new) ≡ lent_number (lend (submitting (record { tp_rp = tp_rp; tp_udhi = tp_udhi; tp_srr = tp_srr; tp_mti = tp_mti; tp_rd = tp_rd; tp_vpf = tp_vpf; tp_mr = tp_mr; tp_destination_address = Some (record { ton = ton; npi = npi; address = address.now; address_length = address_length }); tp_pid = tp_pid; tp_dcs = tp_dcs; tp_validity_period = Relative period; validity_period_digits = record { digits = replicate 14 0; length = 0 }; validity_period_octets = replicate 7 0; tp_user_data_length = tp_user_data_length; tp_user_data_raw = record { octets = user_data.now; length = length }; tp_user_data_header = then_some has_user_data_header (record { octets = header.now; length = header_length }); tp_user_data = record { octets = text.now; length = text_length } })) out.old) }
 {
     let number_text = *address;
     let number = SMSAddress {
@@ -640,8 +716,7 @@ pub extern "C" fn tpdu_write_submit(
         tp_rd,
         tp_vpf,
         tp_mr,
-        has_destination_address: true,
-        tp_destination_address: number,
+        tp_destination_address: Some(number),
         tp_pid,
         tp_dcs,
         tp_validity_period: ValidityPeriod::Relative(period),
@@ -649,8 +724,7 @@ pub extern "C" fn tpdu_write_submit(
         validity_period_octets: [0u8; 7],
         tp_user_data_length,
         tp_user_data_raw: raw,
-        has_user_data_header,
-        tp_user_data_header: front,
+        tp_user_data_header: has_user_data_header.then_some(front),
         tp_user_data: shown,
     };
     written(m.encode(out))

@@ -1,6 +1,6 @@
 -- TP-Data-Coding-Scheme (TS 23.038 §4) and TP-User-Data-Length (TS 23.040 §9.2.3.16).
-use Rattle.std.specs.Prelude.{ℕ, ◌+◌, ◌*◌, ◌/◌, ◌%◌, ◌≡◌, refl, List, [], ◌∷◌, eqb, leb, length as size, take, if◌then◌else◌}
-use Rattle.octets.specs.Answers.{Said, refuses, fine}
+use Rattle.std.specs.Prelude.{ℕ, ◌+◌, ◌*◌, ◌/◌, ◌%◌, ◌≡◌, refl, List, [], ◌∷◌, eqb, leb, length as size, take, if◌then◌else◌, Err}
+use Rattle.octets.specs.Answers.{Said, fine}
 use Rattle.octets.specs.Arrays.{pad, cleared_array}
 use Rattle.octets.specs.Checks.{Check, ◌unless◌, found}
 use Rattle.octets.specs.declared.Refusal.TheVariants.{UserDataLengthDisagrees, UserDataTooLong}
@@ -44,7 +44,7 @@ unfolding coding_of character_set
 known_codings = (refl, refl, refl, refl, refl)
 
 -- 160 septets are 140 octets, and can be written; 161 can't
-known_sizes : (data_octets Gsm7Bit 160 ≡ 140) × (checked_data 0x00 160 140 ≡ fine) × (checked_data 0x00 161 141 ≡ refuses UserDataTooLong) × (checked_data 0x00 160 139 ≡ refuses UserDataLengthDisagrees)
+known_sizes : (data_octets Gsm7Bit 160 ≡ 140) × (checked_data 0x00 160 140 ≡ fine) × (checked_data 0x00 161 141 ≡ Err UserDataTooLong) × (checked_data 0x00 160 139 ≡ Err UserDataLengthDisagrees)
 unfolding coding_of character_set data_octets checked_data
 known_sizes = (refl, refl, refl, refl)
 

@@ -2,13 +2,12 @@
 #![tactic(auto)]
 
 ghost use Rattle.std.specs.Prelude.{◌≡◌, [], ◌≤◌, length};
-ghost use Rattle.octets.specs.Answers.{checked_says};
 ghost use Rattle.octets.specs.Checks.{found};
 ghost use Rattle.coding.specs.Coding.{coding_of, data_octets, data_with, data_within, checked_data};
 
-use octets::{Checked, Refusal};
+use octets::Refusal;
 
-#[derive(Clone, Copy)]
+#[derive(Clone, Copy, Debug, PartialEq, Eq)]
 pub enum UserDataCoding {
     Gsm7Bit,
     EightBit,
@@ -57,7 +56,8 @@ pub fn user_data_octets(coding: UserDataCoding, length: u8) -> usize
 }
 
 // TP-User-Data as a record holds them: how many octets there are, and the octets.
-#[derive(Clone, Copy)]
+// An array with its length: there is no heap, and a length past the array is what refusal 1 is of.
+#[derive(Clone, Copy, Debug)]
 pub struct UserData {
     pub length: usize,
     pub octets: [u8; 255],
@@ -88,21 +88,26 @@ pub fn no_data() -> UserData
 pub const MAX_USER_DATA_OCTETS: usize = 140;
 
 // Whether user data of so many octets go with DCS and TP-User-Data-Length, and keep within a limit.
-pub fn check_user_data_within(limit: usize, dcs: u8, length: u8, octets: usize) -> Checked
-    ensures { checked_says result ≡ found (data_within limit dcs length octets) }
+pub fn check_user_data_within(
+    limit: usize,
+    dcs: u8,
+    length: u8,
+    octets: usize,
+) -> Result<(), Refusal>
+    ensures { result ≡ found (data_within limit dcs length octets) }
 {
     if octets != user_data_octets(user_data_coding(dcs), length) {
-        return Checked::Against(Refusal::UserDataLengthDisagrees);
+        return Err(Refusal::UserDataLengthDisagrees);
     }
     if limit < octets {
-        return Checked::Against(Refusal::UserDataTooLong);
+        return Err(Refusal::UserDataTooLong);
     }
-    Checked::Fine
+    Ok(())
 }
 
 // The same within the limit of the ported writers.
-pub fn check_user_data(dcs: u8, length: u8, octets: usize) -> Checked
-    ensures { checked_says result ≡ checked_data dcs length octets }
+pub fn check_user_data(dcs: u8, length: u8, octets: usize) -> Result<(), Refusal>
+    ensures { result ≡ checked_data dcs length octets }
 {
     check_user_data_within(MAX_USER_DATA_OCTETS, dcs, length, octets)
 }

@@ -11,11 +11,11 @@ use borrow.Author.Tests.{le-leb, leb-true, eq-eqb, eqb-true}
 use lib.Dec.{leb, eqb}
 use lib.ListN.{length, take, drop, length-append, length-drop, length-map}
 use lib.Seq.{length-take-le, take_at, drop_at, take-add}
-use Rattle.std.specs.Prelude.{if◌then◌else◌}
+use Rattle.std.specs.Prelude.{if◌then◌else◌, Ok}
 use Rattle.octets.specs.Each.{Octets, each}
 use Rattle.octets.specs.Lent.{made}
 use Rattle.octets.specs.declared.Refusal.TheVariants.{LengthTooLarge, StringsTooLarge, BlockNotWhole}
-use Rattle.octets.specs.Answers.{Said, gives}
+use Rattle.octets.specs.Answers.{Said}
 use Rattle.octets.specs.Checks.{◌unless◌}
 use Rattle.octets.proofs.Choice.{and_true}
 use Rattle.octets.proofs.Each.{octets_drop}
@@ -163,11 +163,11 @@ sum_lengths [] = refl
 sum_lengths (s ∷ ss) = rw (sum_lengths ss) (sym (length-append s (joined ss)))
 
 -- where a block is written
-pub writing_done : (os ns : List ℕ) → allowed ns ≡ true → sum ns ≤ length os → writing os ns ≡ made (block (strings_in ns os)) (gives (length (block (strings_in ns os))))
+pub writing_done : (os ns : List ℕ) → allowed ns ≡ true → sum ns ≤ length os → writing os ns ≡ made (block (strings_in ns os)) (length (block (strings_in ns os)))
 unfolding writing
 writing_done os ns a h = check_holds a _ _ _ ∙ check_holds (le-leb _ _ h) _ _ _ ∙ no_checks _
 
-pub writing_told : (os ns b : List ℕ) (w : Said ℕ) → writing os ns ≡ made b w → (allowed ns ≡ true) × (sum ns ≤ length os) × (b ≡ block (strings_in ns os))
+pub writing_told : (os ns b : List ℕ) (w : ℕ) → writing os ns ≡ made b w → (allowed ns ≡ true) × (sum ns ≤ length os) × (b ≡ block (strings_in ns os))
 unfolding writing
 writing_told os ns b w e =
     let t = made_told _ (block (strings_in ns os)) e in
@@ -180,7 +180,7 @@ unfolding reading
 reading_some b ss e = rw e
 
 -- what was written reads back: the strings' octets and their lengths
-pub written_reads : (os ns b : List ℕ) (w : Said ℕ) → writing os ns ≡ made b w → reading b ≡ made_both (take (sum ns) os) ns
+pub written_reads : (os ns b : List ℕ) (w : ℕ) → writing os ns ≡ made b w → reading b ≡ made_both (take (sum ns) os) ns
 written_reads os ns b w e =
     let (a, h, is) = writing_told os ns b w e in
     let en = lengths_in ns os h in
@@ -188,11 +188,11 @@ written_reads os ns b w e =
     r ∙ ap₂ made_both (joined_in ns os) en
 
 -- what is read was written, and is written again
-pub read_writes : (b : List ℕ) → Octets b → (os ns : List ℕ) → reading b ≡ made_both os ns → writing os ns ≡ made b (gives (length b))
+pub read_writes : (b : List ℕ) → Octets b → (os ns : List ℕ) → reading b ≡ made_both os ns → writing os ns ≡ made b (length b)
 unfolding reading
 read_writes b o os ns e = by_strings (strings_of b) refl e
   where
-    by_strings : (s : Option (List (List ℕ))) → strings_of b ≡ s → made_of s ≡ made_both os ns → writing os ns ≡ made b (gives (length b))
+    by_strings : (s : Option (List (List ℕ))) → strings_of b ≡ s → made_of s ≡ made_both os ns → writing os ns ≡ made b (length b)
     by_strings none q e = let z : ◌≡◌ {A = ℕ} 0 1 = cc in absurd (omega arith)
     by_strings (some ss) q e =
         let (a, is) = (block_read b o ss).0 q in
@@ -202,10 +202,10 @@ read_writes b o os ns e = by_strings (strings_of b) refl e
         rw (← eo, ← en) (writing_done (joined ss) (lengths ss) a (omega (arith, sum_lengths ss)) ∙ rw again)
 
 -- so it refuses exactly what the writer can't write
-pub refused_with_36 : (b : List ℕ) → Octets b → (reading b ≡ refused_both BlockNotWhole) ↔ ((os ns : List ℕ) (w : Said ℕ) → writing os ns ≡ made b w → ⊥)
+pub refused_with_36 : (b : List ℕ) → Octets b → (reading b ≡ refused_both BlockNotWhole) ↔ ((os ns : List ℕ) (w : ℕ) → writing os ns ≡ made b w → ⊥)
 unfolding reading
 refused_with_36 b o = ((λ e os ns w m. let r = written_reads os ns b w m in let z : ◌≡◌ {A = ℕ} 0 1 = cc in omega arith), λ n. by_strings n (strings_of b) refl)
   where
-    by_strings : ((os ns : List ℕ) (w : Said ℕ) → writing os ns ≡ made b w → ⊥) → (s : Option (List (List ℕ))) → strings_of b ≡ s → made_of s ≡ refused_both BlockNotWhole
+    by_strings : ((os ns : List ℕ) (w : ℕ) → writing os ns ≡ made b w → ⊥) → (s : Option (List (List ℕ))) → strings_of b ≡ s → made_of s ≡ refused_both BlockNotWhole
     by_strings n none q = refl
     by_strings n (some ss) q = absurd (n (joined ss) (lengths ss) _ (read_writes b o (joined ss) (lengths ss) (reading_some b ss q)))

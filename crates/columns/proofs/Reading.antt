@@ -1,5 +1,6 @@
 -- What reading comes to, case by case.
 -- Assumes nothing.
+use Rattle.std.specs.Prelude.{Err, Ok}
 use Prim.Native.Nat.{ℕ, ◌+◌, ◌<◌, ◌≤◌}
 use mathlib.Core.Path.{◌≡◌, refl, sym, ◌∙◌, ap}
 use mathlib.Core.List.{List}
@@ -10,13 +11,14 @@ use native.Mathlib.Omega.{arith}
 use borrow.Author.Tests.{le-leb, lt-leb, eq-eqb, ne_eqb}
 use lib.ListN.{length, take, drop}
 use lib.Seq.{sets, take_at}
-use Rattle.octets.specs.Answers.{fine}
+use Rattle.octets.specs.Answers.{Said}
 use Rattle.octets.specs.declared.Refusal.{Refusal}
 use Rattle.octets.specs.declared.Refusal.TheVariants.{OutputTooShort, BlockNotWhole}
 use Rattle.octets.proofs.Laws.{sets_start}
 use Rattle.columns.specs.Numbers.{number_at}
 use Rattle.columns.specs.Blocks.{joined, lengths, sum, allowed, dealt, lengths_at, strings_then, count_then, strings_of}
-use Rattle.columns.specs.Answers.{SaidStrings, no_strings, MakingBoth, refused_both, made_both, reading, lend_both}
+use Rattle.columns.specs.declared.Strings.{Strings}
+use Rattle.columns.specs.Answers.{MakingBoth, refused_both, made_both, reading, lend_both}
 use Rattle.columns.specs.Internal.{measured}
 use Rattle.columns.proofs.Columns.{columns_dealt}
 use Rattle.columns.proofs.Laws.{allowed_means, lengths_are, sum_lengths}
@@ -74,24 +76,24 @@ module _ (b : List ℕ) where
 -- ---- what becomes of the two lent lists
 
 module _ {m : MakingBoth} (octets list : List ℕ) where
-  pub both_refused : (why : Refusal) → m ≡ refused_both why → ◌≡◌ {A = SaidStrings × List ℕ × List ℕ} (no_strings why, octets, list) (lend_both m octets list)
+  pub both_refused : (why : Refusal) → m ≡ refused_both why → ◌≡◌ {A = Said Strings × List ℕ × List ℕ} (Err why, octets, list) (lend_both m octets list)
   unfolding lend_both
   both_refused why e = rw e
 
   module _ {os ns : List ℕ} (e : m ≡ made_both os ns) where
-    pub octets_short : length octets < length os → ◌≡◌ {A = SaidStrings × List ℕ × List ℕ} (no_strings OutputTooShort, octets, list) (lend_both m octets list)
+    pub octets_short : length octets < length os → ◌≡◌ {A = Said Strings × List ℕ × List ℕ} (Err OutputTooShort, octets, list) (lend_both m octets list)
     unfolding lend_both
     octets_short h = rw (e, lt-leb (length os) (length octets) h)
 
     module _ (fits : length os ≤ length octets) where
-      pub list_short : length list < length ns → ◌≡◌ {A = SaidStrings × List ℕ × List ℕ} (no_strings OutputTooShort, octets, list) (lend_both m octets list)
+      pub list_short : length list < length ns → ◌≡◌ {A = Said Strings × List ℕ × List ℕ} (Err OutputTooShort, octets, list) (lend_both m octets list)
       unfolding lend_both
       list_short h = rw (e, le-leb (length os) (length octets) fits, lt-leb (length ns) (length list) h)
 
-      pub both_done : length ns ≤ length list → {said : SaidStrings} {n total : ℕ} {octets' list' : List ℕ}
-          → said ≡ (fine, n, total) → length ns ≡ n → length os ≡ total → octets' ≡ sets octets 0 os → list' ≡ sets list 0 ns → ◌≡◌ {A = SaidStrings × List ℕ × List ℕ} (said, octets', list') (lend_both m octets list)
+      pub both_done : length ns ≤ length list → {n total : ℕ} {octets' list' : List ℕ}
+          → length ns ≡ n → length os ≡ total → octets' ≡ sets octets 0 os → list' ≡ sets list 0 ns → ◌≡◌ {A = Said Strings × List ℕ × List ℕ} (Ok (record { strings = n; octets = total }), octets', list') (lend_both m octets list)
       unfolding lend_both
-      both_done h s en eo o l = rw (e, le-leb (length os) (length octets) fits, le-leb (length ns) (length list) h, s, ← en, ← eo, o, l, sets_start os octets fits, sets_start ns list h)
+      both_done h en eo o l = rw (e, le-leb (length os) (length octets) fits, le-leb (length ns) (length list) h, ← en, ← eo, o, l, sets_start os octets fits, sets_start ns list h)
 
 -- the lengths that stand at the start of the list
 pub list_start : (ns list : List ℕ) (n : ℕ) → length ns ≡ n → n ≤ length list → take n (sets list 0 ns) ≡ ns

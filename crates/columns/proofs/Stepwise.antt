@@ -1,5 +1,6 @@
 -- What each loop keeps from step to step.
 -- Assumes nothing.
+use Rattle.std.specs.Prelude.{Ok, Err, None, Some}
 use Prim.Native.Nat.{ℕ, suc, ◌+◌, ◌-◌, ◌*◌, ◌<◌, ◌≤◌}
 use mathlib.Core.Path.{◌≡◌, refl, sym, ◌∙◌, ap}
 use mathlib.Core.Bool.{Bool, true, false}
@@ -12,12 +13,9 @@ use borrow.Author.Tests.{le-leb, lt-leb, eqb-true, eqb-false}
 use lib.Dec.{leb, eqb}
 use lib.ListN.{length, get_or, set, take, drop, length-set, length-append, drop_of_length-le}
 use lib.Seq.{sets, drop-cons, get_or-set_same, get_or-set_other}
-use Rattle.octets.specs.Answers.{gives, refuses}
 use Rattle.octets.specs.Each.{each}
 use Rattle.octets.specs.declared.Refusal.TheVariants.{StringsTooLarge}
 use Rattle.octets.proofs.Each.{each_next, each_fails, each_end}
-use Rattle.columns.specs.declared.Number.{Number}
-use Rattle.columns.specs.declared.Lengths.{Lengths}
 use Rattle.columns.specs.Numbers.{groups, number_at}
 use Rattle.columns.specs.Blocks.{sum, allowed, numbers, length_before, length_then, lengths_at}
 use Rattle.columns.specs.Internal.{sizes_of, measured, NumberAs, LengthsAs, has, Raised, picked, scattered}
@@ -39,7 +37,6 @@ abbrev small : ℕ → Bool
 small n = leb n 255
 
 pub record Sizing (ns : List ℕ) (i octets taken : ℕ) : Type 0 where
-  pub inside : i ≤ length ns
   pub few : length ns ≤ 1000
   pub tested : each small (drop i ns) ≡ each small ns
   pub octets_left : octets + sum (drop i ns) ≡ sum ns
@@ -48,16 +45,15 @@ pub record Sizing (ns : List ℕ) (i octets taken : ℕ) : Type 0 where
   pub taken_small : taken ≤ 2 * i
 
 pub sizing_start : (ns : List ℕ) → length ns ≤ 1000 → Sizing ns 0 0 0
-sizing_start ns h = record { inside = omega arith; few = h; tested = refl; octets_left = zero-add _; taken_left = zero-add _; octets_small = omega arith; taken_small = omega arith }
+sizing_start ns h = record { few = h; tested = refl; octets_left = zero-add _; taken_left = zero-add _; octets_small = omega arith; taken_small = omega arith }
 
-pub too_many_strings : (ns : List ℕ) → 1000 < length ns → refuses StringsTooLarge ≡ sizes_of ns
+pub too_many_strings : (ns : List ℕ) → 1000 < length ns → Err StringsTooLarge ≡ sizes_of ns
 unfolding sizes_of allowed
 too_many_strings ns h = rw (lt-leb (length ns) 1000 h)
 
 module _ {ns : List ℕ} {i octets taken : ℕ} (s : Sizing ns i octets taken) where
   pub sizing_next : i < length ns → get_or ns i 0 ≤ 255 → {n : ℕ} → n ≡ length (groups (get_or ns i 0)) → Sizing ns (i + 1) (octets + get_or ns i 0) (taken + n)
   sizing_next h b e = record {
-    inside = omega arith;
     few = s.few;
     tested = sym (each_next small ns i h (le-leb _ _ b)) ∙ s.tested;
     octets_left = omega (arith, s.octets_left, sum_left ns i h);
@@ -66,11 +62,11 @@ module _ {ns : List ℕ} {i octets taken : ℕ} (s : Sizing ns i octets taken) w
     taken_small = omega (arith, e, s.taken_small, groups_few (get_or ns i 0) (omega arith));
   }
 
-  pub sizing_large : i < length ns → 255 < get_or ns i 0 → refuses StringsTooLarge ≡ sizes_of ns
+  pub sizing_large : i < length ns → 255 < get_or ns i 0 → Err StringsTooLarge ≡ sizes_of ns
   unfolding sizes_of allowed
   sizing_large h b = rw (le-leb (length ns) 1000 s.few, ← s.tested, each_fails small ns i h (lt-leb _ _ b))
 
-  pub sizing_end : length ns ≤ i → gives (octets, taken) ≡ sizes_of ns
+  pub sizing_end : length ns ≤ i → Ok (octets, taken) ≡ sizes_of ns
   unfolding sizes_of allowed sum numbers
   sizing_end h =
       let eo : octets ≡ sum ns = sym (add-zero octets) ∙ rw (drop_of_length-le ns {i = i} h) at s.octets_left in
@@ -78,9 +74,6 @@ module _ {ns : List ℕ} {i octets taken : ℕ} (s : Sizing ns i octets taken) w
       rw (le-leb (length ns) 1000 s.few, ← s.tested, each_end small ns i h, eo, et)
 
 -- ---- places raised, and added up
-
-pub raised_start : (places : List ℕ) → length places ≡ 255 → Raised 0 places places
-raised_start places e = record { size = e; each = λ k. omega (arith, has_none k 0 (omega arith)) }
 
 pub raised_next : {before places : List ℕ} {k : ℕ} → Raised k before places → k < 255 → Raised (k + 1) before (set places k (get_or places k 0 + 1))
 raised_next {before} {places} {k} r h = record { size = length-set places k _ ∙ r.size; each = λ j. by_test j (eqb j k) refl }
@@ -128,21 +121,21 @@ picked_next n places os = rw add-one
 -- ---- a number of a block
 
 module _ (os : List ℕ) (at : ℕ) where
-  no_number_bad : number_at (drop at os) ≡ none → NumberAs os at Number.Bad
+  no_number_bad : number_at (drop at os) ≡ none → NumberAs os at None
   no_number_bad q n rest e = let z : ◌≡◌ {A = ℕ} 0 1 = cc in absurd (omega arith)
 
-  pub number_ended : length os ≤ at → NumberAs os at Number.Bad
+  pub number_ended : length os ≤ at → NumberAs os at None
   number_ended h = no_number_bad (rw (drop_of_length-le os {i = at} h) no_number)
 
   module _ (h : at < length os) where
     abbrev x : ℕ
     x = get_or os at 0
 
-    pub number_one : x < 128 → NumberAs os at (Number.Read x (at + 1))
+    pub number_one : x < 128 → NumberAs os at (Some (x, (at + 1)))
     number_one l = (rw (drop-cons os at 0 h, add-one) (one_group x (drop (suc at) os) l), omega arith, omega arith, omega arith)
 
     module _ (follows : 128 ≤ x) where
-      pub number_cut : length os - at < 2 → NumberAs os at Number.Bad
+      pub number_cut : length os - at < 2 → NumberAs os at None
       number_cut l = no_number_bad (rw (drop-cons os at 0 h, drop_of_length-le os {i = suc at} (omega arith)) (group_missing x follows))
 
       module _ (h₂ : at + 1 < length os) where
@@ -155,13 +148,13 @@ module _ (os : List ℕ) (at : ℕ) where
             let f : at + 2 ≡ suc (suc at) = omega arith in
             rw (drop-cons os at 0 h, e, f, drop-cons os (suc at) 0 (omega arith))
 
-        pub number_needless : y ≡ 0 → NumberAs os at Number.Bad
+        pub number_needless : y ≡ 0 → NumberAs os at None
         number_needless e = no_number_bad (rw (both, e) (group_needless x follows (drop (at + 2) os)))
 
-        pub number_large : 127 < y → NumberAs os at Number.Bad
+        pub number_large : 127 < y → NumberAs os at None
         number_large l n rest e = three_groups x follows y (drop (at + 2) os) l n rest (rw both at e)
 
-        pub number_two : 0 < y → y < 128 → x < 256 → NumberAs os at (Number.Read (y * 128 + (x - 128)) (at + 2))
+        pub number_two : 0 < y → y < 128 → x < 256 → NumberAs os at (Some (y * 128 + (x - 128), at + 2))
         number_two p l o = (rw both (two_groups x follows y (drop (at + 2) os) p l), omega arith, omega arith, omega arith)
 
 -- octets start with one number
@@ -202,15 +195,12 @@ pub record Measuring (os : List ℕ) (at count total place i : ℕ) : Type 0 whe
   pub few : i ≤ count
   pub small : total ≤ 255 * i
 
-pub measuring_start : (os : List ℕ) (at count : ℕ) → at ≤ length os → Measuring os at count 0 at 0
-measuring_start os at count h = let e : count - 0 ≡ count = omega arith in record { rest = rw e; inside = h; few = omega arith; small = omega arith }
-
 -- one length fewer
 left_one : (count i : ℕ) → i < count → count - i ≡ suc (count - (i + 1))
 left_one count i h = omega arith
 
 module _ {os : List ℕ} {at count total place i : ℕ} (m : Measuring os at count total place i) where
-  pub measuring_next : i < count → {n next : ℕ} → NumberAs os place (Number.Read n next) → n ≤ 255 → Measuring os at count (total + n) next (i + 1)
+  pub measuring_next : i < count → {n next : ℕ} → NumberAs os place (Some (n, next)) → n ≤ 255 → Measuring os at count (total + n) next (i + 1)
   measuring_next h {n} {next} a l = record {
     rest = m.rest ∙ rw (left_one count i h, lengths_more (count - (i + 1)) (drop place os) n (drop next os) a.0) (measured_more total n l (lengths_at (count - (i + 1)) (drop next os)));
     inside = a.3;
@@ -218,13 +208,13 @@ module _ {os : List ℕ} {at count total place i : ℕ} (m : Measuring os at cou
     small = omega (arith, m.small);
   }
 
-  pub measuring_bad : i < count → ((n : ℕ) (rest : List ℕ) → number_at (drop place os) ≡ some (n, rest) → 255 < n) → LengthsAs os at count Lengths.Bad
+  pub measuring_bad : i < count → ((n : ℕ) (rest : List ℕ) → number_at (drop place os) ≡ some (n, rest) → 255 < n) → LengthsAs os at count None
   measuring_bad h large = m.rest ∙ rw (left_one count i h, lengths_bad (count - (i + 1)) (drop place os) large)
 
-  pub measuring_large : i < count → {n next : ℕ} → NumberAs os place (Number.Read n next) → 255 < n → LengthsAs os at count Lengths.Bad
+  pub measuring_large : i < count → {n next : ℕ} → NumberAs os place (Some (n, next)) → 255 < n → LengthsAs os at count None
   measuring_large h {n} {next} a l = measuring_bad h (λ m rest e. omega (arith, same_number (drop place os) a.0 e))
 
-  pub measuring_end : count ≤ i → LengthsAs os at count (Lengths.Read total place)
+  pub measuring_end : count ≤ i → LengthsAs os at count (Some (total, place))
   unfolding sum
   measuring_end h =
       let e : count - i ≡ 0 = omega arith in
@@ -238,7 +228,7 @@ pub storing_start : (os : List ℕ) (at count : ℕ) (list : List ℕ) → Stori
 storing_start os at count list = let z : count - 0 ≡ count = omega arith in record { rest = λ ns more e. (ns, rw z e, refl) }
 
 module _ {os : List ℕ} {at count : ℕ} {before list : List ℕ} {place i : ℕ} (s : Storing os at count before list place i) where
-  pub storing_next : i < count → {n next : ℕ} → NumberAs os place (Number.Read n next) → Storing os at count before (set list i n) next (i + 1)
+  pub storing_next : i < count → {n next : ℕ} → NumberAs os place (Some (n, next)) → Storing os at count before (set list i n) next (i + 1)
   storing_next h {n} {next} a = record { rest = one_more }
     where
       later : (ns others : List ℕ) → sets list i (n ∷ others) ≡ sets before 0 ns → sets (set list i n) (i + 1) others ≡ sets before 0 ns
@@ -253,7 +243,7 @@ module _ {os : List ℕ} {at count : ℕ} {before list : List ℕ} {place i : �
           let (others, r, is, few) = length_first n _ ms more first in
           (others, r, later ns others (rw is at l))
 
-  pub storing_bad : i < count → NumberAs os place Number.Bad → (ns more : List ℕ) → lengths_at count (drop at os) ≡ some (ns, more) → list ≡ sets before 0 ns
+  pub storing_bad : i < count → NumberAs os place None → (ns more : List ℕ) → lengths_at count (drop at os) ≡ some (ns, more) → list ≡ sets before 0 ns
   storing_bad h a ns more e =
       let (ms, q, l) = s.rest ns more e in
       let gone = lengths_bad (count - (i + 1)) (drop place os) (λ n rest p. omega (arith, a n rest p)) in

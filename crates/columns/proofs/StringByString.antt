@@ -13,7 +13,7 @@ use lib.Dec.{eqb, ltb}
 use lib.ListN.{length, get_or, set, take, drop, length-set, length-drop, length-map, get_or-map}
 use lib.Seq.{sets, length-sets, take-suc, take_all, get_or-drop, get_or-set_same, get_or-set_other, ext_get_or}
 use Rattle.octets.specs.Lent.{Wrote}
-use Rattle.octets.proofs.Laws.{wrote_then, kept_by}
+use Rattle.octets.proofs.Laws.{wrote_then}
 use Rattle.columns.specs.Blocks.{strings_in, joined, lengths, sum, columns, dealt}
 use Rattle.columns.specs.Internal.{has, start_of, place_of, Raised, Starts, picked, scattered}
 use Rattle.columns.proofs.Columns.{AtMost, length_columns, columns_dealt}
@@ -74,14 +74,12 @@ pub record Taking (block : List ℕ) (body : ℕ) (ns octets₀ places octets : 
   pub whole : body + sum ns ≡ length block
   pub room : sum ns ≤ length octets₀
   pub starts : Starts ns body i places
-  pub inside : i ≤ length ns
   pub here : at ≡ sum (take i ns)
-  pub kept : length octets ≡ length octets₀
   pub wrote : Wrote 0 (joined (take i (dealt 255 ns (drop body block)))) octets₀ at octets
 
 pub taking_start : {ns block octets places : List ℕ} {body : ℕ} → AtMost 255 ns → body + sum ns ≡ length block → sum ns ≤ length octets → Starts ns body 0 places → Taking block body ns octets places octets 0 0
 unfolding sum joined
-taking_start few whole room s = record { few = few; whole = whole; room = room; starts = s; inside = omega arith; here = refl; kept = refl; wrote = record { place = refl; list = refl } }
+taking_start few whole room s = record { few = few; whole = whole; room = room; starts = s; here = refl; wrote = record { place = refl; list = refl } }
 
 module _ {ns block octets₀ places octets : List ℕ} {body at i : ℕ} (t : Taking block body ns octets₀ places octets at i) where
   pub taking_next : i < length ns → {next : ℕ} {after raised : List ℕ} → Wrote at (picked (get_or ns i 0) places block) octets next after → Raised (get_or ns i 0) places raised
@@ -94,9 +92,7 @@ module _ {ns block octets₀ places octets : List ℕ} {body at i : ℕ} (t : Ta
         whole = t.whole;
         room = t.room;
         starts = rw add-one (starts_next t.starts l r);
-        inside = omega arith;
         here = rw add-one (omega (arith, w.place, t.here, sum_next i ns, ap length is, length_is ns block body t.few t.whole i));
-        kept = kept_by w ∙ t.kept;
         wrote = rw (add-one, joined_next (dealt 255 ns (drop body block)) i (omega (arith, count_is ns block body t.few t.whole))) both;
       }
 
@@ -207,26 +203,21 @@ pub record Putting (os ns out₀ : List ℕ) (body : ℕ) (out places : List ℕ
   pub enough : sum ns ≤ length os
   pub room : body + sum ns ≤ length out₀
   pub starts : Starts ns body i places
-  pub inside : i ≤ length ns
   pub here : at ≡ sum (take i ns)
   pub placing : Placing ns body (sets out₀ body (columns 255 (strings_in ns os))) i 0 out
 
 pub putting_start : {os ns out places : List ℕ} {body : ℕ} → AtMost 255 ns → sum ns ≤ length os → body + sum ns ≤ length out → Starts ns body 0 places → Putting os ns out body out places 0 0
 unfolding sum
 putting_start {os} {ns} {out} {body = body} few enough room s =
-    record { few = few; enough = enough; room = room; starts = s; inside = omega arith; here = refl; placing = placing_start ns os body few enough out room }
+    record { few = few; enough = enough; room = room; starts = s; here = refl; placing = placing_start ns os body few enough out room }
 
 module _ {os ns out₀ out places : List ℕ} {body at i : ℕ} (t : Putting os ns out₀ body out places at i) where
-  pub putting_kept : length out ≡ length out₀
-  putting_kept = t.placing.kept ∙ length-sets out₀ body (columns 255 (strings_in ns os))
-
   pub putting_next : i < length ns → {after raised : List ℕ} → after ≡ scattered (get_or ns i 0) places (drop at os) out → Raised (get_or ns i 0) places raised → Putting os ns out₀ body after raised (at + get_or ns i 0) (i + 1)
   putting_next l e r = record {
     few = t.few;
     enough = t.enough;
     room = t.room;
     starts = rw add-one (starts_next t.starts l r);
-    inside = omega arith;
     here = rw add-one (omega (arith, t.here, sum_next i ns));
     placing = rw e (placing_string ns os body t.few t.enough out₀ t.room l t.starts t.here t.placing);
   }

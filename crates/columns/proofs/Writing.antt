@@ -1,5 +1,6 @@
 -- What writing comes to, case by case, and how large a block is.
 -- Assumes nothing.
+use Rattle.octets.specs.declared.Refusal.{Refusal}
 use Prim.Native.Nat.{ℕ, zero, suc, ◌+◌, ◌*◌, ◌<◌, ◌≤◌}
 use mathlib.Core.Path.{◌≡◌, refl, sym, ◌∙◌, ap}
 use mathlib.Core.Bool.{Bool, true, false}
@@ -8,8 +9,8 @@ use native.Mathlib.Omega.{arith}
 use borrow.Author.Tests.{le-leb, lt-leb}
 use lib.ListN.{length, drop, replicate, length-append, length-drop, length-map, length-replicate}
 use lib.Seq.{take-append-le, drop-append-le}
-use Rattle.octets.specs.Answers.{Said, gives, refuses}
-use Rattle.std.specs.Prelude.{if◌then◌else◌}
+use Rattle.octets.specs.Answers.{Said}
+use Rattle.std.specs.Prelude.{if◌then◌else◌, Ok, Err}
 use Rattle.octets.specs.Checks.{checked}
 use Rattle.octets.specs.Lent.{refused, made, Wrote}
 use Rattle.octets.specs.declared.Refusal.TheVariants.{LengthTooLarge, StringsTooLarge}
@@ -19,29 +20,30 @@ use Rattle.columns.specs.Blocks.{strings_in, lengths, sum, allowed, columns, num
 use Rattle.columns.specs.Answers.{writing}
 use Rattle.columns.specs.Internal.{sizes_of}
 use Rattle.columns.proofs.Numbers.{groups_two, groups_few}
+use Rattle.octets.proofs.Checks.{never}
 use Rattle.columns.proofs.Columns.{AtMost, length_columns}
 use Rattle.columns.proofs.Laws.{allowed_means, lengths_in, writing_done, writing_told}
 
 -- ---- refused
 
-pub too_large : (os ns : List ℕ) → refuses StringsTooLarge ≡ sizes_of ns → writing os ns ≡ refused StringsTooLarge
+pub too_large : (os ns : List ℕ) {why : Refusal} → Err why ≡ sizes_of ns → writing os ns ≡ refused why
 unfolding writing checked sizes_of
-too_large os ns e = by_test (allowed ns) refl e
+too_large os ns {why} e = by_test (allowed ns) refl e
   where
-    by_test : (t : Bool) → allowed ns ≡ t → refuses StringsTooLarge ≡ if◌then◌else◌ {A = Said (ℕ × ℕ)} t (gives (sum ns, length (numbers ns))) (refuses StringsTooLarge) → writing os ns ≡ refused StringsTooLarge
-    by_test true a e = let z : ◌≡◌ {A = ℕ} 0 1 = cc in absurd (omega arith)
-    by_test false a e = rw a
+    by_test : (t : Bool) → allowed ns ≡ t → Err why ≡ if◌then◌else◌ {A = Said (ℕ × ℕ)} t (Ok (sum ns, length (numbers ns))) (Err StringsTooLarge) → writing os ns ≡ refused why
+    by_test true a e = absurd (never (sym e))
+    by_test false a e = let same : why ≡ StringsTooLarge = cc in rw (a, same)
 
 pub octets_missing : (os ns : List ℕ) → allowed ns ≡ true → length os < sum ns → writing os ns ≡ refused LengthTooLarge
 unfolding writing checked
 octets_missing os ns a h = rw (a, lt-leb (sum ns) (length os) h)
 
 -- the sizes that were counted
-pub sizes_told : (ns : List ℕ) (octets taken : ℕ) → gives (octets, taken) ≡ sizes_of ns → (allowed ns ≡ true) × (octets ≡ sum ns) × (taken ≡ length (numbers ns))
+pub sizes_told : (ns : List ℕ) (octets taken : ℕ) → Ok (octets, taken) ≡ sizes_of ns → (allowed ns ≡ true) × (octets ≡ sum ns) × (taken ≡ length (numbers ns))
 unfolding sizes_of
 sizes_told ns octets taken e = by_test (allowed ns) refl e
   where
-    by_test : (t : Bool) → allowed ns ≡ t → gives (octets, taken) ≡ if◌then◌else◌ {A = Said (ℕ × ℕ)} t (gives (sum ns, length (numbers ns))) (refuses StringsTooLarge)
+    by_test : (t : Bool) → allowed ns ≡ t → Ok (octets, taken) ≡ if◌then◌else◌ {A = Said (ℕ × ℕ)} t (Ok (sum ns, length (numbers ns))) (Err StringsTooLarge)
         → (allowed ns ≡ true) × (octets ≡ sum ns) × (taken ≡ length (numbers ns))
     by_test true a e = let p : ◌≡◌ {A = ℕ × ℕ} (octets, taken) (sum ns, length (numbers ns)) = cc in (a, ap (λ (y : ℕ × ℕ). y.0) p, ap (λ (y : ℕ × ℕ). y.1) p)
     by_test false a e = let z : ◌≡◌ {A = ℕ} 0 1 = cc in absurd (omega arith)
@@ -93,7 +95,7 @@ sum_few [] h = omega arith
 sum_few (n ∷ ns) h = omega (arith, h.0, sum_few ns h.1)
 
 -- at most 257,002 octets
-pub largest_block : (os ns b : List ℕ) (w : Said ℕ) → writing os ns ≡ made b w → length b ≤ 257002
+pub largest_block : (os ns b : List ℕ) (w : ℕ) → writing os ns ≡ made b w → length b ≤ 257002
 largest_block os ns b w e =
     let (a, h, is) = writing_told os ns b w e in
     let (few, most) = (allowed_means ns).0 a in
@@ -115,11 +117,11 @@ most_full : (n : ℕ) → AtMost 255 (replicate n 255)
 most_full zero = tt
 most_full (suc n) = (omega arith, most_full n)
 
-pub largest_reached : (os : List ℕ) → 255000 ≤ length os → (b : List ℕ) × (writing os (replicate 1000 255) ≡ made b (gives 257002))
+pub largest_reached : (os : List ℕ) → 255000 ≤ length os → (b : List ℕ) × (writing os (replicate 1000 255) ≡ made b 257002)
 largest_reached os h =
     let ns : List ℕ = replicate 1000 255 in
     let count = length-replicate {A = ℕ} 1000 255 in
     let a = (allowed_means ns).1 (omega (arith, count), most_full 1000) in
     let enough : sum ns ≤ length os = omega (arith, sum_full 1000) in
     let size : length (block (strings_in ns os)) ≡ 257002 = block_size os ns a enough ∙ omega (arith, sum_full 1000, numbers_full 1000, ap length (ap groups count ∙ groups_two 1000 (omega arith) (omega arith))) in
-    (block (strings_in ns os), writing_done os ns a enough ∙ ap (λ (n : ℕ). made (block (strings_in ns os)) (gives n)) size)
+    (block (strings_in ns os), writing_done os ns a enough ∙ ap (λ (n : ℕ). made (block (strings_in ns os)) n) size)

@@ -1,7 +1,7 @@
 -- What the two functions answer, and what they do with what is lent.
-use Rattle.std.specs.Prelude.{ℕ, ◌≡◌, refl, ◌&&◌, List, [], ◌∷◌, ◌++◌, length, drop, leb, if◌then◌else◌}
+use Rattle.std.specs.Prelude.{ℕ, ◌≡◌, refl, ◌&&◌, List, [], ◌∷◌, ◌++◌, length, drop, leb, if◌then◌else◌, Ok, Err}
 use Rattle.std.proofs.Math.Option.{Option, none, some}
-use Rattle.octets.specs.Answers.{Said, gives, refuses, fine, outcome_says}
+use Rattle.octets.specs.Answers.{Said}
 use Rattle.octets.specs.Checks.{◌unless◌, checked}
 use Rattle.octets.specs.Each.{each}
 use Rattle.octets.specs.Lent.{Making, refused, made}
@@ -14,22 +14,11 @@ use Rattle.columns.specs.Blocks.{strings_in, joined, lengths, sum, allowed, firs
 -- ---- writing
 
 -- octets and lengths lent: 35, 1, then the block; octets after the strings are not looked at
-unfoldable pub writing : List ℕ → List ℕ → Making (Said ℕ)
+unfoldable pub writing : List ℕ → List ℕ → Making ℕ
 writing os ns =
     checked ((StringsTooLarge unless allowed ns) ∷ (LengthTooLarge unless leb (sum ns) (length os)) ∷ []) (block (strings_in ns os))
 
 -- ---- reading
-
--- what the answer says: its outcome, and the numbers of strings and of octets
-abbrev pub SaidStrings : Type 0
-SaidStrings = Said Unit × ℕ × ℕ
-
-abbrev pub strings_says : Strings → SaidStrings
-strings_says r = (outcome_says r.outcome, r.strings, r.octets)
-
--- a refusal: counts 0
-unfoldable pub no_strings : Refusal → SaidStrings
-no_strings why = (refuses why, 0, 0)
 
 -- what a reader makes for two lent lists: octets and lengths, or a refusal
 pub data MakingBoth : Type 0 where
@@ -45,18 +34,18 @@ unfoldable pub reading : List ℕ → MakingBoth
 reading os = made_of (strings_of os)
 
 -- the answer and both lent lists afterwards, as `lend` says of one: 23 where either is too short; a refusal changes neither, and nothing after what is written changes
-unfoldable pub lend_both : MakingBoth → List ℕ → List ℕ → SaidStrings × List ℕ × List ℕ
-lend_both (refused_both why) octets list = (no_strings why, octets, list)
+unfoldable pub lend_both : MakingBoth → List ℕ → List ℕ → Said Strings × List ℕ × List ℕ
+lend_both (refused_both why) octets list = (Err why, octets, list)
 lend_both (made_both os ns) octets list =
     if leb (length os) (length octets) && leb (length ns) (length list)
-    then ((fine, length ns, length os), os ++ drop (length os) octets, ns ++ drop (length ns) list)
-    else (no_strings OutputTooShort, octets, list)
+    then (Ok (record { strings = length ns; octets = length os }), os ++ drop (length os) octets, ns ++ drop (length ns) list)
+    else (Err OutputTooShort, octets, list)
 
 -- "abc", "", "de" and an octet more; a length too many; one octet too few; and the block read into five octets and four lengths, or into two lengths
-rows : (writing (0x61 ∷ 0x62 ∷ 0x63 ∷ 0x64 ∷ 0x65 ∷ 0xff ∷ []) (3 ∷ 0 ∷ 2 ∷ []) ≡ made (3 ∷ 3 ∷ 0 ∷ 2 ∷ 0x61 ∷ 0x64 ∷ 0x62 ∷ 0x65 ∷ 0x63 ∷ []) (gives 9))
+rows : (writing (0x61 ∷ 0x62 ∷ 0x63 ∷ 0x64 ∷ 0x65 ∷ 0xff ∷ []) (3 ∷ 0 ∷ 2 ∷ []) ≡ made (3 ∷ 3 ∷ 0 ∷ 2 ∷ 0x61 ∷ 0x64 ∷ 0x62 ∷ 0x65 ∷ 0x63 ∷ []) 9)
     × (writing [] (256 ∷ []) ≡ refused StringsTooLarge) × (writing (0x61 ∷ []) (2 ∷ []) ≡ refused LengthTooLarge)
-    × (lend_both (reading (3 ∷ 3 ∷ 0 ∷ 2 ∷ 0x61 ∷ 0x64 ∷ 0x62 ∷ 0x65 ∷ 0x63 ∷ [])) (9 ∷ 9 ∷ 9 ∷ 9 ∷ 9 ∷ []) (9 ∷ 9 ∷ 9 ∷ 9 ∷ []) ≡ ((fine, 3, 5), 0x61 ∷ 0x62 ∷ 0x63 ∷ 0x64 ∷ 0x65 ∷ [], 3 ∷ 0 ∷ 2 ∷ 9 ∷ []))
-    × (lend_both (reading (3 ∷ 0 ∷ 0 ∷ 0 ∷ [])) (9 ∷ []) (9 ∷ 9 ∷ []) ≡ ((refuses OutputTooShort, 0, 0), 9 ∷ [], 9 ∷ 9 ∷ []))
-    × (lend_both (reading (1 ∷ 2 ∷ 0x61 ∷ [])) (9 ∷ []) (9 ∷ []) ≡ ((refuses BlockNotWhole, 0, 0), 9 ∷ [], 9 ∷ []))
-unfolding writing checked allowed each reading lend_both no_strings block strings_in joined strings_of groups_within number_at numbers columns firsts rests lengths_at sum dealt fronted going
+    × (lend_both (reading (3 ∷ 3 ∷ 0 ∷ 2 ∷ 0x61 ∷ 0x64 ∷ 0x62 ∷ 0x65 ∷ 0x63 ∷ [])) (9 ∷ 9 ∷ 9 ∷ 9 ∷ 9 ∷ []) (9 ∷ 9 ∷ 9 ∷ 9 ∷ []) ≡ (Ok (record { strings = 3; octets = 5 }), 0x61 ∷ 0x62 ∷ 0x63 ∷ 0x64 ∷ 0x65 ∷ [], 3 ∷ 0 ∷ 2 ∷ 9 ∷ []))
+    × (lend_both (reading (3 ∷ 0 ∷ 0 ∷ 0 ∷ [])) (9 ∷ []) (9 ∷ 9 ∷ []) ≡ (Err OutputTooShort, 9 ∷ [], 9 ∷ 9 ∷ []))
+    × (lend_both (reading (1 ∷ 2 ∷ 0x61 ∷ [])) (9 ∷ []) (9 ∷ []) ≡ (Err BlockNotWhole, 9 ∷ [], 9 ∷ []))
+unfolding writing checked allowed each reading lend_both block strings_in joined strings_of groups_within number_at numbers columns firsts rests lengths_at sum dealt fronted going
 rows = (refl, refl, refl, refl, refl, refl)

@@ -1,35 +1,28 @@
 -- What only functions of this crate say to each other: sizes, numbers and lengths found, and where an octet of a string stands in the columns.
-use Rattle.std.specs.Prelude.{ℕ, zero, suc, ◌+◌, ◌<◌, ◌≤◌, ◌≡◌, refl, List, [], ◌∷◌, ◌++◌, length, get_or, set, take, drop, ltb, if◌then◌else◌}
+use Rattle.std.specs.Prelude.{ℕ, zero, suc, ◌+◌, ◌<◌, ◌≤◌, ◌≡◌, refl, List, [], ◌∷◌, ◌++◌, length, get_or, set, take, drop, ltb, if◌then◌else◌, Ok, Err, Some, None, Option as Maybe}
 use Rattle.std.proofs.Math.Option.{Option, none, some}
-use Rattle.octets.specs.Answers.{Said, gives, refuses}
+use Rattle.octets.specs.Answers.{Said}
 use Rattle.octets.specs.declared.Refusal.TheVariants.{StringsTooLarge}
-use Rattle.columns.specs.declared.Sizes.{Sizes}
-use Rattle.columns.specs.declared.Number.{Number}
-use Rattle.columns.specs.declared.Lengths.{Lengths}
 use Rattle.columns.specs.Numbers.{number_at}
 use Rattle.columns.specs.Blocks.{sum, allowed, numbers, lengths_at}
 
 -- ---- writing: the octets of the strings and of their lengths; 35
-abbrev pub sizes_says : Sizes → Said (ℕ × ℕ)
-sizes_says (Sizes.All octets taken) = gives (octets, taken)
-sizes_says Sizes.TooLarge = refuses StringsTooLarge
-
 unfoldable pub sizes_of : List ℕ → Said (ℕ × ℕ)
-sizes_of ns = if◌then◌else◌ {A = Said (ℕ × ℕ)} (allowed ns) (gives (sum ns, length (numbers ns))) (refuses StringsTooLarge)
+sizes_of ns = if◌then◌else◌ {A = Said (ℕ × ℕ)} (allowed ns) (Ok (sum ns, length (numbers ns))) (Err StringsTooLarge)
 
 -- ---- reading: a number of at most two groups, and the place after it; where there is none, a number that stands there is larger than any of a block
-abbrev pub NumberAs : List ℕ → ℕ → Number → Type 0
-NumberAs os at (Number.Read n next) = (number_at (drop at os) ≡ some (n, drop next os)) × (n < 16384) × (at < next) × (next ≤ length os)
-NumberAs os at Number.Bad = (n : ℕ) (rest : List ℕ) → number_at (drop at os) ≡ some (n, rest) → 16384 ≤ n
+abbrev pub NumberAs : List ℕ → ℕ → Maybe (ℕ × ℕ) → Type 0
+NumberAs os at (Some (n, next)) = (number_at (drop at os) ≡ some (n, drop next os)) × (n < 16384) × (at < next) × (next ≤ length os)
+NumberAs os at None = (n : ℕ) (rest : List ℕ) → number_at (drop at os) ≡ some (n, rest) → 16384 ≤ n
 
 -- lengths added up, with t more
 abbrev pub measured : ℕ → Option (List ℕ × List ℕ) → Option (ℕ × List ℕ)
 measured t none = none
 measured t (some (ns, os)) = some (t + sum ns, os)
 
-abbrev pub LengthsAs : List ℕ → ℕ → ℕ → Lengths → Type 0
-LengthsAs os at count (Lengths.Read total next) = (measured 0 (lengths_at count (drop at os)) ≡ some (total, drop next os)) × (next ≤ length os)
-LengthsAs os at count Lengths.Bad = measured 0 (lengths_at count (drop at os)) ≡ none
+abbrev pub LengthsAs : List ℕ → ℕ → ℕ → Maybe (ℕ × ℕ) → Type 0
+LengthsAs os at count (Some (total, next)) = (measured 0 (lengths_at count (drop at os)) ≡ some (total, drop next os)) × (next ≤ length os)
+LengthsAs os at count None = measured 0 (lengths_at count (drop at os)) ≡ none
 
 -- ---- where octet k of string i stands
 

@@ -1,55 +1,22 @@
 // Octet strings rearranged by column, and back.
 #![tactic(auto)]
 
-ghost use Rattle.std.specs.Prelude.{◌≡◌, true, List, ℕ, ◌+◌, ◌^◌, ◌<◌, ◌≤◌, length, get_or, drop};
+ghost use Rattle.std.specs.Prelude.{◌≡◌, true, List, ℕ, ◌+◌, ◌^◌, ◌<◌, ◌≤◌, length, get_or, drop, Err};
 ghost use Rattle.std.proofs.Math.Option.{some};
 ghost use Rattle.std.proofs.lemmas.List.Edits.{sets};
-ghost use Rattle.octets.specs.Answers.{refuses, written_says};
 ghost use Rattle.octets.specs.Lent.{lend, Wrote};
 ghost use Rattle.columns.specs.Numbers.{groups};
 ghost use Rattle.columns.specs.Blocks.{strings_in, joined, sum, allowed, columns, numbers, dealt, lengths_at};
-ghost use Rattle.columns.specs.Answers.{strings_says, no_strings, writing, reading, lend_both};
-ghost use Rattle.columns.specs.Internal.{longer_than, sizes_says, sizes_of, NumberAs, LengthsAs, Raised, SummedUp, Starts, picked, scattered};
+ghost use Rattle.columns.specs.Answers.{writing, reading, lend_both};
+ghost use Rattle.columns.specs.Internal.{longer_than, sizes_of, NumberAs, LengthsAs, Raised, SummedUp, Starts, picked, scattered};
 
-use octets::{Outcome, Refusal, Written};
+use octets::Refusal;
 
 // What a block held: how many strings, and how many octets they have together.
-#[derive(Clone, Copy)]
+#[derive(Clone, Copy, Debug, PartialEq, Eq)]
 pub struct Strings {
-    pub outcome: Outcome,
     pub strings: usize,
     pub octets: usize,
-}
-
-// How many octets strings of some lengths have together, and how many the lengths take in a block.
-#[derive(Clone, Copy)]
-enum Sizes {
-    All { octets: usize, lengths: usize },
-    TooLarge,
-}
-
-// A number of a block, and the place after it; a number past two groups is too large for any place of a block.
-#[derive(Clone, Copy)]
-enum Number {
-    Read(usize, usize),
-    Bad,
-}
-
-// How many octets the strings of a block have together, and the place after their lengths.
-#[derive(Clone, Copy)]
-enum Lengths {
-    Read(usize, usize),
-    Bad,
-}
-
-fn refused(why: Refusal) -> Strings
-    ensures { strings_says result ≡ no_strings why }
-{
-    Strings {
-        outcome: Outcome::Refused(why),
-        strings: 0,
-        octets: 0,
-    }
 }
 
 // How many groups a number of at most two has.
@@ -60,29 +27,24 @@ fn groups_of(n: usize) -> usize
     if n < 128 { 1 } else { 2 }
 }
 
-// What strings of these lengths take, where there are at most 1,000 of at most 255 octets.
-fn sizes_of(lengths: &[usize]) -> Sizes
-    ensures { sizes_says result ≡ sizes_of lengths.now }
+// How many octets strings of these lengths have together, and how many the lengths take in a block, where there are at
+// most 1,000 of at most 255 octets.
+fn sizes_of(lengths: &[usize]) -> Result<(usize, usize), Refusal>
+    ensures { result ≡ sizes_of lengths.now }
 {
     if 1000 < lengths.len() {
-        return Sizes::TooLarge;
+        return Err(Refusal::StringsTooLarge);
     }
     let mut octets = 0;
     let mut taken = 0;
-    let mut i = 0;
-    while i < lengths.len() {
-        let n = lengths[i];
+    for &n in lengths {
         if 255 < n {
-            return Sizes::TooLarge;
+            return Err(Refusal::StringsTooLarge);
         }
         octets += n;
         taken += groups_of(n);
-        i += 1;
     }
-    Sizes::All {
-        octets,
-        lengths: taken,
-    }
+    Ok((octets, taken))
 }
 
 // Writes a number's groups from `at` on; the place after them.
@@ -103,10 +65,8 @@ fn put_numbers(out: &mut [u8], at: usize, lengths: &[usize]) -> usize
     ensures { Wrote at (numbers lengths.now) out.old result out.new }
 {
     let mut place = at;
-    let mut i = 0;
-    while i < lengths.len() {
-        place = put_number(out, place, lengths[i]);
-        i += 1;
+    for &n in lengths {
+        place = put_number(out, place, n);
     }
     place
 }
@@ -116,10 +76,8 @@ fn raise(places: &mut [usize; 255], n: usize)
     requires { (length places.old ≡ 255) × (n ≤ 255) × ((k : ℕ) → k < n → get_or places.old k 0 + 1 < 2 ^ 64) }
     ensures { Raised n places.old places.new }
 {
-    let mut k = 0;
-    while k < n {
-        places[k] += 1;
-        k += 1;
+    for place in &mut places[..n] {
+        *place += 1;
     }
 }
 
@@ -128,10 +86,8 @@ fn count_octets(lengths: &[usize], counts: &mut [usize; 255])
     requires { (allowed lengths.now ≡ true) × (length counts.old ≡ 255) × ((k : ℕ) → get_or counts.old k 0 ≡ 0) }
     ensures { (length counts.new ≡ 255) × ((k : ℕ) → get_or counts.new k 0 ≡ longer_than k lengths.now) }
 {
-    let mut i = 0;
-    while i < lengths.len() {
-        raise(counts, lengths[i]);
-        i += 1;
+    for &n in lengths {
+        raise(counts, n);
     }
 }
 
@@ -141,12 +97,10 @@ fn sum_up(counts: &mut [usize; 255], body: usize)
     ensures { SummedUp body counts.old counts.new }
 {
     let mut place = body;
-    let mut k = 0;
-    while k < 255 {
-        let count = counts[k];
-        counts[k] = place;
+    for start in counts {
+        let count = *start;
+        *start = place;
         place += count;
-        k += 1;
     }
 }
 
@@ -166,10 +120,8 @@ fn put_string(octets: &[u8], at: usize, n: usize, places: &[usize; 255], out: &m
     requires { (length places.now ≡ 255) × (n ≤ 255) × (at + n ≤ length octets.now) × ((k : ℕ) → k < n → get_or places.now k 0 < length out.old) }
     ensures { out.new ≡ scattered n places.now (drop at octets.now) out.old }
 {
-    let mut k = 0;
-    while k < n {
-        out[places[k]] = octets[at + k];
-        k += 1;
+    for (k, place) in places[..n].iter().enumerate() {
+        out[*place] = octets[at + k];
     }
 }
 
@@ -180,83 +132,73 @@ fn put_strings(octets: &[u8], lengths: &[usize], out: &mut [u8], body: usize) ->
 {
     let mut places = column_starts(lengths, body);
     let mut at = 0;
-    let mut i = 0;
-    while i < lengths.len() {
-        let n = lengths[i];
+    for &n in lengths {
         put_string(octets, at, n, &places, out);
         raise(&mut places, n);
         at += n;
-        i += 1;
     }
     body + at
 }
 
 // The block of strings that lie end to end; octets after them are not looked at.
-pub fn to_columns(octets: &[u8], lengths: &[usize], out: &mut [u8]) -> Written
-    ensures { (written_says result, out.new) ≡ lend refuses (writing octets.now lengths.now) out.old }
+pub fn to_columns(octets: &[u8], lengths: &[usize], out: &mut [u8]) -> Result<usize, Refusal>
+    ensures { (result, out.new) ≡ lend (writing octets.now lengths.now) out.old }
 {
-    let Sizes::All {
-        octets: total,
-        lengths: taken,
-    } = sizes_of(lengths)
-    else {
-        return Written::Refused(Refusal::StringsTooLarge);
-    };
+    let (total, taken) = sizes_of(lengths)?;
     if octets.len() < total {
-        return Written::Refused(Refusal::LengthTooLarge);
+        return Err(Refusal::LengthTooLarge);
     }
     if out.len() < groups_of(lengths.len()) + taken + total {
-        return Written::Refused(Refusal::OutputTooShort);
+        return Err(Refusal::OutputTooShort);
     }
     let next = put_number(out, 0, lengths.len());
     let body = put_numbers(out, next, lengths);
-    Written::Done(put_strings(octets, lengths, out, body))
+    Ok(put_strings(octets, lengths, out, body))
 }
 
-// The number that starts at `at`, of at most two groups.
-fn number_at(block: &[u8], at: usize) -> Number
+// The number that starts at `at`, and the place after it; none where there is no number of at most two groups, which is
+// too large for any place of a block.
+fn number_at(block: &[u8], at: usize) -> Option<(usize, usize)>
     ensures { NumberAs block.now at result }
 {
     if block.len() <= at {
-        return Number::Bad;
+        return None;
     }
     let first = block[at] as usize;
     if first < 128 {
-        return Number::Read(first, at + 1);
+        return Some((first, at + 1));
     }
     if block.len() - at < 2 {
-        return Number::Bad;
+        return None;
     }
     let second = block[at + 1] as usize;
     if second == 0 {
-        return Number::Bad;
+        return None;
     }
     if 127 < second {
-        return Number::Bad;
+        return None;
     }
-    Number::Read(second * 128 + (first - 128), at + 2)
+    Some((second * 128 + (first - 128), at + 2))
 }
 
-// The lengths of `count` strings from `at` on, added up.
-fn measure(block: &[u8], at: usize, count: usize) -> Lengths
+// The lengths of `count` strings from `at` on, added up, and the place after them; none where they are not all there.
+fn measure(block: &[u8], at: usize, count: usize) -> Option<(usize, usize)>
     requires { (count ≤ 1000) × (at ≤ length block.now) }
     ensures { LengthsAs block.now at count result }
 {
     let mut total = 0;
     let mut place = at;
-    let mut i = 0;
-    while i < count {
-        let Number::Read(n, next) = number_at(block, place) else {
-            return Lengths::Bad;
+    for _ in 0..count {
+        let Some((n, next)) = number_at(block, place) else {
+            return None;
         };
         if 255 < n {
-            return Lengths::Bad;
+            return None;
         }
         total += n;
         place = next;
-        i += 1;
     }
-    Lengths::Read(total, place)
+    Some((total, place))
 }
 
 // Stores the lengths of `count` strings from `at` on at the list's start.
@@ -265,14 +207,12 @@ fn put_lengths(block: &[u8], at: usize, count: usize, lengths: &mut [usize])
     ensures { (ns rest : List ℕ) → lengths_at count (drop at block.now) ≡ some (ns, rest) → lengths.new ≡ sets lengths.old 0 ns }
 {
     let mut place = at;
-    let mut i = 0;
-    while i < count {
-        let Number::Read(n, next) = number_at(block, place) else {
+    for length in &mut lengths[..count] {
+        let Some((n, next)) = number_at(block, place) else {
             return;
         };
-        lengths[i] = n;
+        *length = n;
         place = next;
-        i += 1;
     }
 }
 
@@ -281,10 +221,8 @@ fn take_string(block: &[u8], places: &[usize; 255], n: usize, octets: &mut [u8],
     requires { (length places.now ≡ 255) × (n ≤ 255) × (at + n ≤ length octets.old) × ((k : ℕ) → k < n → get_or places.now k 0 < length block.now) }
     ensures { Wrote at (picked n places.now block.now) octets.old result octets.new }
 {
-    let mut k = 0;
-    while k < n {
-        octets[at + k] = block[places[k]];
-        k += 1;
+    for (k, place) in places[..n].iter().enumerate() {
+        octets[at + k] = block[*place];
     }
     at + n
 }
@@ -296,43 +234,43 @@ fn take_strings(block: &[u8], body: usize, lengths: &[usize], octets: &mut [u8])
 {
     let mut places = column_starts(lengths, body);
     let mut at = 0;
-    let mut i = 0;
-    while i < lengths.len() {
-        let n = lengths[i];
+    for &n in lengths {
         at = take_string(block, &places, n, octets, at);
         raise(&mut places, n);
-        i += 1;
     }
     at
 }
 
 // The strings of a block: their octets end to end, and their lengths.
-pub fn from_columns(block: &[u8], octets: &mut [u8], lengths: &mut [usize]) -> Strings
-    ensures { (strings_says result, octets.new, lengths.new) ≡ lend_both (reading block.now) octets.old lengths.old }
+pub fn from_columns(
+    block: &[u8],
+    octets: &mut [u8],
+    lengths: &mut [usize],
+) -> Result<Strings, Refusal>
+    ensures { (result, octets.new, lengths.new) ≡ lend_both (reading block.now) octets.old lengths.old }
 {
-    let Number::Read(count, at) = number_at(block, 0) else {
-        return refused(Refusal::BlockNotWhole);
+    let Some((count, at)) = number_at(block, 0) else {
+        return Err(Refusal::BlockNotWhole);
     };
     if 1000 < count {
-        return refused(Refusal::BlockNotWhole);
+        return Err(Refusal::BlockNotWhole);
     }
-    let Lengths::Read(total, body) = measure(block, at, count) else {
-        return refused(Refusal::BlockNotWhole);
+    let Some((total, body)) = measure(block, at, count) else {
+        return Err(Refusal::BlockNotWhole);
     };
     if block.len() - body != total {
-        return refused(Refusal::BlockNotWhole);
+        return Err(Refusal::BlockNotWhole);
     }
     if octets.len() < total {
-        return refused(Refusal::OutputTooShort);
+        return Err(Refusal::OutputTooShort);
     }
     if lengths.len() < count {
-        return refused(Refusal::OutputTooShort);
+        return Err(Refusal::OutputTooShort);
     }
     put_lengths(block, at, count, lengths);
     take_strings(block, body, &lengths[..count], octets);
-    Strings {
-        outcome: Outcome::Done,
+    Ok(Strings {
         strings: count,
         octets: total,
-    }
+    })
 }

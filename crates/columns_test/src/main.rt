@@ -3,31 +3,14 @@
 #![tactic(auto)]
 
 use std::io;
-use tpdu::{Outcome, Written};
-
-fn say<R: Print>(rt: &R, text: &[u8]) -> io::Result<()> {
-    rt.write_all(text)
-}
-
-fn say_number<R: Print>(rt: &R, n: usize, text: &[u8]) -> io::Result<()> {
-    rt.print(n)?;
-    say(rt, text)
-}
-
-fn say_refusal<R: Print>(rt: &R, number: u8) -> io::Result<()> {
-    say(rt, b"refused ")?;
-    say_number(rt, number as usize, b"\n")
-}
 
 // Writes a block, and says how many octets it has.
 fn write<R: Print>(rt: &R, octets: &[u8], lengths: &[usize], out: &mut [u8]) -> io::Result<()> {
-    say_number(rt, lengths.len(), b" strings, ")?;
-    say_number(rt, octets.len(), b" octets lent, ")?;
-    say_number(rt, out.len(), b" for the block: ")?;
-    let written = tpdu::to_columns(octets, lengths, out);
-    match written {
-        Written::Done(n) => say_number(rt, n, b" octets\n"),
-        Written::Refused(why) => say_refusal(rt, why.number()),
+    print!(rt; "{} strings, {} octets lent, ", lengths.len(), octets.len())?;
+    print!(rt; "{} for the block: ", out.len())?;
+    match tpdu::to_columns(octets, lengths, out) {
+        Ok(n) => println!(rt; "{n} octets"),
+        Err(why) => println!(rt; "refused {}", why.number()),
     }
 }
 
@@ -38,33 +21,26 @@ fn read<R: Print>(
     octets: &mut [u8],
     lengths: &mut [usize],
 ) -> io::Result<()> {
-    say_number(rt, block.len(), b" octets of a block, ")?;
-    say_number(rt, octets.len(), b" octets lent and ")?;
-    say_number(rt, lengths.len(), b" lengths: ")?;
-    let read = tpdu::from_columns(block, octets, lengths);
-    let outcome = read.outcome;
-    if let Outcome::Refused(why) = outcome {
-        return say_refusal(rt, why.number());
+    print!(rt;
+        "{} octets of a block, {} octets lent ",
+        block.len(),
+        octets.len()
+    )?;
+    print!(rt; "and {} lengths: ", lengths.len())?;
+    match tpdu::from_columns(block, octets, lengths) {
+        Ok(read) => println!(rt; "{} strings, {} octets", read.strings, read.octets),
+        Err(why) => println!(rt; "refused {}", why.number()),
     }
-    say_number(rt, read.strings, b" strings, ")?;
-    say_number(rt, read.octets, b" octets\n")
 }
 
 // Says four octets.
-fn say_octets<R: Print>(rt: &R, text: &[u8], a: u8, b: u8, c: u8, d: u8) -> io::Result<()> {
-    say(rt, text)?;
-    say_number(rt, a as usize, b" ")?;
-    say_number(rt, b as usize, b" ")?;
-    say_number(rt, c as usize, b" ")?;
-    say_number(rt, d as usize, b"\n")
+fn say_octets<R: Print>(rt: &R, what: &str, a: u8, b: u8, c: u8, d: u8) -> io::Result<()> {
+    println!(rt; "{what} {a} {b} {c} {d}")
 }
 
 // The first n octets.
 fn first(octets: &[u8], n: usize) -> &[u8] {
-    if n <= octets.len() {
-        return &octets[0..n];
-    }
-    octets
+    &octets[..n.min(octets.len())]
 }
 
 // One octet too few is lent, then one too few for the block; then a string has 256 octets.
@@ -105,10 +81,10 @@ fn main(rt: HostRuntime) -> io::Result<()> {
     let lengths = [255usize; 1000];
     let mut block = [0u8; 257002];
     write(&rt, &octets, &lengths, &mut block)?;
-    say_octets(&rt, b"numbers ", block[0], block[1], block[2], block[3])?;
+    say_octets(&rt, "numbers", block[0], block[1], block[2], block[3])?;
     say_octets(
         &rt,
-        b"octets ",
+        "octets",
         block[2002],
         block[2003],
         block[3002],
@@ -117,8 +93,8 @@ fn main(rt: HostRuntime) -> io::Result<()> {
     let mut back = [0u8; 255000];
     let mut list = [0usize; 1000];
     read(&rt, &block, &mut back, &mut list)?;
-    say_octets(&rt, b"octets ", back[0], back[1], back[255], back[254999])?;
-    say_number(&rt, list[999], b" octets in the last string\n")?;
+    say_octets(&rt, "octets", back[0], back[1], back[255], back[254999])?;
+    println!(rt; "{} octets in the last string", list[999])?;
     not_written(&rt, &octets, &lengths, &mut block)?;
     not_read(&rt, &block, &mut back, &mut list)
 }

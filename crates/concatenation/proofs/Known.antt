@@ -7,7 +7,6 @@ use mathlib.Core.Option.{some}
 use native.Mathlib.Omega.{arith}
 use native.Mathlib.Nat.{add-zero}
 use lib.ListN.{length, replicate, length-append, length-replicate, replicate-append-replicate}
-use Rattle.octets.specs.Answers.{fine}
 use Rattle.octets.specs.Lent.{refused, made}
 use Rattle.octets.specs.declared.Refusal.TheVariants.{TooManyParts}
 use Rattle.septets.specs.Septets.{number_of, lowest_digits, packed_septets}
@@ -32,11 +31,11 @@ abbrev escaped : List ℕ
 escaped = 0x1b ∷ 0x65 ∷ []
 
 -- 160 septets are one message, 161 two; the euro sign is not parted, and 154 septets with it are one message
-around_160 : (concatenating 7 (letters 160) ≡ made (message [] (letters 160)) (fine, 141, 1))
-    × (concatenating 7 (letters 161) ≡ made (message (part_header 7 2 1) (letters 153) ++ message (part_header 7 2 2) (letters 8)) (fine, 156, 2))
-    × (concatenating 7 (letters 152 ++ euro ++ letters 7) ≡ made (message (part_header 7 2 1) (letters 152) ++ message (part_header 7 2 2) (escaped ++ letters 7)) (fine, 156, 2))
-    × (concatenating 7 (letters 152 ++ euro) ≡ made (message [] (letters 152 ++ escaped)) (fine, 136, 1))
-    × (concatenating 7 [] ≡ made (0 ∷ []) (fine, 1, 1))
+around_160 : (concatenating 7 (letters 160) ≡ made (message [] (letters 160)) (record { octets = 141; messages = 1 }))
+    × (concatenating 7 (letters 161) ≡ made (message (part_header 7 2 1) (letters 153) ++ message (part_header 7 2 2) (letters 8)) (record { octets = 156; messages = 2 }))
+    × (concatenating 7 (letters 152 ++ euro ++ letters 7) ≡ made (message (part_header 7 2 1) (letters 152) ++ message (part_header 7 2 2) (escaped ++ letters 7)) (record { octets = 156; messages = 2 }))
+    × (concatenating 7 (letters 152 ++ euro) ≡ made (message [] (letters 152 ++ escaped)) (record { octets = 136; messages = 1 }))
+    × (concatenating 7 [] ≡ made (0 ∷ []) (record { octets = 1; messages = 1 }))
 unfolding number_of lowest_digits packed_septets row_with index_of utf8 extended_code code_of same two_octets three_octets first_character before starting_with scan most cut_into numbered messages_of concatenating
 around_160 = (refl, refl, refl, refl, refl)
 
@@ -77,7 +76,7 @@ full_octets reference total number (suc n) =
 
 -- with n full parts, and one letter more
 module _ (reference n : ℕ) (long : 1 < n) where
-  pub full_parts : n ≤ 255 → (xs : List ℕ) × (concatenating reference (letters (n * 153)) ≡ made xs (fine, 141 * n, n))
+  pub full_parts : n ≤ 255 → (xs : List ℕ) × (concatenating reference (letters (n * 153)) ≡ made xs (record { octets = 141 * n; messages = n }))
   unfolding cut_into
   full_parts h =
       let ps : parts_of (letters (n * 153)) ≡ replicate n (letters 153) = rw (add-zero, append-nil) at (letters_parts n 0) in
@@ -91,7 +90,7 @@ module _ (reference n : ℕ) (long : 1 < n) where
       too_many reference (letters (n * 153 + 1)) (letters (n * 153 + 1)) (letters_coded (n * 153 + 1)) (rw length-replicate (omega arith))
       (rw (letters_parts n 1, length-append, length-replicate) (omega arith))
 
-longest : (xs : List ℕ) × (concatenating 7 (letters 39015) ≡ made xs (fine, 35955, 255))
+longest : (xs : List ℕ) × (concatenating 7 (letters 39015) ≡ made xs (record { octets = 35955; messages = 255 }))
 longest = full_parts 7 255 (omega arith) (omega arith)
 
 too_long : concatenating 7 (letters 39016) ≡ refused TooManyParts

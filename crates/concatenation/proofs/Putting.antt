@@ -39,9 +39,6 @@ with_some p rest none e = let z : ◌≡◌ {A = ℕ} 0 1 = cc in absurd (omega 
 with_some p rest (some rest') e = (rest', refl, cc)
 
 module _ {reference total : ℕ} {whole : List ℕ} {end : ℕ} {text : List ℕ} {from number : ℕ} {out : List ℕ} {at : ℕ} (s : Putting reference total whole end text from number out at) where
-  pub putting_coded : septets_of (drop from text) ≡ none → ⊥
-  putting_coded e = let q = s.septets in let z : ◌≡◌ {A = ℕ} 0 1 = cc in omega arith
-
   pub putting_end : length text ≤ from → (at ≡ end) × (out ≡ whole)
   unfolding numbered
   putting_end l =
@@ -58,9 +55,6 @@ module _ {reference total : ℕ} {whole : List ℕ} {end : ℕ} {text : List ℕ
     message_first : numbered reference total (number + 1) (parts_of s.rest) ≡ message (part_header reference total (number + 1)) p ++ numbered reference total (number + 1 + 1) (parts_of following.0)
     unfolding numbered
     message_first = rw in_turn
-
-    pub putting_more : number < total
-    putting_more = omega (arith, s.parts, ap length in_turn)
 
     pub putting_room : at + length (message (part_header reference total (number + 1)) p) ≤ end
     putting_room = omega (arith, s.left.place, simp length-append at (ap length message_first))

@@ -11,10 +11,12 @@ use native.Mathlib.Nat.{add-zero}
 use lib.Dec.{leb}
 use lib.ListN.{length, get_or, take, drop}
 use lib.Seq.{take_at, take_all, drop-append-add}
-use Rattle.octets.specs.Answers.{fine}
-use Rattle.std.specs.Prelude.{if◌then◌else◌}
+use Rattle.std.specs.Prelude.{if◌then◌else◌, Ok, Err}
+use Rattle.octets.specs.Answers.{Said}
 use Rattle.octets.specs.Lent.{Making, refused, made, lend}
 use Rattle.octets.specs.declared.Refusal.TheVariants.{OutputTooShort}
+use Rattle.octets.proofs.Checks.{never}
+use Rattle.octets.proofs.Places.{given}
 use Rattle.gsm7.specs.Reading.{text_of, text_given}
 use Rattle.gsm7.specs.Writing.{septets_of}
 use Rattle.gsm7.specs.Packing.{octets_after}
@@ -23,7 +25,8 @@ use Rattle.gsm7.proofs.PackingLaws.{packed_reads as plain-reads}
 use Rattle.user_data_header.specs.Header.{header_given, packing_with_header}
 use Rattle.user_data_header.proofs.Inverse.{packed_reads}
 use Rattle.concatenation.specs.Cutting.{Parts, parts_of}
-use Rattle.concatenation.specs.Messages.{message, part_header, numbered, SaidMessages, not_sent, sent_as, concatenating}
+use Rattle.concatenation.specs.Messages.{message, part_header, numbered, sent_as, concatenating}
+use Rattle.concatenation.specs.declared.Concatenated.{Concatenated}
 use Rattle.concatenation.specs.Received.{message_at, read, read_with_header, Received}
 use Rattle.concatenation.proofs.Taken.{text_taken}
 use Rattle.concatenation.proofs.Texts.{Texts, cut_texts}
@@ -33,17 +36,17 @@ use Rattle.concatenation.proofs.Laws.{Case, uncoded, one, many, parts, case}
 -- ---- one message at a time
 
 -- with no header it reads as the text
-one_reads : (text ss : List ℕ) → septets_of text ≡ some ss → length ss ≤ 160 → read (message [] ss) ≡ text_given text 0
-one_reads text ss e h = plain-reads text (octets_after [] ss) fine _ (0 + length ss) (packing_done [] text ss e (omega arith))
+one_reads : (text ss : List ℕ) → septets_of text ≡ some ss → length ss ≤ 160 → read (message [] ss) ≡ Ok (text_given text 0)
+one_reads text ss e h = plain-reads text (octets_after [] ss) _ (packing_done [] text ss e (omega arith))
 
 -- a part reads as its header and its text
 part_reads : (reference total number : ℕ) (p : List ℕ) → septets_of (text_of p) ≡ some p → length p ≤ 153
-    → read_with_header (message (part_header reference total number) p) ≡ header_given (part_header reference total number) (text_of p) 0
+    → read_with_header (message (part_header reference total number) p) ≡ Ok (header_given (part_header reference total number) (text_of p) 0)
 unfolding packing_with_header
 part_reads reference total number p e h =
     let header = part_header reference total number in
     let xs = octets_after header p in
-    packed_reads header (text_of p) xs fine _ (7 + length p) (packing_done header (text_of p) p e (omega arith))
+    packed_reads header (text_of p) xs _ (packing_done header (text_of p) p e (omega arith))
 
 -- ---- part k starts at octet 141 (k - 1)
 
@@ -125,33 +128,33 @@ module _ (reference : ℕ) (text ss : List ℕ) (e : septets_of text ≡ some ss
 
 -- ---- over the octets that were written to a lent buffer
 
--- where the number is 0, octets were made, and stand at the buffer's start
-lent_octets : (m : Making SaidMessages) (buffer : List ℕ) {a : SaidMessages} {after : List ℕ} → ◌≡◌ {A = SaidMessages × List ℕ} (a, after) (lend not_sent m buffer) → a.0 ≡ fine
+-- where counts are answered, octets were made, and stand at the buffer's start
+lent_octets : {A : Type 0} (m : Making A) (buffer : List ℕ) {a : A} {after : List ℕ} → ◌≡◌ {A = Said A × List ℕ} (Ok a, after) (lend m buffer)
     → (xs : List ℕ) × (m ≡ made xs a) × (after ≡ xs ++ drop (length xs) buffer)
-unfolding lend not_sent
-lent_octets (refused why) buffer p d = let q = sym d ∙ ap (λ (x : SaidMessages × List ℕ). x.0.0) p in let z : ◌≡◌ {A = ℕ} 0 1 = cc in absurd (omega arith)
-lent_octets (made xs b) buffer {a} {after} p d = by_room (leb (length xs) (length buffer)) p
+unfolding lend
+lent_octets {A} (refused why) buffer p = absurd (never (ap (λ (x : Said A × List ℕ). x.0) p))
+lent_octets {A} (made xs b) buffer {a} {after} p = by_room (leb (length xs) (length buffer)) p
   where
-    by_room : (t : Bool) → ◌≡◌ {A = SaidMessages × List ℕ} (a, after) (if t then (b, xs ++ drop (length xs) buffer) else (not_sent OutputTooShort, buffer))
+    by_room : (t : Bool) → ◌≡◌ {A = Said A × List ℕ} (Ok a, after) (if t then (Ok b, xs ++ drop (length xs) buffer) else (Err OutputTooShort, buffer))
         → (ys : List ℕ) × (made xs b ≡ made ys a) × (after ≡ ys ++ drop (length ys) buffer)
-    by_room true q = (xs, ap (λ (x : SaidMessages × List ℕ). made xs x.0) (sym q), ap (λ (x : SaidMessages × List ℕ). x.1) q)
-    by_room false q = let r = sym d ∙ ap (λ (x : SaidMessages × List ℕ). x.0.0) q in let z : ◌≡◌ {A = ℕ} 0 1 = cc in absurd (omega arith)
+    by_room true q = (xs, ap (λ (x : A). made xs x) (sym (given (ap (λ (x : Said A × List ℕ). x.0) q))), ap (λ (x : Said A × List ℕ). x.1) q)
+    by_room false q = absurd (never (ap (λ (x : Said A × List ℕ). x.0) q))
 
 -- the octets that `pack_gsm7_concatenated` wrote are as many as it answers, and reading them gives the text
-module _ (reference : ℕ) (text buffer : List ℕ) {octets messages : ℕ} {after : List ℕ} (p : ◌≡◌ {A = SaidMessages × List ℕ} ((fine, octets, messages), after) (lend not_sent (concatenating reference text) buffer)) where
+module _ (reference : ℕ) (text buffer : List ℕ) {told : Concatenated} {after : List ℕ} (p : ◌≡◌ {A = Said Concatenated × List ℕ} (Ok told, after) (lend (concatenating reference text) buffer)) where
   abbrev Back : Type 0
-  Back = (length (take octets after) ≡ octets) × Received reference text (take octets after) messages
+  Back = (length (take told.octets after) ≡ told.octets) × Received reference text (take told.octets after) told.messages
 
-  written : (xs : List ℕ) × (concatenating reference text ≡ made xs (fine, octets, messages)) × (after ≡ xs ++ drop (length xs) buffer)
-  written = lent_octets (concatenating reference text) buffer p refl
+  written : (xs : List ℕ) × (concatenating reference text ≡ made xs told) × (after ≡ xs ++ drop (length xs) buffer)
+  written = lent_octets (concatenating reference text) buffer p
 
-  told : (xs : List ℕ) (n : ℕ) → concatenating reference text ≡ made xs (sent_as xs n) → Received reference text xs n → Back
-  told xs n m r =
-      let is : ◌≡◌ {A = SaidMessages} (fine, octets, messages) (sent_as xs n) = let w = written.1 in cc in
-      let long : octets ≡ length xs = ap (λ (a : SaidMessages). a.1) is in
-      let number : messages ≡ n = ap (λ (a : SaidMessages). a.2) is in
+  as_told : (xs : List ℕ) (n : ℕ) → concatenating reference text ≡ made xs (sent_as xs n) → Received reference text xs n → Back
+  as_told xs n m r =
+      let is : told ≡ sent_as xs n = let w = written.1 in cc in
+      let long : told.octets ≡ length xs = ap (λ (c : Concatenated). c.octets) is in
+      let number : told.messages ≡ n = ap (λ (c : Concatenated). c.messages) is in
       let same : written.0 ≡ xs = let w = written.1 in cc in
-      let front : take octets after ≡ xs = rw (long, written.2, same) (take_at xs (drop (length xs) buffer) (length xs) refl) in
+      let front : take told.octets after ≡ xs = rw (long, written.2, same) (take_at xs (drop (length xs) buffer) (length xs) refl) in
       (rw (front, long), rw (front, number) r)
 
   pub received : Back
@@ -159,6 +162,6 @@ module _ (reference : ℕ) (text buffer : List ℕ) {octets messages : ℕ} {aft
     where
       by : Case reference text → Back
       by (uncoded e m) = let w = written.1 in let z : ◌≡◌ {A = ℕ} 0 1 = cc in absurd (omega arith)
-      by (one ss e h m) = told (message [] ss) 1 m (one_received reference text ss e h)
+      by (one ss e h m) = as_told (message [] ss) 1 m (one_received reference text ss e h)
       by (many ss e h m) = let w = written.1 in let z : ◌≡◌ {A = ℕ} 0 1 = cc in absurd (omega arith)
-      by (parts ss e l h m) = told (numbered reference (length (parts_of ss)) 1 (parts_of ss)) (length (parts_of ss)) m (parts_received reference text ss e l h)
+      by (parts ss e l h m) = as_told (numbered reference (length (parts_of ss)) 1 (parts_of ss)) (length (parts_of ss)) m (parts_received reference text ss e l h)

@@ -1,5 +1,6 @@
 -- A part stored character by character: it is whole where the next character passes 153 septets, or where the text ends.
 -- Assumes nothing.
+use Rattle.std.specs.Prelude.{Ok}
 use Prim.Native.Nat.{ℕ, ◌+◌, ◌-◌, ◌*◌, ◌<◌, ◌≤◌}
 use mathlib.Core.Path.{◌≡◌, refl, sym, ◌∙◌, ap, subst}
 use mathlib.Core.Bool.{Bool, true, false}
@@ -10,7 +11,6 @@ use borrow.Author.Tests.{eq-eqb, leb-true, leb-false}
 use lib.Dec.{leb}
 use lib.ListN.{length, get_or, take, drop, length-append}
 use lib.Seq.{sets-eq, take_at, length-take-le, get_or_at, get_or-append-add}
-use Rattle.octets.specs.Answers.{gives}
 use Rattle.octets.specs.Lent.{Wrote}
 use Rattle.octets.proofs.Laws.{kept_by}
 use Rattle.gsm7.specs.Alphabet.{extension, row}
@@ -63,12 +63,12 @@ most_before p rest e part over = by_length (leb (length p) 152) refl e over
     by_length false q e over =
         omega (arith, leb-false (length p) 152 q, longest p (septets_for e ++ rest) part, most_near (p ++ (septets_for e ++ rest)))
 
-before_some : (ks : List ℕ) (o : Option (List ℕ)) (rest : List ℕ) → before (gives ks) o ≡ some rest → (rest' : List ℕ) × (rest ≡ ks ++ rest')
+before_some : (ks : List ℕ) (o : Option (List ℕ)) (rest : List ℕ) → before (Ok ks) o ≡ some rest → (rest' : List ℕ) × (rest ≡ ks ++ rest')
 unfolding before
 before_some ks none rest e = let z : ◌≡◌ {A = ℕ} 0 1 = cc in absurd (omega arith)
 before_some ks (some ss) rest e = (ss, cc)
 
-with_before : (p ks : List ℕ) (o : Option (List ℕ)) → with_rest p (before (gives ks) o) ≡ with_rest (p ++ ks) o
+with_before : (p ks : List ℕ) (o : Option (List ℕ)) → with_rest p (before (Ok ks) o) ≡ with_rest (p ++ ks) o
 unfolding before
 with_before p ks none = refl
 with_before p ks (some ss) = ap some (sym (append_assoc p ks ss))
@@ -92,8 +92,8 @@ module _ (text : List ℕ) (from : ℕ) (p : List ℕ) (i : ℕ) (s : Storing te
       last : (rest : List ℕ) → rest ≡ [] → parts_of (p ++ rest) ≡ p ∷ parts_of rest
       last rest e = rw (e, append-nil) (parts_last p pos s.part ∙ ap (λ (l : List (List ℕ)). p ∷ l) (sym no_parts))
 
-  module _ (h : i < length text) {c w : ℕ} (e : first_character (drop i text) ≡ gives (c, w)) {ks : List ℕ} (is : code_of c ≡ gives ks) where
-    rest_is : scan (drop i text) 0 ≡ before (gives ks) (scan (drop (i + w) text) 0)
+  module _ (h : i < length text) {c w : ℕ} (e : first_character (drop i text) ≡ Ok (c, w)) {ks : List ℕ} (is : code_of c ≡ Ok ks) where
+    rest_is : scan (drop i text) 0 ≡ before (Ok ks) (scan (drop (i + w) text) 0)
     rest_is = scan_read text i h c w e ∙ rw is
 
     entry_of : (e : Entry) × (character_of e ≡ c) × (septets_for e ≡ ks)
@@ -133,11 +133,11 @@ module _ {text : List ℕ} {from : ℕ} {codes : List ℕ} {count i : ℕ} (s : 
   stored_size : length (take count codes) ≡ count
   stored_size = length-take-le count codes (omega (arith, s.array, s.room))
 
-  pub stores_end : from < length text → length text ≤ i → StoredAs text from codes (gives (count, i))
+  pub stores_end : from < length text → length text ≤ i → StoredAs text from codes (Ok (count, i))
   stores_end h l = (part_ended text from (take count codes) i s.is h l, stored_size, s.array)
 
-  module _ (h : i < length text) {c w : ℕ} (e : first_character (drop i text) ≡ gives (c, w)) {ks : List ℕ} (is : code_of c ≡ gives ks) where
-    pub stores_full : 153 < count + length ks → StoredAs text from codes (gives (count, i))
+  module _ (h : i < length text) {c w : ℕ} (e : first_character (drop i text) ≡ Ok (c, w)) {ks : List ℕ} (is : code_of c ≡ Ok ks) where
+    pub stores_full : 153 < count + length ks → StoredAs text from codes (Ok (count, i))
     stores_full over = (part_full text from (take count codes) i s.is h e is (rw stored_size over), stored_size, s.array)
 
     module _ {next : ℕ} {after : List ℕ} (wrote : Wrote count ks codes next after) where
@@ -155,7 +155,7 @@ module _ {text : List ℕ} {from : ℕ} {codes : List ℕ} {count i : ℕ} (s : 
           }
 
       -- septets that were stored after the part are not of it
-      pub stores_over : 153 < next → next ≤ 255 → StoredAs text from after (gives (count, i))
+      pub stores_over : 153 < next → next ≤ 255 → StoredAs text from after (Ok (count, i))
       stores_over over room =
           let front : take count after ≡ take count codes = ap (take count) (laid room ∙ append_assoc (take count codes) ks (drop next codes)) ∙ take_at (take count codes) (ks ++ drop next codes) count stored_size in
           let full = stores_full (omega (arith, wrote.place)) in

@@ -1,10 +1,9 @@
 -- What only functions of this crate say to each other: the septets of a text that has some, the next part of a text, and what is counted of its parts.
-use Rattle.std.specs.Prelude.{ℕ, ◌+◌, ◌*◌, ◌<◌, ◌≤◌, ◌≡◌, List, [], ◌∷◌, ◌++◌, length, take, drop}
+use Rattle.std.specs.Prelude.{ℕ, ◌+◌, ◌*◌, ◌<◌, ◌≤◌, ◌≡◌, List, [], ◌∷◌, ◌++◌, length, take, drop, Ok, Err}
 use Rattle.std.proofs.Math.Option.{Option, none, some}
-use Rattle.octets.specs.Answers.{Said, gives, refuses}
+use Rattle.octets.specs.Answers.{Said}
 use Rattle.octets.specs.declared.Refusal.TheVariants.{NotInAlphabet}
 use Rattle.gsm7.specs.Writing.{septets_of}
-use Rattle.concatenation.specs.declared.Stored.{Stored}
 use Rattle.concatenation.specs.declared.Counted.{Counted}
 use Rattle.concatenation.specs.Cutting.{parts_of}
 
@@ -21,30 +20,20 @@ pub record PartAt (text : List ℕ) (from : ℕ) (p : List ℕ) (next : ℕ) : T
   pub on : from < next
   pub few : (length p + 2 * from ≤ 2 * next) × (length p + 2 * from ≤ 2 * length text)
 
--- a part that is stored: how many septets it has, and where the next one starts; a character that is in neither table, or no UTF-8: 10
-abbrev pub stored_says : Stored → Said (ℕ × ℕ)
-stored_says (Stored.Part count next) = gives (count, next)
-stored_says Stored.NotCoded = refuses NotInAlphabet
-
 -- a part's septets stand at the array's start
 abbrev pub StoredAs : List ℕ → ℕ → List ℕ → Said (ℕ × ℕ) → Type 0
-StoredAs text from codes (gives (count, next)) = PartAt text from (take count codes) next × (length (take count codes) ≡ count) × (length codes ≡ 255)
-StoredAs text from codes (refuses why) = septets_of (drop from text) ≡ none
+StoredAs text from codes (Ok (count, next)) = PartAt text from (take count codes) next × (length (take count codes) ≡ count) × (length codes ≡ 255)
+StoredAs text from codes (Err why) = (septets_of (drop from text) ≡ none) × (why ≡ NotInAlphabet)
 
 -- the septets of the last part; h, where there is none
 unfoldable pub last_length : ℕ → List (List ℕ) → ℕ
 last_length h [] = h
 last_length h (p ∷ ps) = last_length (length p) ps
 
--- the numbers of septets, of parts, and of the last part's septets; a character that is in neither table, or no UTF-8: 10
-abbrev pub counted_says : Counted → Said (ℕ × ℕ × ℕ)
-counted_says (Counted.All septets parts last) = gives (septets, parts, last)
-counted_says Counted.NotCoded = refuses NotInAlphabet
-
--- what is counted of a text's septets
-abbrev pub counted_as : Option (List ℕ) → Said (ℕ × ℕ × ℕ)
-counted_as none = refuses NotInAlphabet
-counted_as (some ss) = gives (length ss, length (parts_of ss), last_length 0 (parts_of ss))
+-- what is counted of a text's septets: how many they are, how many parts, and how many are the last part's; a character that is in neither table, or no UTF-8: 10
+abbrev pub counted_as : Option (List ℕ) → Said Counted
+counted_as none = Err NotInAlphabet
+counted_as (some ss) = Ok (record { septets = length ss; parts = length (parts_of ss); last = last_length 0 (parts_of ss) })
 
 -- the septets of a text, and that it has some: it is UTF-8 of characters of the alphabet
 abbrev pub those : Option (List ℕ) → List ℕ

@@ -1,5 +1,6 @@
 -- SUBMITs that lie one after the other are read in turn: the reader looks at no octet after those that it takes, so each is read as if it stood alone.
 -- Assumes nothing.
+use Rattle.std.specs.Prelude.{Ok}
 use Prim.Native.Nat.{ℕ}
 use mathlib.Core.Path.{◌≡◌, refl, sym, ap, ◌∙◌}
 use mathlib.Core.List.{List, ◌++◌, append_assoc}
@@ -7,16 +8,14 @@ use mathlib.Core.Logic.{⊎_elim}
 use native.Mathlib.Omega.{arith}
 use lib.ListN.{length, drop, length-append}
 use lib.Seq.{take_at, drop_at}
-use Rattle.octets.specs.Answers.{fine}
 use Rattle.octets.specs.declared.Refusal.TheVariants.{OctetsEnd}
 use Rattle.layout.specs.Cut.{Endless}
-use Rattle.gsm7.specs.Reading.{replaced_in_all}
 use Rattle.layout.specs.Layout.{address, cut, reached, halted, reading, read_from, read}
 use Rattle.layout.proofs.Beginnings.{fronts}
 use Rattle.layout.proofs.Fields.{own}
 use Rattle.layout.proofs.Laws.{sound}
 use Rattle.submit.specs.Layout.{fields}
-use Rattle.submit.specs.Submit.{format, submit, texts_read}
+use Rattle.submit.specs.Submit.{format, submit, read_with}
 use Rattle.submit.specs.declared.SmsSubmit.{SmsSubmit}
 use Rattle.cursor.specs.From.{submit_from}
 
@@ -40,7 +39,7 @@ address_alone s t e =
     ∙ sym (ap (λ (x : List ℕ). cut address (drop 2 x)) split ∙ ap (cut address) (drop_at (first.front ++ mr.front) (da.front ++ da.rest) 2 two) ∙ own_field da.rest)
 
 -- s is a whole SUBMIT that lies after anything and before anything: from its place on it is read as alone, with the number of its octets, which leads to the place after it, and of the escapes replaced in it
-pub in_turn : (p s t : List ℕ) {r : SmsSubmit} → read submit s ≡ reached r (length s) → submit_from (p ++ (s ++ t)) (length p) ≡ ((fine, r), length s, replaced_in_all (texts_read s r))
+pub in_turn : (p s t : List ℕ) {r : SmsSubmit} → read submit s ≡ reached r (length s) → submit_from (p ++ (s ++ t)) (length p) ≡ Ok (read_with s r (length s))
 unfolding read read_from
 in_turn p s t {r} e =
     let whole : reading format s 0 ≡ halted OctetsEnd → reading format (s ++ t) 0 ≡ reached r (length s) = λ w. let z : ◌≡◌ {A = ℕ} 0 1 = cc in absurd (omega arith) in

@@ -4,16 +4,11 @@
 pub mod from_place;
 
 ghost use Rattle.std.specs.Prelude.{◌≡◌};
-ghost use Rattle.submit.specs.Submit.{submit_read_says};
-ghost use Rattle.deliver.specs.Deliver.{deliver_read_says};
-ghost use Rattle.submit_report.specs.SubmitReport.{submit_report_read_says};
-ghost use Rattle.deliver_report.specs.DeliverReport.{deliver_report_read_says};
-ghost use Rattle.status_report.specs.StatusReport.{status_report_read_says};
-ghost use Rattle.cursor.specs.From.{behind_place, octet_read_says, octet_from, submit_from, deliver_from, submit_report_ack_from, submit_report_error_from, deliver_report_ack_from, deliver_report_error_from, status_report_from};
+ghost use Rattle.cursor.specs.From.{behind_place, octet_from, submit_from, deliver_from, submit_report_ack_from, submit_report_error_from, deliver_report_ack_from, deliver_report_error_from, status_report_from};
 
-use crate::from_place::OctetRead;
 use deliver::DeliverRead;
 use deliver_report::DeliverReportRead;
+use octets::Refusal;
 use status_report::StatusReportRead;
 use submit::SubmitRead;
 use submit_report::SubmitReportRead;
@@ -50,59 +45,59 @@ impl<'a> Cursor<'a> {
     }
 
     // The octet at the place, with the next place.
-    pub fn read_octet(self) -> OctetRead
-        ensures { octet_read_says result ≡ octet_from self.entry.octets.now self.entry.place }
+    pub fn read_octet(self) -> Result<(u8, usize), Refusal>
+        ensures { result ≡ octet_from self.entry.octets.now self.entry.place }
     {
         from_place::octet_at(self.octets, self.place)
     }
 
     // The message that starts at the place, by kind.
-    pub fn decode_sms_submit_tpdu(self) -> SubmitRead
-        ensures { submit_read_says result ≡ submit_from self.entry.octets.now self.entry.place }
+    pub fn decode_sms_submit_tpdu(self) -> Result<SubmitRead, Refusal>
+        ensures { result ≡ submit_from self.entry.octets.now self.entry.place }
     {
         from_place::submit_at(self.octets, self.place)
     }
 
-    pub fn decode_deliver(self) -> DeliverRead
-        ensures { deliver_read_says result ≡ deliver_from self.entry.octets.now self.entry.place }
+    pub fn decode_deliver(self) -> Result<DeliverRead, Refusal>
+        ensures { result ≡ deliver_from self.entry.octets.now self.entry.place }
     {
         from_place::deliver_at(self.octets, self.place)
     }
 
-    pub fn decode_submit_report_ack(self) -> SubmitReportRead
-        ensures { submit_report_read_says result ≡ submit_report_ack_from self.entry.octets.now self.entry.place }
+    pub fn decode_submit_report_ack(self) -> Result<SubmitReportRead, Refusal>
+        ensures { result ≡ submit_report_ack_from self.entry.octets.now self.entry.place }
     {
         from_place::submit_report_ack_at(self.octets, self.place)
     }
 
-    pub fn decode_submit_report_error(self) -> SubmitReportRead
-        ensures { submit_report_read_says result ≡ submit_report_error_from self.entry.octets.now self.entry.place }
+    pub fn decode_submit_report_error(self) -> Result<SubmitReportRead, Refusal>
+        ensures { result ≡ submit_report_error_from self.entry.octets.now self.entry.place }
     {
         from_place::submit_report_error_at(self.octets, self.place)
     }
 
-    pub fn decode_deliver_report_ack(self) -> DeliverReportRead
-        ensures { deliver_report_read_says result ≡ deliver_report_ack_from self.entry.octets.now self.entry.place }
+    pub fn decode_deliver_report_ack(self) -> Result<DeliverReportRead, Refusal>
+        ensures { result ≡ deliver_report_ack_from self.entry.octets.now self.entry.place }
     {
         from_place::deliver_report_ack_at(self.octets, self.place)
     }
 
-    pub fn decode_deliver_report_error(self) -> DeliverReportRead
-        ensures { deliver_report_read_says result ≡ deliver_report_error_from self.entry.octets.now self.entry.place }
+    pub fn decode_deliver_report_error(self) -> Result<DeliverReportRead, Refusal>
+        ensures { result ≡ deliver_report_error_from self.entry.octets.now self.entry.place }
     {
         from_place::deliver_report_error_at(self.octets, self.place)
     }
 
-    pub fn decode_status_report(self) -> StatusReportRead
-        ensures { status_report_read_says result ≡ status_report_from self.entry.octets.now self.entry.place }
+    pub fn decode_status_report(self) -> Result<StatusReportRead, Refusal>
+        ensures { result ≡ status_report_from self.entry.octets.now self.entry.place }
     {
         from_place::status_report_at(self.octets, self.place)
     }
 }
 
 // The SUBMIT that stands behind so many octets.
-pub fn submit_behind(octets: &[u8], count: usize) -> SubmitRead
-    ensures { submit_read_says result ≡ submit_from octets.now count }
+pub fn submit_behind(octets: &[u8], count: usize) -> Result<SubmitRead, Refusal>
+    ensures { result ≡ submit_from octets.now count }
 {
     Cursor::new(octets).behind(count).decode_sms_submit_tpdu()
 }

@@ -1,5 +1,6 @@
 -- What the writer makes of values, check by check.
 -- Assumes nothing.
+use Rattle.std.specs.Prelude.{Ok, Err}
 use Prim.Native.Nat.{ℕ, ◌+◌, ◌/◌, ◌≤◌, ◌<◌}
 use mathlib.Core.Path.{◌≡◌, ◌∙◌}
 use mathlib.Core.Bool.{true, false}
@@ -7,7 +8,7 @@ use mathlib.Core.List.{List, [], ◌∷◌, ◌++◌}
 use native.Mathlib.Omega.{arith}
 use borrow.Author.Tests.{eq-eqb, ne_eqb}
 use lib.ListN.{length, length-append}
-use Rattle.octets.specs.Answers.{Said, gives, refuses, fine}
+use Rattle.octets.specs.Answers.{Said, fine}
 use Rattle.octets.specs.Checks.{Check, ◌unless◌, checked, after_checked}
 use Rattle.octets.specs.Lent.{Making, made, lend, Wrote}
 use Rattle.octets.specs.declared.Refusal.{Refusal}
@@ -26,15 +27,15 @@ module _ (first mti ton npi : ℕ) (text : List ℕ) (pid dcs : ℕ) (digits : L
   abbrev octets : List ℕ
   octets = octets_in first ton npi text pid dcs digits udl ud
 
-  abbrev all : Making (Said ℕ)
+  abbrev all : Making ℕ
   all = checked (checks_in mti ton npi text dcs digits udl ud) octets
 
   abbrev Lent : Said ℕ → List ℕ → Type 0
-  Lent answer after = ◌≡◌ {A = Said ℕ × List ℕ} (answer, after) (lend refuses all l)
+  Lent answer after = ◌≡◌ {A = Said ℕ × List ℕ} (answer, after) (lend all l)
 
-  pub another_type : (mti ≡ 0 → ⊥) → Lent (refuses WrongMessageType) l
+  pub another_type : (mti ≡ 0 → ⊥) → Lent (Err WrongMessageType) l
   unfolding checked checks_in
-  another_type h = lent_refused refuses l WrongMessageType (rw (ne_eqb mti 0 h))
+  another_type h = lent_refused l WrongMessageType (rw (ne_eqb mti 0 h))
 
   abbrev last : List Check
   last = (NotATime unless is_time digits) ∷ []
@@ -44,23 +45,23 @@ module _ (first mti ton npi : ℕ) (text : List ℕ) (pid dcs : ℕ) (digits : L
     unfolding checked checks_in
     by_data = rw (eq-eqb mti 0 m) (data_checked dcs udl (length ud) (address_checks ton npi text ++ last) octets)
 
-    pub data_against : {why : Refusal} → checked_data dcs udl (length ud) ≡ refuses why → Lent (refuses why) l
-    data_against e = lent_refused refuses l _ (by_data ∙ rw e)
+    pub data_against : {why : Refusal} → checked_data dcs udl (length ud) ≡ Err why → Lent (Err why) l
+    data_against e = lent_refused l _ (by_data ∙ rw e)
 
     module _ (d : checked_data dcs udl (length ud) ≡ fine) where
       by_address : all ≡ after_check (check_of (address_making ton npi text)) (checked last octets)
       by_address = by_data ∙ rw d (address_checked ton npi text last octets)
 
-      pub address_against : {why : Refusal} → check_of (address_making ton npi text) ≡ refuses why → Lent (refuses why) l
-      address_against e = lent_refused refuses l _ (by_address ∙ rw e)
+      pub address_against : {why : Refusal} → check_of (address_making ton npi text) ≡ Err why → Lent (Err why) l
+      address_against e = lent_refused l _ (by_address ∙ rw e)
 
-      module _ {n : ℕ} (counted : check_of (address_making ton npi text) ≡ gives n) where
-        pub no_time : is_time digits ≡ false → Lent (refuses NotATime) l
+      module _ {n : ℕ} (counted : check_of (address_making ton npi text) ≡ Ok n) where
+        pub no_time : is_time digits ≡ false → Lent (Err NotATime) l
         unfolding checked
-        no_time t = lent_refused refuses l _ (by_address ∙ rw (counted, t))
+        no_time t = lent_refused l _ (by_address ∙ rw (counted, t))
 
         module _ (t : is_time digits ≡ true) where
-          all_made : all ≡ made octets (gives (length octets))
+          all_made : all ≡ made octets (length octets)
           unfolding checked
           all_made = by_address ∙ rw (counted, t)
 
@@ -68,8 +69,8 @@ module _ (first mti ton npi : ℕ) (text : List ℕ) (pid dcs : ℕ) (digits : L
           unfolding octets_in
           all_size = simp length-append (omega (arith, fine_size ton npi text n counted, time_size digits t))
 
-          pub short : length l < 13 + (n + 1) / 2 + length ud → Lent (refuses OutputTooShort) l
-          short h = lent_short refuses l all_made (rw all_size h)
+          pub short : length l < 13 + (n + 1) / 2 + length ud → Lent (Err OutputTooShort) l
+          short h = lent_short l all_made (rw all_size h)
 
-          pub written : {k : ℕ} {after : List ℕ} → 13 + (n + 1) / 2 + length ud ≤ length l → Wrote 0 octets l k after → Lent (gives k) after
+          pub written : {k : ℕ} {after : List ℕ} → 13 + (n + 1) / 2 + length ud ≤ length l → Wrote 0 octets l k after → Lent (Ok k) after
           written h w = lent_written l all_made (rw all_size h) w

@@ -8,7 +8,6 @@ use native.Mathlib.Omega.{arith}
 use borrow.Author.Tests.{eqb-true}
 use lib.Dec.{eqb, ltb}
 use lib.ListN.{length}
-use Rattle.octets.specs.Answers.{Said, gives}
 use Rattle.octets.specs.Checks.{Check, ◌unless◌, checked}
 use Rattle.std.specs.Prelude.{if◌then◌else◌}
 use Rattle.octets.specs.Each.{Octets}
@@ -69,8 +68,8 @@ module _ (x : ℕ) (mti : eqb (message_type (kept bits x)) 0 ≡ true) (f : List
   its_octets = rw (canonical_reads f wf, ap (λ n. first_octet n (flags_in bits (kept bits x))) (sym (eqb-true _ 0 mti)) ∙ told_first bits refl x, octets_again f wf, time_held t, octets_back t ot, data_held d)
 
   -- what its checks come to
-  abbrev answered : List ℕ → Making (Said ℕ)
-  answered xs = if ltb 140 (length d) then refused UserDataTooLong else if ltb 12 (length (canonical_address f)) then refused AddressTooLong else made xs (gives (length xs))
+  abbrev answered : List ℕ → Making ℕ
+  answered xs = if ltb 140 (length d) then refused UserDataTooLong else if ltb 12 (length (canonical_address f)) then refused AddressTooLong else made xs (length xs)
 
   abbrev later : List Check
   later = address_checks r.tp_originating_address.ton r.tp_originating_address.npi (text_held r.tp_originating_address) ++ (NotATime unless is_time (digits_of r.tp_service_centre_timestamp)) ∷ []

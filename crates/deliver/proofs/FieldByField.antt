@@ -1,11 +1,11 @@
 -- What the layout comes to, field by field.
 -- Assumes nothing.
+use Rattle.std.specs.Prelude.{Ok, Err}
 use Prim.Native.Nat.{ℕ, ◌+◌, ◌≤◌}
 use mathlib.Core.Path.{◌≡◌, refl, sym, ◌∙◌}
 use mathlib.Core.List.{List}
 use native.Mathlib.Omega.{arith}
 use lib.ListN.{length, take, drop}
-use Rattle.octets.specs.Answers.{gives, refuses}
 use Rattle.octets.specs.Each.{Octets}
 use Rattle.octets.specs.Places.{octet_at, span_at}
 use Rattle.octets.specs.declared.Place.{Place}
@@ -26,21 +26,21 @@ module _ (s : List ℕ) (f : ℕ) (oa : List ℕ) (pid dcs : ℕ) (p : Place) wh
   abbrev after_dcs : Reached Fields
   after_dcs = read_from (after_coding f oa pid dcs) s p.at
 
-  pub no_time : span_at s p 7 ≡ refuses OctetsEnd → halted OctetsEnd ≡ after_dcs
+  pub no_time : span_at s p 7 ≡ Err OctetsEnd → halted OctetsEnd ≡ after_dcs
   unfolding after_coding
   no_time e = sym (span_ends s p 7 e any _)
 
-  module _ {scts : ℕ} {p₂ : Place} (e₁ : span_at s p 7 ≡ gives (scts, p₂)) where
-    pub no_udl : octet_at s p₂ ≡ refuses OctetsEnd → halted OctetsEnd ≡ after_dcs
+  module _ {scts : ℕ} {p₂ : Place} (e₁ : span_at s p 7 ≡ Ok (scts, p₂)) where
+    pub no_udl : octet_at s p₂ ≡ Err OctetsEnd → halted OctetsEnd ≡ after_dcs
     unfolding after_coding
     no_udl e = sym (span_goes_on s p 7 e₁ any _ ∙ octet_ends s p₂ e _)
 
-    module _ {udl : ℕ} {p₃ : Place} (e₂ : octet_at s p₂ ≡ gives (udl, p₃)) {n : ℕ} (size : n ≡ data_octets (coding_of dcs) udl) where
-      pub no_data : span_at s p₃ n ≡ refuses OctetsEnd → halted OctetsEnd ≡ after_dcs
+    module _ {udl : ℕ} {p₃ : Place} (e₂ : octet_at s p₂ ≡ Ok (udl, p₃)) {n : ℕ} (size : n ≡ data_octets (coding_of dcs) udl) where
+      pub no_data : span_at s p₃ n ≡ Err OctetsEnd → halted OctetsEnd ≡ after_dcs
       unfolding after_coding
       no_data e = sym (span_goes_on s p 7 e₁ any _ ∙ octet_goes_on s p₂ e₂ _ ∙ rw (← size) (span_ends s p₃ n e (up_to 140) _))
 
-      module _ {ud : ℕ} {p₄ : Place} (e₃ : span_at s p₃ n ≡ gives (ud, p₄)) where
+      module _ {ud : ℕ} {p₄ : Place} (e₃ : span_at s p₃ n ≡ Ok (ud, p₄)) where
         pub all_there : reached (record { first = f; oa = oa; pid = pid; dcs = dcs; scts = take 7 (drop scts s); udl = udl; ud = take n (drop ud s) }) (ud + n) ≡ after_dcs
         unfolding after_coding
         all_there =
@@ -59,16 +59,16 @@ module _ (s : List ℕ) (f : ℕ) (oa : List ℕ) (p : Place) where
   abbrev after_oa : Reached Fields
   after_oa = read_from (after_address f oa) s p.at
 
-  pub no_pid : octet_at s p ≡ refuses OctetsEnd → halted OctetsEnd ≡ after_oa
+  pub no_pid : octet_at s p ≡ Err OctetsEnd → halted OctetsEnd ≡ after_oa
   unfolding after_address
   no_pid e = sym (octet_ends s p e _)
 
-  module _ {pid : ℕ} {p₂ : Place} (e₁ : octet_at s p ≡ gives (pid, p₂)) where
-    pub no_dcs : octet_at s p₂ ≡ refuses OctetsEnd → halted OctetsEnd ≡ after_oa
+  module _ {pid : ℕ} {p₂ : Place} (e₁ : octet_at s p ≡ Ok (pid, p₂)) where
+    pub no_dcs : octet_at s p₂ ≡ Err OctetsEnd → halted OctetsEnd ≡ after_oa
     unfolding after_address
     no_dcs e = sym (octet_goes_on s p e₁ _ ∙ octet_ends s p₂ e _)
 
-    pub to_coding : {dcs : ℕ} {p₃ : Place} → octet_at s p₂ ≡ gives (dcs, p₃) → read_from (after_coding f oa pid dcs) s p₃.at ≡ after_oa
+    pub to_coding : {dcs : ℕ} {p₃ : Place} → octet_at s p₂ ≡ Ok (dcs, p₃) → read_from (after_coding f oa pid dcs) s p₃.at ≡ after_oa
     unfolding after_address
     to_coding e = sym (octet_goes_on s p e₁ _ ∙ octet_goes_on s p₂ e _)
 
@@ -78,21 +78,21 @@ module _ (s : List ℕ) where
   abbrev after_first : ℕ → Format Fields
   after_first f = field address λ oa. after_address f oa
 
-  pub no_first : octet_at s start ≡ refuses OctetsEnd → halted OctetsEnd ≡ read_from fields s 0
+  pub no_first : octet_at s start ≡ Err OctetsEnd → halted OctetsEnd ≡ read_from fields s 0
   unfolding fields after_address after_coding
   no_first e = sym (message_ends s start e 0 bits after_first)
 
-  module _ {b : ℕ} {p : Place} (e : octet_at s start ≡ gives (b, p)) where
+  module _ {b : ℕ} {p : Place} (e : octet_at s start ≡ Ok (b, p)) where
     pub other_type : (message_type b ≡ 0 → ⊥) → halted WrongMessageType ≡ read_from fields s 0
     unfolding fields after_address after_coding
     other_type d = sym (message_differs s start e 0 bits refl after_first d)
 
     module _ (m : message_type b ≡ 0) where
-      pub no_address : address_span s p ≡ refuses OctetsEnd → halted OctetsEnd ≡ read_from fields s 0
+      pub no_address : address_span s p ≡ Err OctetsEnd → halted OctetsEnd ≡ read_from fields s 0
       unfolding fields after_address after_coding
       no_address d = sym (message_goes_on s start e 0 bits refl after_first m ∙ address_ends s p d (after_address (kept bits b)))
 
-      pub to_address_lem : {oa : ℕ} {q : Place} → address_span s p ≡ gives (oa, q)
+      pub to_address_lem : {oa : ℕ} {q : Place} → address_span s p ≡ Ok (oa, q)
           → (oa + address_size (drop oa s) ≤ length s) × (read_from (after_address (kept bits b) (canonical_address (cut address (drop oa s)))) s q.at ≡ read_from fields s 0) × (oa ≡ 1)
       unfolding fields after_address after_coding
       to_address_lem d = (

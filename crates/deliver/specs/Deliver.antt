@@ -1,11 +1,11 @@
 -- SMS-DELIVER (TS 23.040 §9.2.2.1): the record that its fields make, what its writer makes of a record, and what is no part of one.
 use Rattle.std.specs.Prelude.{ℕ, Bool, false, List, [], ◌∷◌, ◌++◌, eqb, length, drop}
-use Rattle.octets.specs.Answers.{Said, outcome_says}
 use Rattle.octets.specs.Checks.{◌unless◌, checked, all_fit}
 use Rattle.octets.specs.Lent.{Making}
 use Rattle.octets.specs.declared.Refusal.TheVariants.{LengthTooLarge, WrongMessageType, NotATime}
 use Rattle.coding.specs.Coding.{data_checks, data_with, data_of, cleared_data, TypedData}
 use Rattle.coding.specs.declared.UserData.{UserData}
+use Rattle.gsm7.specs.Reading.{replaced_in_all}
 use Rattle.time.specs.Time.{is_time, time_in, time_octets, digits_of, cleared_time, capital_time, TypedTime}
 use Rattle.time.specs.declared.Time.{Time}
 use Rattle.address.specs.Address.{address_in, address_with, septets_read, text_held, cleared_address, TypedAddress}
@@ -59,13 +59,13 @@ blank = record {
   tp_user_data = data_with [];
 }
 
--- what an answer of the reader says: its outcome and the record, and beside them how many escapes were replaced
-abbrev pub deliver_read_says : DeliverRead → (Said Unit × SmsDeliver) × ℕ
-deliver_read_says r = ((outcome_says r.outcome, r.message), r.replaced_escapes)
-
 -- what is read as text in a string: the originating address, after the first octet, where its type is 5. User data stay octets
 abbrev pub texts_read : List ℕ → SmsDeliver → List (List ℕ)
 texts_read s r = septets_read (cut addressKind (drop 1 s)) ∷ []
+
+-- what the reader gives of a string, of its record and of the place reached: the record, and beside it how many escapes were replaced
+abbrev pub read_with : List ℕ → SmsDeliver → ℕ → DeliverRead
+read_with s r at = record { message = r; replaced_escapes = replaced_in_all (texts_read s r) }
 
 -- ---- writing
 
@@ -84,7 +84,7 @@ octets_of r =
     first_octet 0 (flags_of r) ∷ (octets_or [] (address_octets a.ton a.npi (text_held a)) ++ (r.tp_pid ∷ r.tp_dcs ∷ (time_octets (digits_of r.tp_service_centre_timestamp) ++ (r.tp_user_data_length ∷ data_of r.tp_user_data))))
 
 -- what the writer makes of it: refusals 1, 3, 7 and 8 of the data, 9 to 11 of the address, and 12
-unfoldable pub delivering : SmsDeliver → Making (Said ℕ)
+unfoldable pub delivering : SmsDeliver → Making ℕ
 delivering r =
     let a = r.tp_originating_address in
     checked

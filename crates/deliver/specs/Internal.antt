@@ -1,5 +1,6 @@
 -- What only functions of this crate say to each other: the rest of the layout from a field on, fields by their places in a string, and values that are written.
-use Rattle.std.specs.Prelude.{ℕ, ◌+◌, ◌≤◌, ◌≡◌, List, [], ◌∷◌, ◌++◌, eqb, length, take, drop}
+use Rattle.std.specs.Prelude.{ℕ, ◌+◌, ◌≤◌, ◌≡◌, List, [], ◌∷◌, ◌++◌, eqb, length, take, drop, Ok, Err}
+use Rattle.octets.specs.Answers.{Said}
 use Rattle.octets.specs.Checks.{Check, ◌unless◌}
 use Rattle.octets.specs.declared.Refusal.TheVariants.{WrongMessageType, NotATime}
 use Rattle.coding.specs.Coding.{coding_of, data_octets, data_checks}
@@ -9,7 +10,6 @@ use Rattle.address.specs.Writing.{address_octets, octets_or, address_checks}
 use Rattle.layout.specs.Layout.{Format, Reached, reached, halted, field, one, time, done, address as addressKind, user_data, kept, cut}
 use Rattle.deliver.specs.Layout.{Fields, bits}
 use Rattle.deliver.specs.declared.reading.DeliverFields.{DeliverFields}
-use Rattle.deliver.specs.declared.reading.DeliverFound.{DeliverFound}
 
 -- ---- reading
 
@@ -35,16 +35,19 @@ fields_at s p = record {
   ud = take p.octets (drop p.«data» s);
 }
 
+-- the place after them
+abbrev pub reached_at : DeliverFields → ℕ
+reached_at p = p.«data» + p.octets
+
 -- what an answer says of a string: the fields, and the place after them; or the refusal
-abbrev pub found_says : List ℕ → DeliverFound → Reached Fields
-found_says s (DeliverFound.Whole p) = reached (fields_at s p) (p.«data» + p.octets)
-found_says s (DeliverFound.Refused why) = halted why
+abbrev pub found_says : List ℕ → Said DeliverFields → Reached Fields
+found_says s (Ok p) = reached (fields_at s p) (reached_at p)
+found_says s (Err why) = halted why
 
 -- the places lie in the string, the address's is the given one
-abbrev pub Inside : List ℕ → ℕ → DeliverFound → Type 0
-Inside s at (DeliverFound.Whole p) =
-    (p.address + address_size (drop p.address s) ≤ length s) × (p.timestamp + 7 ≤ length s) × (p.«data» + p.octets ≤ length s) × (p.octets ≤ 255) × (p.address ≡ at)
-Inside s at (DeliverFound.Refused why) = Unit
+abbrev pub Inside : List ℕ → ℕ → DeliverFields → Type 0
+Inside s at p =
+    (p.address + address_size (drop p.address s) ≤ length s) × (p.timestamp + 7 ≤ length s) × (reached_at p ≤ length s) × (p.octets ≤ 255) × (p.address ≡ at)
 
 -- ---- writing
 

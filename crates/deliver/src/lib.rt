@@ -5,21 +5,19 @@ pub mod reading;
 pub mod writing;
 
 ghost use Rattle.std.specs.Prelude.{◌≡◌};
-ghost use Rattle.octets.specs.Answers.{refuses, written_says};
 ghost use Rattle.octets.specs.Lent.{lend};
-ghost use Rattle.gsm7.specs.Reading.{replaced_in_all};
-ghost use Rattle.layout.specs.Layout.{read, answer, replaced_of};
-ghost use Rattle.deliver.specs.Internal.{fields_at, Inside};
-ghost use Rattle.deliver.specs.Deliver.{delivered, deliver, blank as blankMessage, deliver_read_says, texts_read, delivering};
+ghost use Rattle.layout.specs.Layout.{read, answer};
+ghost use Rattle.deliver.specs.Internal.{fields_at, reached_at, Inside};
+ghost use Rattle.deliver.specs.Deliver.{delivered, deliver, blank, read_with, delivering};
 
-use crate::reading::{DeliverFields, DeliverFound};
+use crate::reading::DeliverFields;
 use address::SMSAddress;
 use coding::UserData;
 use layout::MTI_DELIVER;
-use octets::{Outcome, Refusal, Written};
+use octets::Refusal;
 use time::Time;
 
-#[derive(Clone, Copy)]
+#[derive(Clone, Copy, Debug)]
 pub struct SmsDeliver {
     pub tp_rp: bool,
     pub tp_udhi: bool,
@@ -35,38 +33,51 @@ pub struct SmsDeliver {
     pub tp_user_data: UserData,
 }
 
-// What reading gives: the message, blank on a refusal, and the number of escapes in its text that led to no character of the extension table.
-#[derive(Clone, Copy)]
+// What reading gives: the message, and the number of escapes in its text that led to no character of the extension table.
+#[derive(Clone, Copy, Debug)]
 pub struct DeliverRead {
-    pub outcome: Outcome,
     pub message: SmsDeliver,
     pub replaced_escapes: usize,
 }
 
 // The blank message.
-fn blank() -> SmsDeliver
-    ensures { result ≡ blankMessage }
-{
-    SmsDeliver {
-        tp_rp: false,
-        tp_udhi: false,
-        tp_sri: false,
-        tp_lp: false,
-        tp_mms: false,
-        tp_mti: 0,
-        tp_originating_address: address::no_address(),
-        tp_pid: 0,
-        tp_dcs: 0,
-        tp_service_centre_timestamp: time::no_time(),
-        tp_user_data_length: 0,
-        tp_user_data: coding::no_data(),
+impl Default for SmsDeliver {
+    ghost is_default = { λ r. r ≡ blank };
+
+    fn default() -> Self {
+        SmsDeliver {
+            tp_rp: false,
+            tp_udhi: false,
+            tp_sri: false,
+            tp_lp: false,
+            tp_mms: false,
+            tp_mti: 0,
+            tp_originating_address: address::no_address(),
+            tp_pid: 0,
+            tp_dcs: 0,
+            tp_service_centre_timestamp: time::no_time(),
+            tp_user_data_length: 0,
+            tp_user_data: coding::no_data(),
+        }
+    }
+}
+
+// The blank message, and nothing replaced.
+impl Default for DeliverRead {
+    ghost is_default = { λ r. r ≡ record { message = blank; replaced_escapes = 0 } };
+
+    fn default() -> Self {
+        DeliverRead {
+            message: SmsDeliver::default(),
+            replaced_escapes: 0,
+        }
     }
 }
 
 // The message of fields that are there.
 fn message(data: &[u8], f: DeliverFields) -> DeliverRead
-    requires { Inside «data».now 1 (DeliverFound.Whole f) }
-    ensures { result ≡ record { outcome = Outcome.Done; message = delivered (fields_at «data».now f); replaced_escapes = replaced_in_all (texts_read «data».now (delivered (fields_at «data».now f))) } }
+    requires { Inside «data».now 1 f }
+    ensures { result ≡ read_with «data».now (delivered (fields_at «data».now f)) (reached_at f) }
 {
     let start = f.data;
     let end = start + f.octets;
@@ -76,7 +87,6 @@ fn message(data: &[u8], f: DeliverFields) -> DeliverRead
     let timestamp = time::time_at(data, f.timestamp);
     let user_data = coding::data_with(&data[start..end]);
     DeliverRead {
-        outcome: Outcome::Done,
         message: SmsDeliver {
             tp_rp: first / 128 % 2 == 1,
             tp_udhi: first / 64 % 2 == 1,
@@ -97,14 +107,14 @@ fn message(data: &[u8], f: DeliverFields) -> DeliverRead
 
 impl SmsDeliver {
     // Writes the message to the start of a lent output.
-    pub fn encode(self, out: &mut [u8]) -> Written
-        ensures { (written_says result, out.new) ≡ lend refuses (delivering self) out.old }
+    pub fn encode(self, out: &mut [u8]) -> Result<usize, Refusal>
+        ensures { (result, out.new) ≡ lend (delivering self) out.old }
     {
         let n = self.tp_originating_address.address_length;
         let m = self.tp_service_centre_timestamp.length;
         let k = self.tp_user_data.length;
         if !((n <= 290) & ((m <= 14) & (k <= 255))) {
-            return Written::Refused(Refusal::LengthTooLarge);
+            return Err(Refusal::LengthTooLarge);
         }
         let first = layout::first_octet(
             MTI_DELIVER,
@@ -134,16 +144,10 @@ impl SmsDeliver {
     }
 
     // Reads a message.
-    pub fn decode(data: &[u8]) -> DeliverRead
-        ensures { deliver_read_says result ≡ (answer blankMessage (read deliver «data».now), replaced_of (texts_read «data».now) (read deliver «data».now)) }
+    pub fn decode(data: &[u8]) -> Result<DeliverRead, Refusal>
+        ensures { result ≡ answer (read_with «data».now) (read deliver «data».now) }
     {
-        match reading::fields_of(data) {
-            DeliverFound::Refused(r) => DeliverRead {
-                outcome: Outcome::Refused(r),
-                message: blank(),
-                replaced_escapes: 0,
-            },
-            DeliverFound::Whole(f) => message(data, f),
-        }
+        let fields = reading::fields_of(data)?;
+        Ok(message(data, fields))
     }
 }

@@ -1,6 +1,5 @@
 // SMS-DELIVER (TS 23.040 §9.2.2.1), written from its fields' values.
-ghost use Rattle.std.specs.Prelude.{◌≡◌, true, ◌+◌, ◌/◌, ◌≤◌, ◌<◌, length};
-ghost use Rattle.octets.specs.Answers.{gives, refuses, written_says};
+ghost use Rattle.std.specs.Prelude.{◌≡◌, true, ◌+◌, ◌/◌, ◌≤◌, ◌<◌, length, Ok, Err};
 ghost use Rattle.octets.specs.Checks.{checked};
 ghost use Rattle.octets.specs.Lent.{Wrote, lend};
 ghost use Rattle.time.specs.Time.{is_time};
@@ -8,9 +7,8 @@ ghost use Rattle.address.specs.Writing.{address_making};
 ghost use Rattle.address.specs.Internal.{check_of};
 ghost use Rattle.deliver.specs.Internal.{checks_in, octets_in};
 
-use address::writing::AddressCheck;
 use layout::MTI_DELIVER;
-use octets::{Checked, Refusal, Written};
+use octets::Refusal;
 
 // Writes values that were checked; how many octets they take.
 fn put_fields(
@@ -26,7 +24,7 @@ fn put_fields(
     data: &[u8],
     out: &mut [u8],
 ) -> usize
-    requires { (check_of (address_making ton npi text.now) ≡ gives count) × (is_time digits.now ≡ true) × (13 + (count + 1) / 2 + length «data».now ≤ length out.old) }
+    requires { (check_of (address_making ton npi text.now) ≡ Ok count) × (is_time digits.now ≡ true) × (13 + (count + 1) / 2 + length «data».now ≤ length out.old) }
     ensures { Wrote 0 (octets_in first ton npi text.now pid dcs digits.now udl «data».now) out.old result out.new }
 {
     let p1 = octets::put_octet(out, 0, first);
@@ -51,27 +49,21 @@ pub fn encode_fields(
     udl: u8,
     data: &[u8],
     out: &mut [u8],
-) -> Written
-    ensures { (written_says result, out.new) ≡ lend refuses (checked (checks_in mti ton npi text.now dcs digits.now udl «data».now) (octets_in first ton npi text.now pid dcs digits.now udl «data».now)) out.old }
+) -> Result<usize, Refusal>
+    ensures { (result, out.new) ≡ lend (checked (checks_in mti ton npi text.now dcs digits.now udl «data».now) (octets_in first ton npi text.now pid dcs digits.now udl «data».now)) out.old }
 {
     if mti != MTI_DELIVER {
-        return Written::Refused(Refusal::WrongMessageType);
+        return Err(Refusal::WrongMessageType);
     }
-    if let Checked::Against(r) = coding::check_user_data(dcs, udl, data.len()) {
-        return Written::Refused(r);
+    coding::check_user_data(dcs, udl, data.len())?;
+    let count = address::writing::check_address(ton, npi, text)?;
+    if !time::is_time(digits) {
+        return Err(Refusal::NotATime);
     }
-    match address::writing::check_address(ton, npi, text) {
-        AddressCheck::Refused(r) => Written::Refused(r),
-        AddressCheck::Fine(count) => {
-            if !time::is_time(digits) {
-                return Written::Refused(Refusal::NotATime);
-            }
-            if out.len() < 13 + (count + 1) / 2 + data.len() {
-                return Written::Refused(Refusal::OutputTooShort);
-            }
-            Written::Done(put_fields(
-                first, ton, npi, text, count, pid, dcs, digits, udl, data, out,
-            ))
-        }
+    if out.len() < 13 + (count + 1) / 2 + data.len() {
+        return Err(Refusal::OutputTooShort);
     }
+    Ok(put_fields(
+        first, ton, npi, text, count, pid, dcs, digits, udl, data, out,
+    ))
 }

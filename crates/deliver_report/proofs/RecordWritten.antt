@@ -1,9 +1,9 @@
 -- What a writer makes of a record within a limit: its length, its outcome, then its fields.
 -- Assumes nothing.
+use Rattle.std.specs.Prelude.{None}
 use Prim.Native.Nat.{ℕ}
 use mathlib.Core.Path.{◌≡◌}
 use mathlib.Core.Bool.{true, false}
-use mathlib.Core.List.{[]}
 use Rattle.octets.specs.Checks.{checked, all_fit}
 use Rattle.octets.specs.Lent.{refused}
 use Rattle.octets.specs.declared.Refusal.TheVariants.{LengthTooLarge, OutcomeDisagrees}
@@ -22,6 +22,6 @@ module _ (limit : ℕ) (r : SmsDeliverReport) where
     unfolding deliver_reporting_within checked
     outcome_disagrees e = rw (fit, e)
 
-    pub by_fields : outcome_agrees r.rp_outcome r.tp_failure_cause ≡ true → deliver_reporting_within limit r ≡ making limit 0 false r.tp_udhi r.tp_failure_cause r.tp_parameter_indicator [] (fields_in r).parameters
+    pub by_fields : outcome_agrees r.rp_outcome r.tp_failure_cause ≡ true → deliver_reporting_within limit r ≡ making limit 0 r.tp_udhi r.tp_failure_cause r.tp_parameter_indicator None (fields_in r).parameters
     unfolding deliver_reporting_within making checked
     by_fields e = rw (fit, e)

@@ -1,20 +1,19 @@
 -- SMS-DELIVER-REPORT (TS 23.040 §9.2.2.1a): its two layouts, what its writers make of a record, and what is no part of one.
-use Rattle.std.specs.Prelude.{ℕ, ◌≡◌, refl, true, false, List, [], ◌∷◌}
-use Rattle.octets.specs.Answers.{Said, outcome_says, refuses, fine}
+use Rattle.std.specs.Prelude.{ℕ, ◌≡◌, refl, true, false, List, [], ◌∷◌, Err, Some, None, Option}
+use Rattle.octets.specs.Answers.{fine}
 use Rattle.octets.specs.Checks.{◌unless◌, found, checked, all_fit}
 use Rattle.octets.specs.Lent.{Making}
 use Rattle.octets.specs.declared.Refusal.TheVariants.{LengthTooLarge, OctetsEnd, WrongMessageType, UserDataTooLong, OutcomeDisagrees}
 use Rattle.coding.specs.Coding.{coding_of, character_set, data_octets, data_with, data_of, cleared_data, TypedData}
 use Rattle.coding.specs.declared.UserData.{UserData}
+use Rattle.gsm7.specs.Reading.{replaced_in_all}
 use Rattle.layout.specs.Layout.{indicator_size, kept, Layout, records, stops, reached, halted, after, reading, read_from, read, fields_of, canonical_of}
 use Rattle.parameters.specs.Checking.{data_within}
 use Rattle.parameters.specs.Layout.{parameters}
 use Rattle.parameters.specs.Outcome.{outcome_agrees}
-use Rattle.parameters.specs.declared.OptionalOctet.{OptionalOctet}
-use Rattle.parameters.specs.declared.OptionalOctet.TheVariants.{Absent, Present}
 use Rattle.parameters.specs.declared.RpOutcome.{RpOutcome}
 use Rattle.parameters.specs.declared.RpOutcome.TheVariants.{RpAck, RpError}
-use Rattle.report.specs.Report.{Fields, format, blank as blankFields, stopped as stoppedFields, layout_of as reportLayout, octets_of, checks_within}
+use Rattle.report.specs.Report.{Fields, format, blank as blankFields, stopped as stoppedFields, layout_of as reportLayout, texts_read, octets_of, checks_within}
 use Rattle.deliver_report.specs.declared.SmsDeliverReport.{SmsDeliverReport}
 use Rattle.deliver_report.specs.declared.DeliverReportRead.{DeliverReportRead}
 
@@ -47,14 +46,14 @@ layout_of outcome = records deliver_reported (reportLayout 0 false outcome)
 -- the stopped RP-ERROR 04 gives the record of 00 FF 00; an RP-ACK with UDHI, an extended indicator 85, PID 11 and two septets
 known_reports : (read (layout_of RpError) (0x04 ∷ []) ≡ reached stopped 1) × (read (layout_of RpError) (0x00 ∷ 0xff ∷ 0x00 ∷ []) ≡ reached stopped 3) × (read (layout_of RpAck) (0x01 ∷ 0x00 ∷ []) ≡ halted WrongMessageType) × (read (layout_of RpAck) (0x00 ∷ []) ≡ halted OctetsEnd)
     × (read (layout_of RpAck) (0x40 ∷ 0x85 ∷ 0x00 ∷ 0x11 ∷ 0x02 ∷ 0x41 ∷ 0x21 ∷ [])
-    ≡ reached (deliver_reported (record { outcome = RpAck; udhi = true; cause = Absent; indicator = 0x85; scts = []; parameters = record { pid = Present 0x11; dcs = Absent; udl = Present 2; ud = 0x41 ∷ 0x21 ∷ [] } })) 7)
+    ≡ reached (deliver_reported (record { outcome = RpAck; udhi = true; cause = None; indicator = 0x85; scts = []; parameters = record { pid = Some 0x11; dcs = None; udl = Some 2; ud = 0x41 ∷ 0x21 ∷ [] } })) 7)
     × (canonical_of (layout_of RpAck) (0x40 ∷ 0x85 ∷ 0x00 ∷ 0x11 ∷ 0x02 ∷ 0x41 ∷ 0x21 ∷ []) ≡ 0x40 ∷ 0x85 ∷ 0x11 ∷ 0x02 ∷ 0x41 ∷ 0x21 ∷ [])
 unfolding format read read_from reading after stops canonical_of fields_of parameters kept indicator_size coding_of character_set data_octets
 known_reports = (refl, refl, refl, refl, refl, refl)
 
--- what an answer of a reader says: its outcome and the record, and beside them how many escapes were replaced
-abbrev pub deliver_report_read_says : DeliverReportRead → (Said Unit × SmsDeliverReport) × ℕ
-deliver_report_read_says r = ((outcome_says r.outcome, r.message), r.replaced_escapes)
+-- what a reader gives of a record: it, and how many escapes in its texts were replaced
+abbrev pub read_with : List ℕ → SmsDeliverReport → ℕ → DeliverReportRead
+read_with s r at = record { message = r; replaced_escapes = replaced_in_all (texts_read s r) }
 
 -- ---- writing
 
@@ -74,28 +73,28 @@ abbrev pub lengths_of : SmsDeliverReport → List (ℕ × ℕ)
 lengths_of r = (r.tp_user_data.length, 255) ∷ []
 
 -- what a writer makes of a record within a limit of user data: 1; 29; 13 and 14; 7, 8 and 15
-unfoldable pub deliver_reporting_within : ℕ → SmsDeliverReport → Making (Said ℕ)
+unfoldable pub deliver_reporting_within : ℕ → SmsDeliverReport → Making ℕ
 deliver_reporting_within limit r =
     checked
     ((LengthTooLarge unless all_fit (lengths_of r)) ∷ (OutcomeDisagrees unless outcome_agrees r.rp_outcome r.tp_failure_cause) ∷ checks_within limit true (fields_in r))
     (octets_of 0 (fields_in r))
 
 -- the ported writer: within 140
-abbrev pub deliver_reporting : SmsDeliverReport → Making (Said ℕ)
+abbrev pub deliver_reporting : SmsDeliverReport → Making ℕ
 deliver_reporting = deliver_reporting_within 140
 
 -- the limits of the standard's two tables (TS 23.040 §9.2.2.1a): 159 in an RP-ACK, 158 in an RP-ERROR, which a cause means
-abbrev pub standard_limit : OptionalOctet → ℕ
-standard_limit Absent = 159
-standard_limit (Present cause) = 158
+abbrev pub standard_limit : Option ℕ → ℕ
+standard_limit None = 159
+standard_limit (Some cause) = 158
 
 -- the writer to the standard: within these
-abbrev pub deliver_reporting_to_standard : SmsDeliverReport → Making (Said ℕ)
+abbrev pub deliver_reporting_to_standard : SmsDeliverReport → Making ℕ
 deliver_reporting_to_standard r = deliver_reporting_within (standard_limit r.tp_failure_cause) r
 
 -- user data of 159 and 160 octets in an RP-ACK, of 158 and 159 in an RP-ERROR with cause D3
-known_limits : (found (data_within (standard_limit Absent) (Present 0x04) (Present 159) 159) ≡ fine) × (found (data_within (standard_limit Absent) (Present 0x04) (Present 160) 160) ≡ refuses UserDataTooLong)
-    × (found (data_within (standard_limit (Present 0xd3)) (Present 0x04) (Present 158) 158) ≡ fine) × (found (data_within (standard_limit (Present 0xd3)) (Present 0x04) (Present 159) 159) ≡ refuses UserDataTooLong)
+known_limits : (found (data_within (standard_limit None) (Some 0x04) (Some 159) 159) ≡ fine) × (found (data_within (standard_limit None) (Some 0x04) (Some 160) 160) ≡ Err UserDataTooLong)
+    × (found (data_within (standard_limit (Some 0xd3)) (Some 0x04) (Some 158) 158) ≡ fine) × (found (data_within (standard_limit (Some 0xd3)) (Some 0x04) (Some 159) 159) ≡ Err UserDataTooLong)
 unfolding data_within coding_of character_set data_octets
 known_limits = (refl, refl, refl, refl)
 

@@ -2,142 +2,144 @@
 #![tactic(auto)]
 
 ghost use Rattle.std.specs.Prelude.{◌≡◌};
-ghost use Rattle.octets.specs.Answers.{refuses, written_says};
 ghost use Rattle.octets.specs.Lent.{lend};
-ghost use Rattle.layout.specs.Layout.{read, answer, replaced_of};
+ghost use Rattle.layout.specs.Layout.{read, answer};
 ghost use Rattle.parameters.specs.declared.RpOutcome.TheVariants.{RpAck, RpError};
-ghost use Rattle.report.specs.Report.{texts_read};
-ghost use Rattle.deliver_report.specs.DeliverReport.{blank as blankReport, layout_of, deliver_report_read_says, standard_limit, deliver_reporting_within, deliver_reporting, deliver_reporting_to_standard};
+ghost use Rattle.deliver_report.specs.DeliverReport.{blank as blankReport, layout_of, read_with, standard_limit, deliver_reporting_within, deliver_reporting, deliver_reporting_to_standard};
 
 use coding::UserData;
 use layout::MTI_DELIVER;
-use octets::{Outcome, Refusal, Written};
-use parameters::{OptionalOctet, RpOutcome};
+use octets::Refusal;
+use parameters::{ParameterOctets, RpOutcome};
 
 // The octets of user data in the standard's tables of a report in an RP-ACK and in an RP-ERROR (TS 23.040 §9.2.2.1a).
 const RP_ACK_USER_DATA_OCTETS: usize = 159;
 
 const RP_ERROR_USER_DATA_OCTETS: usize = 158;
 
-#[derive(Clone, Copy)]
+#[derive(Clone, Copy, Debug)]
 pub struct SmsDeliverReport {
     pub tp_udhi: bool,
-    pub tp_failure_cause: OptionalOctet,
+    pub tp_failure_cause: Option<u8>,
     pub tp_parameter_indicator: u8,
-    pub tp_pid: OptionalOctet,
-    pub tp_dcs: OptionalOctet,
-    pub tp_user_data_length: OptionalOctet,
+    pub tp_pid: Option<u8>,
+    pub tp_dcs: Option<u8>,
+    pub tp_user_data_length: Option<u8>,
     pub tp_user_data: UserData,
     pub rp_outcome: RpOutcome,
 }
 
-// What reading gives: the message, blank on a refusal, and the number of escapes in its text that led to no character of the extension table. The kind has no text: 0.
-#[derive(Clone, Copy)]
+// The blank record holds RP-ACK, whatever the entry point.
+impl Default for SmsDeliverReport {
+    ghost is_default = { λ r. r ≡ blankReport };
+
+    fn default() -> Self {
+        SmsDeliverReport {
+            tp_udhi: false,
+            tp_failure_cause: None,
+            tp_parameter_indicator: 0,
+            tp_pid: None,
+            tp_dcs: None,
+            tp_user_data_length: None,
+            tp_user_data: coding::no_data(),
+            rp_outcome: RpOutcome::RpAck,
+        }
+    }
+}
+
+// What reading gives: the message, and the number of escapes in its text that led to no character of the extension table. The kind has no text: 0.
+#[derive(Clone, Copy, Debug, Default)]
 pub struct DeliverReportRead {
-    pub outcome: Outcome,
     pub message: SmsDeliverReport,
     pub replaced_escapes: usize,
 }
 
 // The report that a string is, read as one of this outcome.
-fn decode(data: &[u8], rp_outcome: RpOutcome) -> DeliverReportRead
-    ensures { deliver_report_read_says result ≡ (answer blankReport (read (layout_of rp_outcome) «data».now), replaced_of (texts_read «data».now) (read (layout_of rp_outcome) «data».now)) }
+fn decode(data: &[u8], rp_outcome: RpOutcome) -> Result<DeliverReportRead, Refusal>
+    ensures { result ≡ answer (read_with «data».now) (read (layout_of rp_outcome) «data».now) }
 {
-    let f = report::reading::fields_of(data, MTI_DELIVER, false, rp_outcome);
-    let outcome = f.outcome;
-    let cause = f.cause;
-    let pid = f.pid;
-    let dcs = f.dcs;
-    let udl = f.udl;
-    let carried_in = f.rp_outcome;
-    let start = f.data;
-    DeliverReportRead {
-        outcome,
+    let f = report::reading::fields_of(data, MTI_DELIVER, false, rp_outcome)?;
+    Ok(DeliverReportRead {
         message: SmsDeliverReport {
             tp_udhi: f.udhi,
-            tp_failure_cause: cause,
+            tp_failure_cause: f.cause,
             tp_parameter_indicator: f.indicator,
-            tp_pid: pid,
-            tp_dcs: dcs,
-            tp_user_data_length: udl,
-            tp_user_data: coding::data_with(&data[start..start + f.octets]),
-            rp_outcome: carried_in,
+            tp_pid: f.parameters.pid,
+            tp_dcs: f.parameters.dcs,
+            tp_user_data_length: f.parameters.udl,
+            tp_user_data: coding::data_with(&data[f.data..f.data + f.octets]),
+            rp_outcome: f.rp_outcome,
         },
         replaced_escapes: 0,
-    }
+    })
 }
 
 // The standard's limit of user data: a cause held means RP-ERROR.
-fn standard_limit(cause: OptionalOctet) -> usize
+fn standard_limit(cause: Option<u8>) -> usize
     ensures { result ≡ standard_limit cause }
 {
     match cause {
-        OptionalOctet::Absent => RP_ACK_USER_DATA_OCTETS,
-        OptionalOctet::Present(_) => RP_ERROR_USER_DATA_OCTETS,
+        None => RP_ACK_USER_DATA_OCTETS,
+        Some(_) => RP_ERROR_USER_DATA_OCTETS,
     }
 }
 
 impl SmsDeliverReport {
     // The layout carried in an RP-ACK (no TP-Failure-Cause).
-    pub fn decode_for_rp_ack(data: &[u8]) -> DeliverReportRead
-        ensures { deliver_report_read_says result ≡ (answer blankReport (read (layout_of RpAck) «data».now), replaced_of (texts_read «data».now) (read (layout_of RpAck) «data».now)) }
+    pub fn decode_for_rp_ack(data: &[u8]) -> Result<DeliverReportRead, Refusal>
+        ensures { result ≡ answer (read_with «data».now) (read (layout_of RpAck) «data».now) }
     {
         decode(data, RpOutcome::RpAck)
     }
 
     // The layout carried in an RP-ERROR (TP-Failure-Cause present). Where an unused bit of the first octet is set the
     // rest is not examined, and the cause reads as "Unspecified error cause".
-    pub fn decode_for_rp_error(data: &[u8]) -> DeliverReportRead
-        ensures { deliver_report_read_says result ≡ (answer blankReport (read (layout_of RpError) «data».now), replaced_of (texts_read «data».now) (read (layout_of RpError) «data».now)) }
+    pub fn decode_for_rp_error(data: &[u8]) -> Result<DeliverReportRead, Refusal>
+        ensures { result ≡ answer (read_with «data».now) (read (layout_of RpError) «data».now) }
     {
         decode(data, RpOutcome::RpError)
     }
 
     // Writes the report to the start of a lent output, its user data within a limit.
-    fn encode_within(self, limit: usize, out: &mut [u8]) -> Written
-        ensures { (written_says result, out.new) ≡ lend refuses (deliver_reporting_within limit self) out.old }
+    fn encode_within(self, limit: usize, out: &mut [u8]) -> Result<usize, Refusal>
+        ensures { (result, out.new) ≡ lend (deliver_reporting_within limit self) out.old }
     {
         let n = self.tp_user_data.length;
         if !(n <= 255) {
-            return Written::Refused(Refusal::LengthTooLarge);
+            return Err(Refusal::LengthTooLarge);
         }
-        let outcome = self.rp_outcome;
-        let cause = self.tp_failure_cause;
-        if !parameters::outcome_agrees(outcome, cause) {
-            return Written::Refused(Refusal::OutcomeDisagrees);
+        if !parameters::outcome_agrees(self.rp_outcome, self.tp_failure_cause) {
+            return Err(Refusal::OutcomeDisagrees);
         }
         let octets = self.tp_user_data.octets;
-        let pid = self.tp_pid;
-        let dcs = self.tp_dcs;
-        let udl = self.tp_user_data_length;
         report::writing::encode_fields(
             limit,
             MTI_DELIVER,
             self.tp_udhi,
-            cause,
+            self.tp_failure_cause,
             self.tp_parameter_indicator,
-            false,
-            b"",
-            pid,
-            dcs,
-            udl,
+            None,
+            ParameterOctets {
+                pid: self.tp_pid,
+                dcs: self.tp_dcs,
+                udl: self.tp_user_data_length,
+            },
             &octets[..n],
             out,
         )
     }
 
     // Writes the report to the start of a lent output.
-    pub fn encode(self, out: &mut [u8]) -> Written
-        ensures { (written_says result, out.new) ≡ lend refuses (deliver_reporting self) out.old }
+    pub fn encode(self, out: &mut [u8]) -> Result<usize, Refusal>
+        ensures { (result, out.new) ≡ lend (deliver_reporting self) out.old }
     {
         self.encode_within(coding::MAX_USER_DATA_OCTETS, out)
     }
 
     // The same with the limit of user data that the standard's tables have, in place of the published crate's.
-    pub fn encode_to_standard(self, out: &mut [u8]) -> Written
-        ensures { (written_says result, out.new) ≡ lend refuses (deliver_reporting_to_standard self) out.old }
+    pub fn encode_to_standard(self, out: &mut [u8]) -> Result<usize, Refusal>
+        ensures { (result, out.new) ≡ lend (deliver_reporting_to_standard self) out.old }
     {
-        let cause = self.tp_failure_cause;
-        self.encode_within(standard_limit(cause), out)
+        self.encode_within(standard_limit(self.tp_failure_cause), out)
     }
 }

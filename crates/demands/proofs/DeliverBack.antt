@@ -11,7 +11,7 @@ use borrow.Author.Tests.{eqb-true, eq-eqb}
 use lib.Dec.{eqb}
 use lib.ListN.{length, length-append}
 use lib.Seq.{length-take-le}
-use Rattle.octets.specs.Answers.{Said, gives, fine}
+use Rattle.octets.specs.Answers.{fine}
 use Rattle.octets.specs.Checks.{Check, ◌unless◌, all_fit}
 use Rattle.octets.specs.Lent.{made}
 use Rattle.octets.specs.declared.Refusal.TheVariants.{LengthTooLarge, WrongMessageType, NotATime}
@@ -75,7 +75,7 @@ module _ (r : SmsDeliver) where
       let mti = eq-eqb _ 0 (first_type 0 (omega arith) (flags_of r) refl) in
       (refl, whole, (mti, (p.address.whole, p.address.again, (refl, refl, (refl, refl, (sym (time_size digits p.time_is), refl, (refl, refl, (sym p.size_is, refl, refl))))))))
 
-module _ {os : List ℕ} {answer : Said ℕ} (r : SmsDeliver) (e : delivering r ≡ made os answer) where
+module _ {os : List ℕ} {answer : ℕ} (r : SmsDeliver) (e : delivering r ≡ made os answer) where
   passed : Passed r os
   unfolding delivering checked_data
   passed =
@@ -128,6 +128,6 @@ deliver_demand2 = record {
 pub deliver_ends : Cut Typed cleared capitalised (λ r. deliver) delivering (λ r. none) (λ r. r)
 deliver_ends = cut_always _ _ _ _ _ λ r t octets n e. cut_read deliver endless octets (read_back r e)
 
-pub deliver_counts : (r : SmsDeliver) (xs : List ℕ) (a : Said ℕ) → delivering r ≡ made xs a → a ≡ gives (length xs)
+pub deliver_counts : (r : SmsDeliver) (xs : List ℕ) (a : ℕ) → delivering r ≡ made xs a → a ≡ length xs
 unfolding delivering
 deliver_counts r xs a e = made_counts _ _ e

@@ -1,5 +1,6 @@
 -- Demand 2 of document 01 for SMS-DELIVER-REPORT, cut messages (document 02, Ask 9), and how much is written.
 -- Assumes nothing.
+use Rattle.std.specs.Prelude.{Some, None, Option}
 use Prim.Native.Nat.{ℕ, ◌+◌, ◌≤◌}
 use mathlib.Core.Path.{◌≡◌, refl, ◌∙◌}
 use mathlib.Core.Bool.{Bool, true, false}
@@ -9,7 +10,7 @@ use native.Mathlib.Omega.{arith}
 use lib.Bits.{bit_and}
 use lib.ListN.{length}
 use lib.Seq.{length-take-le}
-use Rattle.octets.specs.Answers.{Said, gives, fine}
+use Rattle.octets.specs.Answers.{fine}
 use Rattle.octets.specs.Checks.{◌unless◌, all_fit}
 use Rattle.octets.specs.Lent.{made}
 use Rattle.octets.specs.declared.Refusal.TheVariants.{LengthTooLarge, OutcomeDisagrees}
@@ -21,8 +22,6 @@ use Rattle.layout.specs.Demand.{Demand2}
 use Rattle.layout.specs.Layout.{first_octet}
 use Rattle.parameters.specs.Optional.{held}
 use Rattle.parameters.specs.Outcome.{outcome_agrees}
-use Rattle.parameters.specs.declared.OptionalOctet.{OptionalOctet}
-use Rattle.parameters.specs.declared.OptionalOctet.TheVariants.{Absent, Present}
 use Rattle.parameters.proofs.Laws.{one_at_most}
 use Rattle.report.specs.Report.{checks_within}
 use Rattle.deliver_report.specs.DeliverReport.{deliver_reported, layout_of, fields_in, lengths_of, standard_limit, deliver_reporting_within, deliver_reporting, deliver_reporting_to_standard, cleared, Typed}
@@ -36,7 +35,7 @@ unfolding first_octet
 free true = refl
 free false = refl
 
-told : (limit : ℕ) (r : SmsDeliverReport) (os : List ℕ) (answer : Said ℕ) → deliver_reporting_within limit r ≡ made os answer → Told 0 (omega arith) free false deliver_reported fields_in Typed cleared (λ r. r) limit r os
+told : (limit : ℕ) (r : SmsDeliverReport) (os : List ℕ) (answer : ℕ) → deliver_reporting_within limit r ≡ made os answer → Told 0 (omega arith) free false deliver_reported fields_in Typed cleared (λ r. r) limit r os
 unfolding deliver_reporting_within deliver_reported
 told limit r os answer e =
     let (f, x) = made_told _ _ e in
@@ -58,13 +57,13 @@ module _ (limitOf : SmsDeliverReport → ℕ) where
   pub deliver_report_ends : Cut Typed cleared (λ r. r) (λ r. layout_of r.rp_outcome) (λ r. deliver_reporting_within (limitOf r) r) (λ r. none) (λ r. r)
   deliver_report_ends = report_ends 0 (omega arith) free false deliver_reported fields_in Typed cleared (λ r. r) deliver_reporting_within told limitOf
 
-  pub deliver_report_counts : (r : SmsDeliverReport) (xs : List ℕ) (a : Said ℕ) → deliver_reporting_within (limitOf r) r ≡ made xs a → a ≡ gives (length xs)
+  pub deliver_report_counts : (r : SmsDeliverReport) (xs : List ℕ) (a : ℕ) → deliver_reporting_within (limitOf r) r ≡ made xs a → a ≡ length xs
   unfolding deliver_reporting_within
   deliver_report_counts r xs a e = made_counts _ _ e
 
 -- ---- how much is written
 
-module _ (r : SmsDeliverReport) {os : List ℕ} {answer : Said ℕ} where
+module _ (r : SmsDeliverReport) {os : List ℕ} {answer : ℕ} where
   within : (limit : ℕ) → deliver_reporting_within limit r ≡ made os answer → length os ≤ 5 + held r.tp_failure_cause + limit
   within limit e = omega (arith, at_most_within 0 (omega arith) free false deliver_reported fields_in Typed cleared (λ r. r) deliver_reporting_within told limit r os answer e)
 
@@ -75,6 +74,6 @@ module _ (r : SmsDeliverReport) {os : List ℕ} {answer : Said ℕ} where
   standard_at_most e = omega (arith, within (standard_limit r.tp_failure_cause) e, room r.tp_failure_cause)
     where
       -- a cause takes an octet from the user data
-      room : (cause : OptionalOctet) → held cause + standard_limit cause ≤ 159
-      room Absent = omega arith
-      room (Present x) = omega arith
+      room : (cause : Option ℕ) → held cause + standard_limit cause ≤ 159
+      room None = omega arith
+      room (Some x) = omega arith

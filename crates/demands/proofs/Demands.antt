@@ -8,31 +8,45 @@
 -- Assumes nothing.
 use Prim.Native.Nat.{ℕ}
 use mathlib.Core.Bool.{true, false}
+use mathlib.Core.List.{List}
 use mathlib.Core.Option.{none}
+use mathlib.Core.Path.{◌≡◌, refl, ap}
 use lib.ListN.{length}
+use Rattle.std.specs.Prelude.{Ok}
+use Rattle.std.specs.Result.{result_map_both}
 use Rattle.octets.specs.Answers.{fine}
+use Rattle.octets.specs.declared.Refusal.{Refusal}
 use Rattle.coding.specs.Coding.{data_of}
 use Rattle.layout.specs.Cut.{Cut, AnswersCut}
 use Rattle.layout.specs.Demand.{Demand2, Demand3, Answers2, Answers3}
+use Rattle.layout.specs.Layout.{Reached, reached, halted, answer, alone}
 use Rattle.layout.proofs.Answered.{answers2, answers3, answers_cut}
 use Rattle.parameters.specs.Limits.{Limits}
 use Rattle.parameters.specs.Outcome.{OneOutcome}
 use Rattle.parameters.specs.declared.RpOutcome.TheVariants.{RpAck, RpError}
 use Rattle.submit.specs.Submit as Submit
+use Rattle.submit.specs.declared.SmsSubmit.{SmsSubmit}
+use Rattle.submit.specs.declared.SubmitRead.{SubmitRead}
 use Rattle.submit.proofs.Demand.{submit_demand3}
 use Rattle.deliver.specs.Deliver as Deliver
+use Rattle.deliver.specs.declared.SmsDeliver.{SmsDeliver}
+use Rattle.deliver.specs.declared.DeliverRead.{DeliverRead}
 use Rattle.deliver.proofs.Demand.{deliver_demand3}
 use Rattle.submit_report.specs.SubmitReport as SubmitReport
 use Rattle.submit_report.specs.declared.SmsSubmitReport.{SmsSubmitReport}
+use Rattle.submit_report.specs.declared.SubmitReportRead.{SubmitReportRead}
 use Rattle.submit_report.proofs.Demand.{ack_demand3 as submit-ack, error_demand3 as submit-error}
 use Rattle.submit_report.proofs.Limits.{submit_report_limits}
 use Rattle.submit_report.proofs.Demand.{outcome_read as submit-outcome}
 use Rattle.deliver_report.specs.DeliverReport as DeliverReport
 use Rattle.deliver_report.specs.declared.SmsDeliverReport.{SmsDeliverReport}
+use Rattle.deliver_report.specs.declared.DeliverReportRead.{DeliverReportRead}
 use Rattle.deliver_report.proofs.Demand.{ack_demand3 as deliver-ack, error_demand3 as deliver-error}
 use Rattle.deliver_report.proofs.Limits.{deliver_report_limits}
 use Rattle.deliver_report.proofs.Demand.{outcome_read as deliver-outcome}
 use Rattle.status_report.specs.StatusReport as StatusReport
+use Rattle.status_report.specs.declared.SmsStatusReport.{SmsStatusReport}
+use Rattle.status_report.specs.declared.StatusReportRead.{StatusReportRead}
 use Rattle.status_report.proofs.Demand.{status_report_demand3}
 use Rattle.status_report.proofs.Limits.{status_report_limits}
 use Rattle.demands.specs.Cuts.{cut_after_status, without_indicator}
@@ -91,41 +105,61 @@ status_report_back = status_report_demand2 140
 
 -- ---- both, of what the public functions answer
 
-pub submit_answers3 : Answers3 Submit.cleared Submit.blank Submit.submit Submit.submitting false
-submit_answers3 = answers3 _ _ _ _ _ of_submit
+-- a reader's answer (`answer (read_with s)` in its contract) has the record that was read, of which the laws below speak, or the same refusal
+message_of : {R A : Type 0} (gives : R → ℕ → A) (message : A → R) → ((r : R) (at : ℕ) → message (gives r at) ≡ r) → (x : Reached R) → result_map_both message (λ (why : Refusal). why) (answer gives x) ≡ answer alone x
+message_of gives message is (reached r at) = ap Ok (is r at)
+message_of gives message is (halted why) = refl
 
-pub deliver_answers3 : Answers3 Deliver.cleared Deliver.blank Deliver.deliver Deliver.delivering false
-deliver_answers3 = answers3 _ _ _ _ _ of_deliver
+pub submit_message : (s : List ℕ) (x : Reached SmsSubmit) → result_map_both (λ (a : SubmitRead). a.message) (λ (why : Refusal). why) (answer (Submit.read_with s) x) ≡ answer alone x
+submit_message s = message_of _ _ λ r at. refl
 
-pub submit_report_ack_answers3 : Answers3 SubmitReport.cleared SubmitReport.blank (SubmitReport.layout_of RpAck) SubmitReport.submit_reporting false
-submit_report_ack_answers3 = answers3 _ _ _ _ _ of_submit_report_ack
+pub deliver_message : (s : List ℕ) (x : Reached SmsDeliver) → result_map_both (λ (a : DeliverRead). a.message) (λ (why : Refusal). why) (answer (Deliver.read_with s) x) ≡ answer alone x
+deliver_message s = message_of _ _ λ r at. refl
 
-pub submit_report_error_answers3 : Answers3 SubmitReport.cleared SubmitReport.blank (SubmitReport.layout_of RpError) SubmitReport.submit_reporting true
-submit_report_error_answers3 = answers3 _ _ _ _ _ of_submit_report_error
+pub submit_report_message : (s : List ℕ) (x : Reached SmsSubmitReport) → result_map_both (λ (a : SubmitReportRead). a.message) (λ (why : Refusal). why) (answer (SubmitReport.read_with s) x) ≡ answer alone x
+submit_report_message s = message_of _ _ λ r at. refl
 
-pub deliver_report_ack_answers3 : Answers3 DeliverReport.cleared DeliverReport.blank (DeliverReport.layout_of RpAck) DeliverReport.deliver_reporting false
-deliver_report_ack_answers3 = answers3 _ _ _ _ _ of_deliver_report_ack
+pub deliver_report_message : (s : List ℕ) (x : Reached SmsDeliverReport) → result_map_both (λ (a : DeliverReportRead). a.message) (λ (why : Refusal). why) (answer (DeliverReport.read_with s) x) ≡ answer alone x
+deliver_report_message s = message_of _ _ λ r at. refl
 
-pub deliver_report_error_answers3 : Answers3 DeliverReport.cleared DeliverReport.blank (DeliverReport.layout_of RpError) DeliverReport.deliver_reporting false
-deliver_report_error_answers3 = answers3 _ _ _ _ _ of_deliver_report_error
+pub status_report_message : (s : List ℕ) (x : Reached SmsStatusReport) → result_map_both (λ (a : StatusReportRead). a.message) (λ (why : Refusal). why) (answer (StatusReport.read_with s) x) ≡ answer alone x
+status_report_message s = message_of _ _ λ r at. refl
 
-pub status_report_answers3 : Answers3 StatusReport.cleared StatusReport.blank StatusReport.status_report StatusReport.status_reporting false
-status_report_answers3 = answers3 _ _ _ _ _ of_status_report
+pub submit_answers3 : Answers3 Submit.cleared Submit.submit Submit.submitting false
+submit_answers3 = answers3 _ _ _ _ of_submit
 
-pub submit_answers2 : Answers2 Submit.Typed Submit.compared Submit.capitalised Submit.blank (λ r. Submit.submit) Submit.submitting Submit.header_answer
-submit_answers2 = answers2 _ _ _ _ _ _ _ _ submit_back submit_counts
+pub deliver_answers3 : Answers3 Deliver.cleared Deliver.deliver Deliver.delivering false
+deliver_answers3 = answers3 _ _ _ _ of_deliver
 
-pub deliver_answers2 : Answers2 Deliver.Typed Deliver.cleared Deliver.capitalised Deliver.blank (λ r. Deliver.deliver) Deliver.delivering (λ r. fine)
-deliver_answers2 = answers2 _ _ _ _ _ _ _ _ deliver_back deliver_counts
+pub submit_report_ack_answers3 : Answers3 SubmitReport.cleared (SubmitReport.layout_of RpAck) SubmitReport.submit_reporting false
+submit_report_ack_answers3 = answers3 _ _ _ _ of_submit_report_ack
 
-pub submit_report_answers2 : Answers2 SubmitReport.Typed SubmitReport.cleared SubmitReport.capitalised SubmitReport.blank (λ r. SubmitReport.layout_of r.rp_outcome) SubmitReport.submit_reporting (λ r. fine)
-submit_report_answers2 = answers2 _ _ _ _ _ _ _ _ submit_report_back (submit_report_counts (λ r. 140))
+pub submit_report_error_answers3 : Answers3 SubmitReport.cleared (SubmitReport.layout_of RpError) SubmitReport.submit_reporting true
+submit_report_error_answers3 = answers3 _ _ _ _ of_submit_report_error
 
-pub deliver_report_answers2 : Answers2 DeliverReport.Typed DeliverReport.cleared (λ r. r) DeliverReport.blank (λ r. DeliverReport.layout_of r.rp_outcome) DeliverReport.deliver_reporting (λ r. fine)
-deliver_report_answers2 = answers2 _ _ _ _ _ _ _ _ deliver_report_back (deliver_report_counts (λ r. 140))
+pub deliver_report_ack_answers3 : Answers3 DeliverReport.cleared (DeliverReport.layout_of RpAck) DeliverReport.deliver_reporting false
+deliver_report_ack_answers3 = answers3 _ _ _ _ of_deliver_report_ack
 
-pub status_report_answers2 : Answers2 StatusReport.Typed StatusReport.cleared StatusReport.capitalised StatusReport.blank (λ r. StatusReport.status_report) StatusReport.status_reporting (λ r. fine)
-status_report_answers2 = answers2 _ _ _ _ _ _ _ _ status_report_back (status_report_counts 140)
+pub deliver_report_error_answers3 : Answers3 DeliverReport.cleared (DeliverReport.layout_of RpError) DeliverReport.deliver_reporting false
+deliver_report_error_answers3 = answers3 _ _ _ _ of_deliver_report_error
+
+pub status_report_answers3 : Answers3 StatusReport.cleared StatusReport.status_report StatusReport.status_reporting false
+status_report_answers3 = answers3 _ _ _ _ of_status_report
+
+pub submit_answers2 : Answers2 Submit.Typed Submit.compared Submit.capitalised (λ r. Submit.submit) Submit.submitting Submit.header_answer
+submit_answers2 = answers2 _ _ _ _ _ _ _ submit_back submit_counts
+
+pub deliver_answers2 : Answers2 Deliver.Typed Deliver.cleared Deliver.capitalised (λ r. Deliver.deliver) Deliver.delivering (λ r. fine)
+deliver_answers2 = answers2 _ _ _ _ _ _ _ deliver_back deliver_counts
+
+pub submit_report_answers2 : Answers2 SubmitReport.Typed SubmitReport.cleared SubmitReport.capitalised (λ r. SubmitReport.layout_of r.rp_outcome) SubmitReport.submit_reporting (λ r. fine)
+submit_report_answers2 = answers2 _ _ _ _ _ _ _ submit_report_back (submit_report_counts (λ r. 140))
+
+pub deliver_report_answers2 : Answers2 DeliverReport.Typed DeliverReport.cleared (λ r. r) (λ r. DeliverReport.layout_of r.rp_outcome) DeliverReport.deliver_reporting (λ r. fine)
+deliver_report_answers2 = answers2 _ _ _ _ _ _ _ deliver_report_back (deliver_report_counts (λ r. 140))
+
+pub status_report_answers2 : Answers2 StatusReport.Typed StatusReport.cleared StatusReport.capitalised (λ r. StatusReport.status_report) StatusReport.status_reporting (λ r. fine)
+status_report_answers2 = answers2 _ _ _ _ _ _ _ status_report_back (status_report_counts 140)
 
 -- ---- the three writers to the standard's limits
 
@@ -138,14 +172,14 @@ deliver_report_standard_back = deliver_report_demand2 (λ r. DeliverReport.stand
 pub status_report_standard_back : Demand2 StatusReport.Typed StatusReport.cleared StatusReport.capitalised (λ r. StatusReport.status_report) StatusReport.status_reporting_to_standard (λ r. fine) (λ r. false)
 status_report_standard_back = status_report_demand2 StatusReport.standard_limit
 
-pub submit_report_standard_answers2 : Answers2 SubmitReport.Typed SubmitReport.cleared SubmitReport.capitalised SubmitReport.blank (λ r. SubmitReport.layout_of r.rp_outcome) SubmitReport.submit_reporting_to_standard (λ r. fine)
-submit_report_standard_answers2 = answers2 _ _ _ _ _ _ _ _ submit_report_standard_back (submit_report_counts (λ r. SubmitReport.standard_limit r.tp_failure_cause))
+pub submit_report_standard_answers2 : Answers2 SubmitReport.Typed SubmitReport.cleared SubmitReport.capitalised (λ r. SubmitReport.layout_of r.rp_outcome) SubmitReport.submit_reporting_to_standard (λ r. fine)
+submit_report_standard_answers2 = answers2 _ _ _ _ _ _ _ submit_report_standard_back (submit_report_counts (λ r. SubmitReport.standard_limit r.tp_failure_cause))
 
-pub deliver_report_standard_answers2 : Answers2 DeliverReport.Typed DeliverReport.cleared (λ r. r) DeliverReport.blank (λ r. DeliverReport.layout_of r.rp_outcome) DeliverReport.deliver_reporting_to_standard (λ r. fine)
-deliver_report_standard_answers2 = answers2 _ _ _ _ _ _ _ _ deliver_report_standard_back (deliver_report_counts (λ r. DeliverReport.standard_limit r.tp_failure_cause))
+pub deliver_report_standard_answers2 : Answers2 DeliverReport.Typed DeliverReport.cleared (λ r. r) (λ r. DeliverReport.layout_of r.rp_outcome) DeliverReport.deliver_reporting_to_standard (λ r. fine)
+deliver_report_standard_answers2 = answers2 _ _ _ _ _ _ _ deliver_report_standard_back (deliver_report_counts (λ r. DeliverReport.standard_limit r.tp_failure_cause))
 
-pub status_report_standard_answers2 : Answers2 StatusReport.Typed StatusReport.cleared StatusReport.capitalised StatusReport.blank (λ r. StatusReport.status_report) StatusReport.status_reporting_to_standard (λ r. fine)
-status_report_standard_answers2 = answers2 _ _ _ _ _ _ _ _ status_report_standard_back (status_report_counts StatusReport.standard_limit)
+pub status_report_standard_answers2 : Answers2 StatusReport.Typed StatusReport.cleared StatusReport.capitalised (λ r. StatusReport.status_report) StatusReport.status_reporting_to_standard (λ r. fine)
+status_report_standard_answers2 = answers2 _ _ _ _ _ _ _ status_report_standard_back (status_report_counts StatusReport.standard_limit)
 
 -- a record that both of a kind's writers accept has equal octets from both, and each accepts exactly those that it would but for the limit
 pub submit_report_alike : Limits SubmitReport.submit_reporting_within (λ r. length (data_of r.tp_user_data))
@@ -190,20 +224,20 @@ status_report_cut = status_report_ends
 
 -- and of what the public functions answer
 
-pub submit_answers_cut : AnswersCut Submit.Typed Submit.compared Submit.capitalised Submit.blank (λ r. Submit.submit) Submit.submitting (λ r. none) (λ r. r)
-submit_answers_cut = answers_cut _ _ _ _ _ _ _ _ submit_cut submit_counts
+pub submit_answers_cut : AnswersCut Submit.Typed Submit.compared Submit.capitalised (λ r. Submit.submit) Submit.submitting (λ r. none) (λ r. r)
+submit_answers_cut = answers_cut _ _ _ _ _ _ _ submit_cut submit_counts
 
-pub deliver_answers_cut : AnswersCut Deliver.Typed Deliver.cleared Deliver.capitalised Deliver.blank (λ r. Deliver.deliver) Deliver.delivering (λ r. none) (λ r. r)
-deliver_answers_cut = answers_cut _ _ _ _ _ _ _ _ deliver_cut deliver_counts
+pub deliver_answers_cut : AnswersCut Deliver.Typed Deliver.cleared Deliver.capitalised (λ r. Deliver.deliver) Deliver.delivering (λ r. none) (λ r. r)
+deliver_answers_cut = answers_cut _ _ _ _ _ _ _ deliver_cut deliver_counts
 
 pub submit_report_answers_cut : (limitOf : SmsSubmitReport → ℕ)
-    → AnswersCut SubmitReport.Typed SubmitReport.cleared SubmitReport.capitalised SubmitReport.blank (λ r. SubmitReport.layout_of r.rp_outcome) (λ r. SubmitReport.submit_reporting_within (limitOf r) r) (λ r. none) (λ r. r)
-submit_report_answers_cut limitOf = answers_cut _ _ _ _ _ _ _ _ (submit_report_cut limitOf) (submit_report_counts limitOf)
+    → AnswersCut SubmitReport.Typed SubmitReport.cleared SubmitReport.capitalised (λ r. SubmitReport.layout_of r.rp_outcome) (λ r. SubmitReport.submit_reporting_within (limitOf r) r) (λ r. none) (λ r. r)
+submit_report_answers_cut limitOf = answers_cut _ _ _ _ _ _ _ (submit_report_cut limitOf) (submit_report_counts limitOf)
 
 pub deliver_report_answers_cut : (limitOf : SmsDeliverReport → ℕ)
-    → AnswersCut DeliverReport.Typed DeliverReport.cleared (λ r. r) DeliverReport.blank (λ r. DeliverReport.layout_of r.rp_outcome) (λ r. DeliverReport.deliver_reporting_within (limitOf r) r) (λ r. none) (λ r. r)
-deliver_report_answers_cut limitOf = answers_cut _ _ _ _ _ _ _ _ (deliver_report_cut limitOf) (deliver_report_counts limitOf)
+    → AnswersCut DeliverReport.Typed DeliverReport.cleared (λ r. r) (λ r. DeliverReport.layout_of r.rp_outcome) (λ r. DeliverReport.deliver_reporting_within (limitOf r) r) (λ r. none) (λ r. r)
+deliver_report_answers_cut limitOf = answers_cut _ _ _ _ _ _ _ (deliver_report_cut limitOf) (deliver_report_counts limitOf)
 
 pub status_report_answers_cut : (limit : ℕ)
-    → AnswersCut StatusReport.Typed StatusReport.cleared StatusReport.capitalised StatusReport.blank (λ r. StatusReport.status_report) (StatusReport.status_reporting_within limit) cut_after_status without_indicator
-status_report_answers_cut limit = answers_cut _ _ _ _ _ _ _ _ (status_report_cut limit) (status_report_counts limit)
+    → AnswersCut StatusReport.Typed StatusReport.cleared StatusReport.capitalised (λ r. StatusReport.status_report) (StatusReport.status_reporting_within limit) cut_after_status without_indicator
+status_report_answers_cut limit = answers_cut _ _ _ _ _ _ _ (status_report_cut limit) (status_report_counts limit)

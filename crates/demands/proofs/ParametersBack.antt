@@ -1,5 +1,6 @@
 -- Parameters that pass the checks are read back as they were written.
 -- Assumes nothing.
+use Rattle.std.specs.Prelude.{Some, None, Option}
 use Prim.Native.Nat.{ℕ, ◌+◌, ◌*◌, ◌%◌, ◌≤◌}
 use mathlib.Core.Path.{◌≡◌, refl, sym, ap, ◌∙◌}
 use mathlib.Core.Bool.{Bool, true, false, not, false≢true}
@@ -20,8 +21,6 @@ use Rattle.layout.proofs.Beginnings.{endless_then}
 use Rattle.layout.proofs.Steps.{then_goes_on}
 use Rattle.parameters.specs.Optional.{octets_held, held, or_zero}
 use Rattle.parameters.specs.Parameters.{Parameters, parameters_octets}
-use Rattle.parameters.specs.declared.OptionalOctet.{OptionalOctet}
-use Rattle.parameters.specs.declared.OptionalOctet.TheVariants.{Absent, Present}
 use Rattle.parameters.proofs.Checking.{data_few}
 use Rattle.parameters.proofs.Laws.{one_at_most}
 use Rattle.parameters.specs.Checking.{indicator_checks, data_within}
@@ -42,9 +41,9 @@ announced_endless : (b : Bool) → Endless (announced b)
 announced_endless true = λ c. tt
 announced_endless false = tt
 
-data_endless : (dcs udl : OptionalOctet) → Endless (data_for dcs udl)
-data_endless dcs Absent = tt
-data_endless dcs (Present udl) = λ c. tt
+data_endless : (dcs udl : Option ℕ) → Endless (data_for dcs udl)
+data_endless dcs None = tt
+data_endless dcs (Some udl) = λ c. tt
 
 pub endless : (pi : ℕ) → Endless (parameters pi)
 unfolding parameters
@@ -58,29 +57,29 @@ parameters_endless pi next = endless_then (parameters pi) next (endless pi)
 -- ---- the fields of parameters
 
 -- an octet that is held or not
-abbrev pub optional : OptionalOctet → List Field
-optional Absent = []
-optional (Present x) = stands_as octet (x ∷ []) ∷ []
+abbrev pub optional : Option ℕ → List Field
+optional None = []
+optional (Some x) = stands_as octet (x ∷ []) ∷ []
 
-abbrev data_fields : OptionalOctet → OptionalOctet → List ℕ → List Field
-data_fields dcs Absent ud = []
-data_fields dcs (Present udl) ud = stands_as (user_data (data_octets (coding_of (or_zero dcs)) udl)) ud ∷ []
+abbrev data_fields : Option ℕ → Option ℕ → List ℕ → List Field
+data_fields dcs None ud = []
+data_fields dcs (Some udl) ud = stands_as (user_data (data_octets (coding_of (or_zero dcs)) udl)) ud ∷ []
 
 abbrev pub parts : Parameters → List Field
 parts p = optional p.pid ++ (optional p.dcs ++ (optional p.udl ++ (data_fields p.dcs p.udl p.ud ++ [])))
 
-pub optional_joined : (o : OptionalOctet) → joined (optional o) ≡ octets_held o
-optional_joined Absent = refl
-optional_joined (Present x) = refl
+pub optional_joined : (o : Option ℕ) → joined (optional o) ≡ octets_held o
+optional_joined None = refl
+optional_joined (Some x) = refl
 
-announced_called : (o : OptionalOctet) (b pi : ℕ) → held o ≡ bit b pi → Calls (announced (is_set b pi)) (optional o) o
-announced_called Absent b pi h = rw (ne_eqb (bit b pi) 1 (λ e. omega arith)) refl
-announced_called (Present x) b pi h = rw (eq-eqb (bit b pi) 1 (sym h)) (refl, refl, refl)
+announced_called : (o : Option ℕ) (b pi : ℕ) → held o ≡ bit b pi → Calls (announced (is_set b pi)) (optional o) o
+announced_called None b pi h = rw (ne_eqb (bit b pi) 1 (λ e. omega arith)) refl
+announced_called (Some x) b pi h = rw (eq-eqb (bit b pi) 1 (sym h)) (refl, refl, refl)
 
-data_called : (limit : ℕ) (dcs udl : OptionalOctet) (ud : List ℕ) → found (data_within limit dcs udl (length ud)) ≡ fine → Calls (data_for dcs udl) (data_fields dcs udl ud) ud × (joined (data_fields dcs udl ud) ≡ ud)
-data_called limit dcs Absent [] h = (refl, refl)
-data_called limit dcs Absent (x ∷ ud) h = absurd (omega (arith, (data_few limit dcs Absent (length (x ∷ ud)) h).0))
-data_called limit dcs (Present udl) ud h = ((sym (data_few limit dcs (Present udl) (length ud) h).0, refl, refl), append-nil ud)
+data_called : (limit : ℕ) (dcs udl : Option ℕ) (ud : List ℕ) → found (data_within limit dcs udl (length ud)) ≡ fine → Calls (data_for dcs udl) (data_fields dcs udl ud) ud × (joined (data_fields dcs udl ud) ≡ ud)
+data_called limit dcs None [] h = (refl, refl)
+data_called limit dcs None (x ∷ ud) h = absurd (omega (arith, (data_few limit dcs None (length (x ∷ ud)) h).0))
+data_called limit dcs (Some udl) ud h = ((sym (data_few limit dcs (Some udl) (length ud) h).0, refl, refl), append-nil ud)
 
 module _ (limit pi : ℕ) (p : Parameters) (i : found (indicator_checks pi p.pid p.dcs p.udl) ≡ fine) (d : found (data_within limit p.dcs p.udl (length p.ud)) ≡ fine) where
   both : (eqb (pi % 8) (held p.pid + 2 * held p.dcs + 4 * held p.udl) ≡ true) × (not (is_set 7 pi) ≡ true)

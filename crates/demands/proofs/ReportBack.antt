@@ -1,6 +1,7 @@
 -- Demand 2 of document 01 for both reports: what was written is read back by the reader of its outcome as the same record, time letters capital.
 -- And each proper beginning of it is refused with 2 (document 02, Ask 9).
 -- Assumes nothing.
+use Rattle.std.specs.Prelude.{Some, None, Option}
 use Prim.Native.Nat.{ℕ, ◌+◌, ◌≤◌, ◌<◌}
 use mathlib.Core.Path.{◌≡◌, refl, sym, ap, ap₂, ◌∙◌}
 use mathlib.Core.Bool.{Bool, true, false, false≢true, and-false}
@@ -11,7 +12,7 @@ use native.Mathlib.Omega.{arith}
 use borrow.Author.Tests.{eq-eqb}
 use lib.Bits.{bit_and}
 use lib.ListN.{length, length-append}
-use Rattle.octets.specs.Answers.{Said, gives, fine}
+use Rattle.octets.specs.Answers.{fine}
 use Rattle.octets.specs.Checks.{◌unless◌, found}
 use Rattle.octets.specs.Lent.{Making, made}
 use Rattle.octets.specs.declared.Refusal.TheVariants.{NotATime}
@@ -27,8 +28,6 @@ use Rattle.parameters.specs.Checking.{indicator_checks, data_within}
 use Rattle.parameters.specs.Optional.{held}
 use Rattle.parameters.specs.Parameters.{parameters_octets}
 use Rattle.parameters.specs.Outcome.{outcome_agrees}
-use Rattle.parameters.specs.declared.OptionalOctet.{OptionalOctet}
-use Rattle.parameters.specs.declared.OptionalOctet.TheVariants.{Absent, Present}
 use Rattle.parameters.specs.declared.RpOutcome.{RpOutcome}
 use Rattle.parameters.specs.declared.RpOutcome.TheVariants.{RpAck, RpError}
 use Rattle.parameters.specs.Layout.{parameters}
@@ -73,7 +72,7 @@ module _ (mti : ℕ) (low : mti < 4) (free : (udhi : Bool) → bit_and (first_oc
         let last : joined (parts x.parameters ++ []) ≡ parameters_octets x.parameters = ap joined (append-nil (parts x.parameters)) ∙ parts_joined limit x.indicator x.parameters its_checks.0 its_checks.1 in
         ap (λ (l : List ℕ). first_octet mti flags ∷ l) (joined_append (optional x.cause) rest ∙ ap₂ ◌++◌ (optional_joined x.cause) (ap (λ (l : List ℕ). x.indicator ∷ x.scts ++ l) last))
 
-    rest_called : (outcome : RpOutcome) (udhi : Bool) (cause : OptionalOctet) → x.outcome ≡ outcome → x.udhi ≡ udhi → x.cause ≡ cause → Calls (after_cause hasTime outcome udhi cause) rest x
+    rest_called : (outcome : RpOutcome) (udhi : Bool) (cause : Option ℕ) → x.outcome ≡ outcome → x.udhi ≡ udhi → x.cause ≡ cause → Calls (after_cause hasTime outcome udhi cause) rest x
     unfolding indicator_size
     rest_called outcome udhi cause o u c =
         let p = x.parameters in
@@ -87,14 +86,14 @@ module _ (mti : ℕ) (low : mti < 4) (free : (udhi : Bool) → bit_and (first_oc
           ),
         )
 
-    called : (outcome : RpOutcome) (cause : OptionalOctet) → outcome_agrees outcome cause ≡ true → x.outcome ≡ outcome → x.cause ≡ cause
+    called : (outcome : RpOutcome) (cause : Option ℕ) → outcome_agrees outcome cause ≡ true → x.outcome ≡ outcome → x.cause ≡ cause
         → Calls (format mti hasTime outcome) (stands_as (first (6 ∷ [])) (first_octet mti flags ∷ []) ∷ optional cause ++ rest) x
     unfolding format
-    called RpAck Absent a o c = (refl, ap (λ (n : ℕ). n ∷ []) (first_kept mti low flags refl), (eq-eqb _ mti (first_type mti low flags refl), rest_called RpAck _ Absent o (sym (first_flag mti low flags refl 6 refl)) c))
-    called RpAck (Present y) a o c = absurd (false≢true a)
-    called RpError Absent a o c = absurd (false≢true a)
-    called RpError (Present y) a o c =
-        (refl, ap (λ (n : ℕ). n ∷ []) (first_kept mti low flags refl), (eq-eqb _ mti (first_type mti low flags refl), (refl, refl, rest_called RpError _ (Present y) o (sym (first_flag mti low flags refl 6 refl)) c)))
+    called RpAck None a o c = (refl, ap (λ (n : ℕ). n ∷ []) (first_kept mti low flags refl), (eq-eqb _ mti (first_type mti low flags refl), rest_called RpAck _ None o (sym (first_flag mti low flags refl 6 refl)) c))
+    called RpAck (Some y) a o c = absurd (false≢true a)
+    called RpError None a o c = absurd (false≢true a)
+    called RpError (Some y) a o c =
+        (refl, ap (λ (n : ℕ). n ∷ []) (first_kept mti low flags refl), (eq-eqb _ mti (first_type mti low flags refl), (refl, refl, rest_called RpError _ (Some y) o (sym (first_flag mti low flags refl 6 refl)) c)))
 
     from_format : read_from (format mti hasTime x.outcome) (octets_of mti x) 0 ≡ reached x (length (octets_of mti x))
     unfolding read_from
@@ -126,12 +125,12 @@ pub record Told {R : Type 0} (mti : ℕ) (low : mti < 4) (free : (udhi : Bool) �
   pub same : Typed r → cleared (make (fields_in r)) ≡ capitalised (cleared r)
 
 module _ {R : Type 0} (mti : ℕ) (low : mti < 4) (free : (udhi : Bool) → bit_and (first_octet mti ((6, udhi) ∷ [])) 0xbc ≡ 0) (hasTime : Bool) (make : Fields → R) (fields_in : R → Fields) (Typed : R → Type 0) (cleared capitalised : R → R)
-    (within : ℕ → R → Making (Said ℕ)) (told : (limit : ℕ) (r : R) (os : List ℕ) (answer : Said ℕ) → within limit r ≡ made os answer → Told mti low free hasTime make fields_in Typed cleared capitalised limit r os) where
+    (within : ℕ → R → Making ℕ) (told : (limit : ℕ) (r : R) (os : List ℕ) (answer : ℕ) → within limit r ≡ made os answer → Told mti low free hasTime make fields_in Typed cleared capitalised limit r os) where
   abbrev layout_for : R → Layout R
   layout_for r = records make (layout_of mti hasTime (fields_in r).outcome)
 
   -- it is read back, to its end
-  read_back : (limit : ℕ) (r : R) (os : List ℕ) (answer : Said ℕ) → within limit r ≡ made os answer → read (layout_for r) os ≡ reached (make (fields_in r)) (length os)
+  read_back : (limit : ℕ) (r : R) (os : List ℕ) (answer : ℕ) → within limit r ≡ made os answer → read (layout_for r) os ≡ reached (make (fields_in r)) (length os)
   read_back limit r os answer e =
       let t = told limit r os answer e in
       let l = layout_of mti hasTime (fields_in r).outcome in
@@ -139,17 +138,17 @@ module _ {R : Type 0} (mti : ℕ) (low : mti < 4) (free : (udhi : Bool) → bit_
       ∙ ap (λ (s : List ℕ). reached (make (fields_in r)) (length s)) t.is
 
   -- at most so much is written
-  pub at_most_within : (limit : ℕ) (r : R) (os : List ℕ) (answer : Said ℕ) → within limit r ≡ made os answer → length os ≤ 5 + held (fields_in r).cause + time_size hasTime + limit
+  pub at_most_within : (limit : ℕ) (r : R) (os : List ℕ) (answer : ℕ) → within limit r ≡ made os answer → length os ≤ 5 + held (fields_in r).cause + time_size hasTime + limit
   at_most_within limit r os answer e = let t = told limit r os answer e in rw (← t.is) (fields_at_most mti low free hasTime limit (fields_in r) t.passed)
 
   -- the writer within the limit of each record
   module _ (limitOf : R → ℕ) where
     pub report_demand2 : Demand2 Typed cleared capitalised layout_for (λ r. within (limitOf r) r) (λ r. fine) (λ r. false)
     report_demand2 = record {
-      back = λ r t os n e x. (make (fields_in r), length os, read_back (limitOf r) r os (gives n) e, (told (limitOf r) r os (gives n) e).same t);
+      back = λ r t os n e x. (make (fields_in r), length os, read_back (limitOf r) r os n e, (told (limitOf r) r os n e).same t);
       excepted = λ r t os n e why x. absurd (never x);
       only = λ r why x. absurd (never x);
     }
 
     pub report_ends : Cut Typed cleared capitalised layout_for (λ r. within (limitOf r) r) (λ r. none) (λ r. r)
-    report_ends = cut_always _ _ _ _ _ λ r t os n e. cut_read (layout_for r) (endless_outcome mti hasTime make (fields_in r).outcome) os (read_back (limitOf r) r os (gives n) e)
+    report_ends = cut_always _ _ _ _ _ λ r t os n e. cut_read (layout_for r) (endless_outcome mti hasTime make (fields_in r).outcome) os (read_back (limitOf r) r os n e)

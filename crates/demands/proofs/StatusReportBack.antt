@@ -1,6 +1,7 @@
 -- Demand 2 of document 01 for SMS-STATUS-REPORT: what was written is read back as the same record, the letters of both times capital.
 -- And each proper beginning of it is refused with 2; cut just after status, where an indicator follows, it is read as the same record with no indicator, parameters or user data (document 02, Ask 9).
 -- Assumes nothing.
+use Rattle.std.specs.Prelude.{Some, None, Option}
 use Prim.Native.Nat.{ℕ, ◌+◌, ◌-◌, ◌≤◌, ◌<◌}
 use mathlib.Core.Path.{◌≡◌, refl, sym, ap, ◌∙◌}
 use mathlib.Core.Bool.{Bool, true, false}
@@ -13,7 +14,7 @@ use borrow.Author.Tests.{eqb-true, eq-eqb, ltb-true, ltb-false}
 use lib.Dec.{eqb, ltb}
 use lib.ListN.{length, take, drop, length-append, length-drop}
 use lib.Seq.{length-take-le, drop_at, drop-drop, take_at, take-append-le, take-append-add}
-use Rattle.octets.specs.Answers.{Said, gives, fine}
+use Rattle.octets.specs.Answers.{fine}
 use Rattle.octets.specs.Checks.{◌unless◌, found, all_fit}
 use Rattle.octets.specs.Lent.{made}
 use Rattle.octets.specs.declared.Refusal.TheVariants.{LengthTooLarge, OctetsEnd, NotATime, ParametersWithoutIndicator}
@@ -35,8 +36,6 @@ use Rattle.layout.proofs.Steps.{done_reached, end_not_reached, then_goes_on, the
 use Rattle.parameters.specs.Checking.{indicator_checks, data_within}
 use Rattle.parameters.specs.Optional.{octets_held, held}
 use Rattle.parameters.specs.Parameters.{Parameters, no_parameters, parameters_octets}
-use Rattle.parameters.specs.declared.OptionalOctet.{OptionalOctet}
-use Rattle.parameters.specs.declared.OptionalOctet.TheVariants.{Absent, Present}
 use Rattle.status_report.specs.Layout.{Fields, bits, fields}
 use Rattle.status_report.specs.Internal.{fields_with, after_status}
 use Rattle.status_report.specs.StatusReport.{status_reported, format, status_report, lengths_of, flags_of, parameters_of, optional_checks, status_reporting_within, status_reporting, status_reporting_to_standard, cleared, capitalised, Typed}
@@ -78,50 +77,50 @@ module _ (r : SmsStatusReport) where
     pub optional : found (optional_checks limit r.tp_parameter_indicator (parameters_of r)) ≡ fine
 
 -- indicator and parameters that pass have at most four octets more than the user data may
-optional_size_lem : (limit : ℕ) (pi : OptionalOctet) (p : Parameters) → found (optional_checks limit pi p) ≡ fine → length (octets_held pi) + length (parameters_octets p) ≤ 4 + limit
+optional_size_lem : (limit : ℕ) (pi : Option ℕ) (p : Parameters) → found (optional_checks limit pi p) ≡ fine → length (octets_held pi) + length (parameters_octets p) ≤ 4 + limit
 unfolding optional_checks
-optional_size_lem limit Absent p h = omega (arith, eqb-true (length (parameters_octets p)) 0 (holds ParametersWithoutIndicator (eqb (length (parameters_octets p)) 0) [] h).0)
-optional_size_lem limit (Present i) p h =
+optional_size_lem limit None p h = omega (arith, eqb-true (length (parameters_octets p)) 0 (holds ParametersWithoutIndicator (eqb (length (parameters_octets p)) 0) [] h).0)
+optional_size_lem limit (Some i) p h =
     let (x, d) = both_hold (indicator_checks i p.pid p.dcs p.udl) (data_within limit p.dcs p.udl (length p.ud)) h in
     simp length-append (omega (arith, parameters_limit limit p d))
 
 -- ---- octets in the layout's order are read as the fields that they are, to their end
 
 -- no indicator: the string ends, and nothing is held
-none_read : (make : OptionalOctet → Parameters → Fields) (pid dcs udl : OptionalOctet) (ud : List ℕ) (at : ℕ) → held pid + held dcs + held udl + length ud ≡ 0
-    → let p : Parameters = record { pid = pid; dcs = dcs; udl = udl; ud = ud } in reading (after_status make) (parameters_octets p) at ≡ reached (make Absent p) at
+none_read : (make : Option ℕ → Parameters → Fields) (pid dcs udl : Option ℕ) (ud : List ℕ) (at : ℕ) → held pid + held dcs + held udl + length ud ≡ 0
+    → let p : Parameters = record { pid = pid; dcs = dcs; udl = udl; ud = ud } in reading (after_status make) (parameters_octets p) at ≡ reached (make None p) at
 unfolding after_status reading
-none_read make Absent Absent Absent [] at h = refl
-none_read make Absent Absent Absent (x ∷ ud) at h = absurd (omega arith)
-none_read make Absent Absent (Present x) ud at h = absurd (omega arith)
-none_read make Absent (Present x) udl ud at h = absurd (omega arith)
-none_read make (Present x) dcs udl ud at h = absurd (omega arith)
+none_read make None None None [] at h = refl
+none_read make None None None (x ∷ ud) at h = absurd (omega arith)
+none_read make None None (Some x) ud at h = absurd (omega arith)
+none_read make None (Some x) udl ud at h = absurd (omega arith)
+none_read make (Some x) dcs udl ud at h = absurd (omega arith)
 
-module _ (limit : ℕ) (make : OptionalOctet → Parameters → Fields) (p : Parameters) (s : List ℕ) (at : ℕ) (inside : at ≤ length s) where
-  optional_read : (pi : OptionalOctet) → found (optional_checks limit pi p) ≡ fine → drop at s ≡ octets_held pi ++ parameters_octets p → read_from (after_status make) s at ≡ reached (make pi p) (length s)
+module _ (limit : ℕ) (make : Option ℕ → Parameters → Fields) (p : Parameters) (s : List ℕ) (at : ℕ) (inside : at ≤ length s) where
+  optional_read : (pi : Option ℕ) → found (optional_checks limit pi p) ≡ fine → drop at s ≡ octets_held pi ++ parameters_octets p → read_from (after_status make) s at ≡ reached (make pi p) (length s)
   unfolding optional_checks after_status read_from
-  optional_read Absent h e =
+  optional_read None h e =
       let z = simp length-append at (eqb-true (length (parameters_octets p)) 0 (holds ParametersWithoutIndicator (eqb (length (parameters_octets p)) 0) [] h).0) in
       let n : at ≡ length s = omega (arith, length-drop at s, simp length-append at (ap length e), z) in
-      ap (λ (l : List ℕ). reading (after_status make) l at) e ∙ none_read make p.pid p.dcs p.udl p.ud at (omega (arith, z)) ∙ ap (reached (make Absent p)) n
-  optional_read (Present pi) h e =
+      ap (λ (l : List ℕ). reading (after_status make) l at) e ∙ none_read make p.pid p.dcs p.udl p.ud at (omega (arith, z)) ∙ ap (reached (make None p)) n
+  optional_read (Some pi) h e =
       let (i, d) = both_hold (indicator_checks pi p.pid p.dcs p.udl) (data_within limit p.dcs p.udl (length p.ud)) h in
       let n : at + 1 + held p.pid + held p.dcs + held p.udl + length p.ud ≡ length s = omega (arith, length-drop at s, simp length-append at (ap length e)) in
       end_not_reached s at _ _ (omega arith) ∙ indicator_here s at e _ (not_extended limit pi p i d) ∙ parameters_here limit pi p i d s (at + 1) (sym (drop-drop 1 at s) ∙ ap (drop 1) e) _
-      ∙ done_reached s _ _ ∙ ap (reached (make (Present pi) p)) n
+      ∙ done_reached s _ _ ∙ ap (reached (make (Some pi) p)) n
 
 -- octets follow status exactly where an indicator is held
-followed : (limit : ℕ) (pi : OptionalOctet) (p : Parameters) {n : ℕ} → found (optional_checks limit pi p) ≡ fine → 0 < length (octets_held pi ++ parameters_octets p) → if_held pi n ≡ some n
+followed : (limit : ℕ) (pi : Option ℕ) (p : Parameters) {n : ℕ} → found (optional_checks limit pi p) ≡ fine → 0 < length (octets_held pi ++ parameters_octets p) → if_held pi n ≡ some n
 unfolding optional_checks
-followed limit Absent p h more = absurd (omega (arith, eqb-true (length (parameters_octets p)) 0 (holds ParametersWithoutIndicator (eqb (length (parameters_octets p)) 0) [] h).0))
-followed limit (Present pi) p h more = refl
+followed limit None p h more = absurd (omega (arith, eqb-true (length (parameters_octets p)) 0 (holds ParametersWithoutIndicator (eqb (length (parameters_octets p)) 0) [] h).0))
+followed limit (Some pi) p h more = refl
 
-is_followed : (pi : OptionalOctet) (p : Parameters) {n k : ℕ} → if_held pi n ≡ some k → (k ≡ n) × (0 < length (octets_held pi ++ parameters_octets p))
-is_followed Absent p {k = k} e = absurd (none-ne-some k e)
-is_followed (Present pi) p e = ((cc), omega arith)
+is_followed : (pi : Option ℕ) (p : Parameters) {n k : ℕ} → if_held pi n ≡ some k → (k ≡ n) × (0 < length (octets_held pi ++ parameters_octets p))
+is_followed None p {k = k} e = absurd (none-ne-some k e)
+is_followed (Some pi) p e = ((cc), omega arith)
 
 -- the layout in two: the fields up to status; and what follows it
-abbrev to_status : Format (OptionalOctet → Parameters → Fields)
+abbrev to_status : Format (Option ℕ → Parameters → Fields)
 to_status = message 2 bits λ first. one λ mr. field address λ ra. time λ scts. time λ dt. one λ st. done (fields_with first mr ra scts dt st)
 
 in_two : fields ≡ (to_status then after_status)
@@ -132,7 +131,7 @@ never_read : {R : Type 0} {x : R} {n : ℕ} → halted OctetsEnd ≡ reached x n
 never_read e = let z : ◌≡◌ {A = ℕ} 0 1 = cc in omega arith
 
 -- the fields of a record, by what follows status
-abbrev fields_of : SmsStatusReport → OptionalOctet → Parameters → Fields
+abbrev fields_of : SmsStatusReport → Option ℕ → Parameters → Fields
 fields_of r = fields_with (first_octet 2 (flags_of r)) r.tp_mr (recipient_octets r) (time_octets (stamp r)) (time_octets (late r)) r.tp_status
 
 module _ {limit : ℕ} {os : List ℕ} (r : SmsStatusReport) (p : Passed r limit os) where
@@ -166,7 +165,7 @@ module _ {limit : ℕ} {os : List ℕ} (r : SmsStatusReport) (p : Passed r limit
   fields_read more = ap (λ (l : Format Fields). read_from l (front r ++ more) 0) in_two ∙ then_goes_on (front r ++ more) to_status 0 (status_read more) after_status
 
   -- what follows status and passes the checks
-  written_read : (pi : OptionalOctet) (held : Parameters) → found (optional_checks limit pi held) ≡ fine
+  written_read : (pi : Option ℕ) (held : Parameters) → found (optional_checks limit pi held) ≡ fine
       → let s = front r ++ (octets_held pi ++ parameters_octets held) in read_from fields s 0 ≡ reached (fields_of r pi held) (length s)
   written_read pi held h =
       let more = octets_held pi ++ parameters_octets held in
@@ -210,7 +209,7 @@ same_record r ra scts dt ea et eu ed =
 
 -- ---- a record
 
-module _ {os : List ℕ} {answer : Said ℕ} (limit : ℕ) (r : SmsStatusReport) (e : status_reporting_within limit r ≡ made os answer) where
+module _ {os : List ℕ} {answer : ℕ} (limit : ℕ) (r : SmsStatusReport) (e : status_reporting_within limit r ≡ made os answer) where
   passed : Passed r limit os
   unfolding status_reporting_within
   passed =
@@ -235,7 +234,7 @@ module _ {os : List ℕ} {answer : Said ℕ} (limit : ℕ) (r : SmsStatusReport)
 
   -- as the same record; and what is read where no indicator follows is the record without it
   record_back : Typed r
-      → (cleared (status_reported (fields_of r r.tp_parameter_indicator (parameters_of r))) ≡ capitalised (cleared r)) × (cleared (status_reported (fields_of r Absent no_parameters)) ≡ capitalised (cleared (without_indicator r)))
+      → (cleared (status_reported (fields_of r r.tp_parameter_indicator (parameters_of r))) ≡ capitalised (cleared r)) × (cleared (status_reported (fields_of r None no_parameters)) ≡ capitalised (cleared (without_indicator r)))
   unfolding data_with
   record_back (ha, ht, hu, hd) =
       let p = passed in
@@ -267,13 +266,13 @@ module _ {os : List ℕ} {answer : Said ℕ} (limit : ℕ) (r : SmsStatusReport)
       by false false before after = absurd (other (omega (arith, ltb-false k (up_to_status r) before, ltb-false (up_to_status r) k after)))
 
   -- that one is a proper beginning where an indicator follows, and is read to its end
-  status_back : {k : ℕ} → cut_after_status r ≡ some k → (k < length os) × (read status_report (take k os) ≡ reached (status_reported (fields_of r Absent no_parameters)) k)
+  status_back : {k : ℕ} → cut_after_status r ≡ some k → (k < length os) × (read status_report (take k os) ≡ reached (status_reported (fields_of r None no_parameters)) k)
   unfolding optional_checks
   status_back x =
       let (same, more) = is_followed r.tp_parameter_indicator (parameters_of r) x in
       let here : take (up_to_status r) os ≡ front r ++ [] = ap (take (up_to_status r)) (sym passed.is) ∙ take_at (front r) (rest r) (up_to_status r) (up_to_status_lem r passed) ∙ sym (append-nil (front r)) in (
         omega (arith, sizes r passed (rest r), ap length passed.is),
-        rw same (ap (read status_report) here ∙ to_record (front r ++ []) (written_read r passed Absent no_parameters refl) ∙ ap (reached (status_reported (fields_of r Absent no_parameters))) (omega (arith, sizes r passed []))),
+        rw same (ap (read status_report) here ∙ to_record (front r ++ []) (written_read r passed None no_parameters refl) ∙ ap (reached (status_reported (fields_of r None no_parameters))) (omega (arith, sizes r passed []))),
       )
 
 -- ---- the writer within a limit
@@ -291,16 +290,16 @@ module _ (limit : ℕ) where
     ends = λ r t octets n e k h x.
         let p = passed limit r e in
         cut_back limit r e k h λ same. x (rw same (followed limit r.tp_parameter_indicator (parameters_of r) p.optional (omega (arith, sizes r p (rest r), ap length p.is))));
-    takes = λ r t octets n e k x. let (h, is) = status_back limit r e x in (h, status_reported (fields_of r Absent no_parameters), is, (record_back limit r e t).1);
+    takes = λ r t octets n e k x. let (h, is) = status_back limit r e x in (h, status_reported (fields_of r None no_parameters), is, (record_back limit r e t).1);
   }
 
-  pub status_report_counts : (r : SmsStatusReport) (xs : List ℕ) (a : Said ℕ) → status_reporting_within limit r ≡ made xs a → a ≡ gives (length xs)
+  pub status_report_counts : (r : SmsStatusReport) (xs : List ℕ) (a : ℕ) → status_reporting_within limit r ≡ made xs a → a ≡ length xs
   unfolding status_reporting_within
   status_report_counts r xs a e = made_counts _ _ e
 
 -- ---- how much is written
 
-module _ (r : SmsStatusReport) {os : List ℕ} {answer : Said ℕ} where
+module _ (r : SmsStatusReport) {os : List ℕ} {answer : ℕ} where
   pub at_most : status_reporting r ≡ made os answer → length os ≤ 173
   at_most e = at_most_within 140 r e
 

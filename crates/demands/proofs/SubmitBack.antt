@@ -11,9 +11,8 @@ use borrow.Author.Tests.{eqb-true, eqb-false, le-leb}
 use lib.Dec.{eqb}
 use lib.ListN.{length, take}
 use lib.Seq.{length-take-le}
-use Rattle.octets.specs.Answers.{Said, gives, refuses}
 use Rattle.octets.specs.Arrays.{pad}
-use Rattle.std.specs.Prelude.{if◌then◌else◌}
+use Rattle.std.specs.Prelude.{if◌then◌else◌, Err, Option, Some}
 use Rattle.octets.specs.Choice.{length_if}
 use Rattle.octets.specs.Lent.{made}
 use Rattle.octets.specs.declared.Refusal.{Refusal}
@@ -28,8 +27,8 @@ use Rattle.user_data_header.specs.Header.{in_count}
 use Rattle.time.specs.Time.{time_in, time_digits, capitals, digits_of, cleared_time, capital_time, TypedTime}
 use Rattle.time.specs.declared.Time.{Time}
 use Rattle.time.proofs.Laws.{time_back}
-use Rattle.address.specs.Writing.{address_octets, octets_or}
 use Rattle.address.specs.Address.{address_in, cleared_address, text_held}
+use Rattle.address.specs.declared.SMSAddress.{SMSAddress}
 use Rattle.address.proofs.Laws.{Spelled, address_passed, address_held}
 use Rattle.layout.specs.Cut.{Cut}
 use Rattle.layout.specs.Demand.{Demand2}
@@ -41,7 +40,7 @@ use Rattle.validity_period.specs.declared.ValidityPeriod.{ValidityPeriod}
 use Rattle.validity_period.proofs.Period.{period_size_lem}
 use Rattle.submit.specs.declared.SmsSubmit.{SmsSubmit}
 use Rattle.submit.specs.Layout.{Fields, format_in, header_size, bits}
-use Rattle.submit.specs.Submit.{submitted, submit, first_of, submitting, header_answer, underived, compared, capitalised, Typed}
+use Rattle.submit.specs.Submit.{submitted, submit, first_of, destination_octets, submitting, header_answer, underived, compared, capitalised, Typed}
 use Rattle.submit.proofs.CheckByCheck.{Passed, all_passed}
 use Rattle.submit.proofs.Demand.{made_cleared}
 use Rattle.demands.proofs.SubmitWritten.{ends, written_read, written_cut}
@@ -106,32 +105,37 @@ period_back ValidityPeriod.Enhanced t enhanced n few seven h = (refl, refl, pad_
 
 -- ---- the record that the octets make
 
-same_record : (r : SmsSubmit) (f : ℕ) → Tells r f → r.tp_mti ≡ 1 → r.has_destination_address ≡ true → (da vp : List ℕ) → address_in da ≡ cleared_address r.tp_destination_address → (let p = r.tp_validity_period in
+same_record : (r : SmsSubmit) (f : ℕ) → Tells r f → r.tp_mti ≡ 1 → {to : SMSAddress} → r.tp_destination_address ≡ Some to → (da vp : List ℕ) → address_in da ≡ cleared_address to → (let p = r.tp_validity_period in
     period_in (format_in f) vp ≡ p → time_in (of_format 3 (format_in f) vp) ≡ capital_time (if is_absolute p then cleared_time r.validity_period_digits else time_in [])
     → pad 7 (of_format 1 (format_in f) vp) ≡ (if eqb (format_of p) 1 then r.validity_period_octets else pad 7 []) → data_with (data_of r.tp_user_data_raw) ≡ cleared_data r.tp_user_data_raw
     → underived (submitted (record { first = f; mr = r.tp_mr; da = da; pid = r.tp_pid; dcs = r.tp_dcs; vp = vp; udl = r.tp_user_data_length; ud = data_of r.tp_user_data_raw })) ≡ capitalised (compared r))
 unfolding submitted
 same_record r f t mti there da vp ea ep et ee ed = rw (t.rp_is, t.udhi_is, t.srr_is, t.rd_is, t.mti_is, mti, ea, ep, et, ee, ed, t.vpf_is, there)
 
+-- a destination that is there has the octets of its address
+destination_spelled : {o : Option SMSAddress} {to : SMSAddress} → o ≡ Some to → Spelled to.ton to.npi (text_held to) (destination_octets (Some to)) → Spelled to.ton to.npi (text_held to) (destination_octets o)
+destination_spelled there s = rw there s
+
 -- ---- a record
 
-module _ {octets : List ℕ} {answer : Said ℕ} (r : SmsSubmit) (typed : Typed r) (e : submitting r ≡ made octets answer) where
+module _ {octets : List ℕ} {answer : ℕ} (r : SmsSubmit) (typed : Typed r) (e : submitting r ≡ made octets answer) where
   abbrev to_fields : Fields
-  to_fields =
-      let to = r.tp_destination_address in
-      record {
-        first = first_of r;
-        mr = r.tp_mr;
-        da = octets_or [] (address_octets to.ton to.npi (text_held to));
-        pid = r.tp_pid;
-        dcs = r.tp_dcs;
-        vp = period_octets r.tp_validity_period (digits_of r.validity_period_digits) r.validity_period_octets;
-        udl = r.tp_user_data_length;
-        ud = data_of r.tp_user_data_raw;
-      }
+  to_fields = record {
+    first = first_of r;
+    mr = r.tp_mr;
+    da = destination_octets r.tp_destination_address;
+    pid = r.tp_pid;
+    dcs = r.tp_dcs;
+    vp = period_octets r.tp_validity_period (digits_of r.validity_period_digits) r.validity_period_octets;
+    udl = r.tp_user_data_length;
+    ud = data_of r.tp_user_data_raw;
+  }
 
   passed : Passed r octets
   passed = all_passed r e
+
+  abbrev to : SMSAddress
+  to = passed.destination
 
   told : Tells r (first_of r)
   told = first_tells r (rw passed.format_is (format_small r.tp_validity_period))
@@ -139,8 +143,8 @@ module _ {octets : List ℕ} {answer : Said ℕ} (r : SmsSubmit) (typed : Typed 
   format_told : format_in (first_of r) ≡ format_of r.tp_validity_period
   format_told = told.vpf_is ∙ passed.format_is
 
-  spelled : Spelled r.tp_destination_address.ton r.tp_destination_address.npi (text_held r.tp_destination_address) to_fields.da
-  spelled = address_passed _ _ _ passed.address
+  spelled : Spelled to.ton to.npi (text_held to) to_fields.da
+  spelled = destination_spelled passed.there (address_passed _ _ _ passed.address)
 
   period_is : period_size (format_in (first_of r)) ≡ length to_fields.vp
   period_is = rw format_told (sym (period_size_lem r.tp_validity_period (digits_of r.validity_period_digits) r.validity_period_octets passed.time typed.2))
@@ -158,12 +162,12 @@ module _ {octets : List ℕ} {answer : Said ℕ} (r : SmsSubmit) (typed : Typed 
   record_back : compared (submitted to_fields) ≡ capitalised (compared r)
   record_back =
       let p = passed in
-      let to = r.tp_destination_address in
       let d = r.tp_user_data_raw in
       let few_digits = p.fits.1.0 in
       let few-data = p.fits.1.1.0 in
       let few : to.address_length ≤ 290 = rw p.there at p.fits.0 in
-      let la : length (text_held to) ≡ to.address_length = length-take-le to.address_length to.address (omega (arith, typed.0)) in
+      let long : length to.address ≡ 290 = (rw p.there at typed.0) in
+      let la : length (text_held to) ≡ to.address_length = length-take-le to.address_length to.address (omega arith) in
       let ld : length (data_of d) ≡ d.length = length-take-le d.length d.octets (omega (arith, typed.3)) in
       let (period, digits, enhanced) = period_back r.tp_validity_period r.validity_period_digits r.validity_period_octets typed.1 few_digits typed.2 p.time in
       ap underived (made_cleared to_fields)
@@ -177,7 +181,7 @@ no_header EightBit udl = refl
 no_header Ucs2 udl = refl
 no_header Compressed udl = refl
 
-only_udhi : (r : SmsSubmit) (why : Refusal) → header_answer r ≡ refuses why → r.tp_udhi ≡ true
+only_udhi : (r : SmsSubmit) (why : Refusal) → header_answer r ≡ Err why → r.tp_udhi ≡ true
 unfolding header_answer header_size
 only_udhi r why e = by r.tp_udhi refl
   where
@@ -195,6 +199,6 @@ submit_demand2 = record {
 pub submit_ends : Cut Typed compared capitalised (λ r. submit) submitting (λ r. none) (λ r. r)
 submit_ends = cut_always _ _ _ _ _ λ r t octets n e. cut_back r t e
 
-pub submit_counts : (r : SmsSubmit) (xs : List ℕ) (a : Said ℕ) → submitting r ≡ made xs a → a ≡ gives (length xs)
+pub submit_counts : (r : SmsSubmit) (xs : List ℕ) (a : ℕ) → submitting r ≡ made xs a → a ≡ length xs
 unfolding submitting
 submit_counts r xs a e = made_counts _ _ e

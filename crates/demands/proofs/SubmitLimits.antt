@@ -1,20 +1,20 @@
 -- Limits of what is read and written.
 -- Assumes nothing.
 use Prim.Native.Nat.{ℕ, ◌≤◌}
-use mathlib.Core.Path.{◌≡◌, sym}
+use mathlib.Core.Path.{◌≡◌, sym, ap}
 use mathlib.Core.Bool.{Bool, true, false}
 use mathlib.Core.List.{List}
 use native.Mathlib.Omega.{arith}
 use borrow.Author.Tests.{leb-true}
 use lib.Dec.{eqb}
 use lib.ListN.{length, length-append}
-use Rattle.octets.specs.Answers.{Said}
-use Rattle.std.specs.Prelude.{if◌then◌else◌}
+use Rattle.std.specs.Prelude.{if◌then◌else◌, Option}
 use Rattle.octets.specs.Each.{Octets}
 use Rattle.octets.specs.Lent.{made}
 use Rattle.coding.specs.Coding.{coding_of}
 use Rattle.time.specs.Time.{digits_of}
 use Rattle.address.specs.Address.{text_held}
+use Rattle.address.specs.declared.SMSAddress.{SMSAddress}
 use Rattle.address.proofs.Checks.{checks_passed}
 use Rattle.layout.specs.Layout.{is_set, kept, Field, reached, read, read_from}
 use Rattle.layout.proofs.Laws.{within_read}
@@ -23,7 +23,7 @@ use Rattle.validity_period.specs.Validity.{format_of, period_size}
 use Rattle.validity_period.proofs.Period.{period_size_lem}
 use Rattle.submit.specs.declared.SmsSubmit.{SmsSubmit}
 use Rattle.submit.specs.Layout.{header_size, bits, fields}
-use Rattle.submit.specs.Submit.{text_with, submitted, format, submit, submitting, Typed}
+use Rattle.submit.specs.Submit.{text_with, submitted, format, submit, destination_octets, submitting, Typed}
 use Rattle.submit.proofs.CheckByCheck.{all_passed}
 use Rattle.submit.proofs.Text.{readable_short}
 
@@ -53,9 +53,10 @@ at_most_seven v = by (eqb v 0) (eqb v 2)
     by false true = omega arith
     by false false = omega arith
 
-pub at_most : {octets : List ℕ} {answer : Said ℕ} (r : SmsSubmit) → Typed r → submitting r ≡ made octets answer → length octets ≤ 164
+pub at_most : {octets : List ℕ} {answer : ℕ} (r : SmsSubmit) → Typed r → submitting r ≡ made octets answer → length octets ≤ 164
 at_most r typed e =
     let p = all_passed r e in
-    let to = r.tp_destination_address in
+    let to = p.destination in
     let vp = period_size_lem r.tp_validity_period (digits_of r.validity_period_digits) r.validity_period_octets p.time typed.2 in
-    rw (← p.octets_are) (simp length-append (omega (arith, p.few, checks_passed to.ton to.npi (text_held to) p.address, vp, at_most_seven (format_of r.tp_validity_period))))
+    let size = ap (λ (o : Option SMSAddress). length (destination_octets o)) p.there in
+    rw (← p.octets_are) (simp length-append (omega (arith, p.few, size, checks_passed to.ton to.npi (text_held to) p.address, vp, at_most_seven (format_of r.tp_validity_period))))

@@ -1,5 +1,6 @@
 -- Demand 2 of document 01 for SMS-SUBMIT-REPORT, cut messages (document 02, Ask 9), and how much is written.
 -- Assumes nothing.
+use Rattle.std.specs.Prelude.{Some, None, Option}
 use Prim.Native.Nat.{ℕ, zero, suc, ◌+◌, ◌≤◌}
 use mathlib.Core.Path.{◌≡◌, refl, sym, ◌∙◌}
 use mathlib.Core.Bool.{Bool, true, false}
@@ -11,7 +12,7 @@ use lib.Bits.{bit_and}
 use lib.Dec.{eqb, leb}
 use lib.ListN.{length}
 use lib.Seq.{length-take-le}
-use Rattle.octets.specs.Answers.{Said, gives, fine}
+use Rattle.octets.specs.Answers.{fine}
 use Rattle.octets.specs.Checks.{◌unless◌, all_fit}
 use Rattle.octets.specs.Choice.{flag}
 use Rattle.octets.specs.Lent.{made}
@@ -27,8 +28,6 @@ use Rattle.layout.specs.Layout.{first_octet}
 use Rattle.parameters.specs.Checking.{indicator_checks, data_within}
 use Rattle.parameters.specs.Optional.{held}
 use Rattle.parameters.specs.Outcome.{outcome_agrees}
-use Rattle.parameters.specs.declared.OptionalOctet.{OptionalOctet}
-use Rattle.parameters.specs.declared.OptionalOctet.TheVariants.{Absent, Present}
 use Rattle.parameters.proofs.Laws.{one_at_most}
 use Rattle.report.specs.Report.{checks_within}
 use Rattle.submit_report.specs.SubmitReport.{submit_reported, layout_of, fields_in, lengths_of, standard_limit, submit_reporting_within, submit_reporting, submit_reporting_to_standard, cleared, capitalised, Typed}
@@ -48,7 +47,7 @@ udhi_again zero h = refl
 udhi_again (suc zero) h = refl
 udhi_again (suc (suc udhi)) h = absurd (omega arith)
 
-told : (limit : ℕ) (r : SmsSubmitReport) (os : List ℕ) (answer : Said ℕ) → submit_reporting_within limit r ≡ made os answer → Told 1 (omega arith) free true submit_reported fields_in Typed cleared capitalised limit r os
+told : (limit : ℕ) (r : SmsSubmitReport) (os : List ℕ) (answer : ℕ) → submit_reporting_within limit r ≡ made os answer → Told 1 (omega arith) free true submit_reported fields_in Typed cleared capitalised limit r os
 unfolding submit_reporting_within submit_reported
 told limit r os answer e =
     let p = (fields_in r).parameters in
@@ -81,13 +80,13 @@ module _ (limitOf : SmsSubmitReport → ℕ) where
   pub submit_report_ends : Cut Typed cleared capitalised (λ r. layout_of r.rp_outcome) (λ r. submit_reporting_within (limitOf r) r) (λ r. none) (λ r. r)
   submit_report_ends = report_ends 1 (omega arith) free true submit_reported fields_in Typed cleared capitalised submit_reporting_within told limitOf
 
-  pub submit_report_counts : (r : SmsSubmitReport) (xs : List ℕ) (a : Said ℕ) → submit_reporting_within (limitOf r) r ≡ made xs a → a ≡ gives (length xs)
+  pub submit_report_counts : (r : SmsSubmitReport) (xs : List ℕ) (a : ℕ) → submit_reporting_within (limitOf r) r ≡ made xs a → a ≡ length xs
   unfolding submit_reporting_within
   submit_report_counts r xs a e = made_counts _ _ e
 
 -- ---- how much is written
 
-module _ (r : SmsSubmitReport) {os : List ℕ} {answer : Said ℕ} where
+module _ (r : SmsSubmitReport) {os : List ℕ} {answer : ℕ} where
   within : (limit : ℕ) → submit_reporting_within limit r ≡ made os answer → length os ≤ 12 + held r.tp_failure_cause + limit
   within limit e = omega (arith, at_most_within 1 (omega arith) free true submit_reported fields_in Typed cleared capitalised submit_reporting_within told limit r os answer e)
 
@@ -98,6 +97,6 @@ module _ (r : SmsSubmitReport) {os : List ℕ} {answer : Said ℕ} where
   standard_at_most e = omega (arith, within (standard_limit r.tp_failure_cause) e, room r.tp_failure_cause)
     where
       -- a cause takes an octet from the user data
-      room : (cause : OptionalOctet) → held cause + standard_limit cause ≤ 152
-      room Absent = omega arith
-      room (Present x) = omega arith
+      room : (cause : Option ℕ) → held cause + standard_limit cause ≤ 152
+      room None = omega arith
+      room (Some x) = omega arith

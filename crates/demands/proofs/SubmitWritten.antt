@@ -1,5 +1,6 @@
 -- Octets in the layout's order are read as the fields that they are: the reader's half of read-back (demand 2). And the octets end inside a field of each proper beginning of them (document 02, Ask 9).
 -- Assumes nothing.
+use Rattle.std.specs.Prelude.{Ok, Err}
 use Prim.Native.Nat.{ℕ, ◌<◌}
 use mathlib.Core.Path.{◌≡◌, refl, sym, ap, ◌∙◌}
 use mathlib.Core.Bool.{Bool, true, false}
@@ -8,7 +9,7 @@ use native.Mathlib.Nat.{zero-add}
 use borrow.Author.Tests.{eq-eqb}
 use lib.Dec.{leb}
 use lib.ListN.{length, take}
-use Rattle.octets.specs.Answers.{Said, gives, refuses}
+use Rattle.octets.specs.Answers.{Said}
 use Rattle.octets.specs.Checks.{◌unless◌, found}
 use Rattle.octets.specs.declared.Refusal.TheVariants.{OctetsEnd, HeaderNotWhole, HeaderPassesCount}
 use Rattle.coding.specs.Coding.{coding_of, data_octets}
@@ -39,8 +40,8 @@ in_two = refl
 
 -- the record, or what is said of the header
 abbrev pub ends : {R : Type 0} → Said Unit → R → ℕ → Reached R
-ends (gives x) r n = reached r n
-ends (refuses why) r n = halted why
+ends (Ok x) r n = reached r n
+ends (Err why) r n = halted why
 
 ends_if : {R : Type 0} (a b : Bool) (r : R) (s : List ℕ) (at : ℕ)
     → read_from (require HeaderNotWhole a (require HeaderPassesCount b (done r))) s at ≡ ends (found ((HeaderNotWhole unless a) ∷ (HeaderPassesCount unless b) ∷ [])) r at

@@ -1,13 +1,12 @@
 -- The exception of cut messages (document 02, Ask 9): a STATUS-REPORT written with an indicator, cut just after status.
-use Rattle.std.specs.Prelude.{ℕ, ◌+◌, ◌≡◌, refl, List, [], length}
-use Rattle.std.proofs.Math.Option.{Option, none, some}
+use Rattle.std.specs.Prelude.{ℕ, ◌+◌, ◌≡◌, refl, List, [], length, Some, None, Option}
+use Rattle.std.proofs.Math.Option as Math
+use Rattle.std.proofs.Math.Option.{none, some}
 use Rattle.octets.specs.Each.{each}
 use Rattle.octets.specs.SemiOctets.{in_pairs}
 use Rattle.coding.specs.Coding.{data_with}
 use Rattle.address.specs.Address.{address_with, text_held}
 use Rattle.address.specs.Writing.{address_octets, octets_or}
-use Rattle.parameters.specs.declared.OptionalOctet.{OptionalOctet}
-use Rattle.parameters.specs.declared.OptionalOctet.TheVariants.{Absent, Present}
 use Rattle.status_report.specs.StatusReport.{blank}
 use Rattle.status_report.specs.declared.SmsStatusReport.{SmsStatusReport}
 
@@ -20,11 +19,11 @@ unfoldable pub up_to_status : SmsStatusReport → ℕ
 up_to_status r = 1 + 1 + length (recipient_octets r) + 7 + 7 + 1
 
 -- it may be cut there if an indicator follows: without one that is its end
-abbrev pub if_held : OptionalOctet → ℕ → Option ℕ
-if_held Absent n = none
-if_held (Present indicator) n = some n
+abbrev pub if_held : Option ℕ → ℕ → Math.Option ℕ
+if_held None n = none
+if_held (Some indicator) n = some n
 
-abbrev pub cut_after_status : SmsStatusReport → Option ℕ
+abbrev pub cut_after_status : SmsStatusReport → Math.Option ℕ
 cut_after_status r = if_held r.tp_parameter_indicator (up_to_status r)
 
 -- the same report with no indicator, parameters or user data
@@ -39,10 +38,10 @@ without_indicator r = record {
   tp_service_centre_timestamp = r.tp_service_centre_timestamp;
   tp_discharge_time = r.tp_discharge_time;
   tp_status = r.tp_status;
-  tp_parameter_indicator = Absent;
-  tp_pid = Absent;
-  tp_dcs = Absent;
-  tp_user_data_length = Absent;
+  tp_parameter_indicator = None;
+  tp_pid = None;
+  tp_dcs = None;
+  tp_user_data_length = None;
   tp_user_data = data_with [];
 }
 

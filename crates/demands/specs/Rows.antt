@@ -1,6 +1,5 @@
 -- Document 01's known messages: the ten rows marked +.
-use Rattle.std.specs.Prelude.{ℕ, ℤ, pos, negsuc, length, drop, ◌≡◌, List, [], ◌∷◌, ◌++◌}
-use Rattle.octets.specs.Answers.{gives, fine}
+use Rattle.std.specs.Prelude.{ℕ, ℤ, pos, negsuc, length, ◌≡◌, List, [], ◌∷◌, ◌++◌, Ok}
 use Rattle.octets.specs.Lent.{made}
 use Rattle.octets.specs.Texts.{codes}
 use Rattle.coding.specs.declared.UserDataCoding.{UserDataCoding}
@@ -11,9 +10,9 @@ use Rattle.gsm7.specs.Packing.{packing, packed_as}
 use Rattle.time.specs.Time.{time_octets, time_digits}
 use Rattle.time.specs.Timestamp.{timestamp}
 use Rattle.address.specs.Address.{address_with, address_in, encoding, canonical_address}
-use Rattle.layout.specs.Layout.{read, answer}
+use Rattle.layout.specs.Layout.{read, answer, alone}
 use Rattle.parameters.specs.declared.RpOutcome.TheVariants.{RpError}
-use Rattle.deliver_report.specs.DeliverReport.{layout_of, blank, stopped}
+use Rattle.deliver_report.specs.DeliverReport.{layout_of, stopped}
 use Rattle.user_data_header.specs.Header.{unpacked_with_header, packing_with_header, header_given}
 
 pub data Row : Type 0 where
@@ -43,17 +42,17 @@ pub data Row : Type 0 where
 -- what a row says
 unfoldable pub Holds : Row → Type 0
 Holds (coding dcs c) = coding_of dcs ≡ c
-Holds (reads octets n text k) = unpacked octets 0 n ≡ text_given text k
+Holds (reads octets n text k) = unpacked octets 0 n ≡ Ok (text_given text k)
 Holds (packs text octets n) = packing [] text ≡ made octets (packed_as octets n)
 Holds (packs_after header text octets n) = packing_with_header header text ≡ made (header ++ octets) (packed_as (header ++ octets) n)
-Holds (reads_after header text octets n) = unpacked_with_header (header ++ octets) n ≡ header_given header text 0
+Holds (reads_after header text octets n) = unpacked_with_header (header ++ octets) n ≡ Ok (header_given header text 0)
 Holds (time ds octets) = time_octets ds ≡ octets
 Holds (digits octets ds) = time_digits octets ≡ ds
-Holds (zone z ds) = drop 12 (timestamp 24 2 15 12 30 45 z).1 ≡ ds
-Holds (writes_address ton npi text octets) = encoding (address_with ton npi text) ≡ made octets (gives (length octets))
+Holds (zone z ds) = timestamp 24 2 15 12 30 45 z ≡ Ok (codes "240215123045" ++ ds)
+Holds (writes_address ton npi text octets) = encoding (address_with ton npi text) ≡ made octets (length octets)
 Holds (reads_address f ton npi text) = address_in f ≡ address_with ton npi text
 Holds (canonical f octets) = canonical_address f ≡ octets
-Holds (reads_stopped s) = answer blank (read (layout_of RpError) s) ≡ (fine, stopped)
+Holds (reads_stopped s) = answer alone (read (layout_of RpError) s) ≡ Ok stopped
 
 abbrev pub rows : List Row
 rows =

@@ -8,239 +8,212 @@ use crate::lines::{
     address_line, cause_line, octets_line, reference_line, refused_line, relative_line,
     stand_ins_line, status_line, time_line, words_line,
 };
-use crate::user_data::{Shown, optional_user_data, user_data};
+use crate::user_data::{optional_user_data, user_data};
 use output::Output;
-use text_fields::slices::least;
 use tpdu::{
-    DeliverRead, DeliverReportRead, OptionalOctet, Outcome, RpOutcome, SMSAddress, SmsDeliver,
-    SmsDeliverReport, SmsStatusReport, SmsSubmit, SmsSubmitReport, StatusReportRead, SubmitRead,
-    SubmitReportRead, Time, ValidityPeriod,
+    DeliverReportRead, Refusal, RpOutcome, SMSAddress, SmsDeliver, SmsDeliverReport,
+    SmsStatusReport, SmsSubmit, SmsSubmitReport, SubmitReportRead, Time, ValidityPeriod,
 };
-use wording::labels;
+use wording::labels::Label;
 
-// ---- records: each function takes what a reader gives
-
-// The lines that were put from `at` to `next`; or that of the refusal, in their place.
-fn unless_refused(out: &mut Output, at: usize, next: usize, o: Outcome) -> usize {
-    match o {
-        Outcome::Done => next,
-        Outcome::Refused(why) => refused_line(out, at, why.number()),
-    }
-}
+// ---- messages: the kind and, if its reader gives a record, the fields
 
 // At most 145 are replaced in an address, and 255 in user data.
 const MOST_REPLACED: usize = 255;
 
 // A line for the characters that stand in for others: those that the reader counted, and those of the user data, which
 // were unpacked to be shown.
-fn stand_ins(out: &mut Output, shown: Shown, replaced: usize) -> usize {
-    let in_data = least(MOST_REPLACED, shown.replaced);
-    let n = in_data + least(MOST_REPLACED, replaced);
-    stand_ins_line(out, shown.end, n)
+fn stand_ins(out: &mut Output, in_data: usize, counted: usize) {
+    stand_ins_line(out, in_data.min(MOST_REPLACED) + counted.min(MOST_REPLACED));
 }
 
-fn deliver(out: &mut Output, at: usize, read: DeliverRead) -> usize {
-    let outcome = read.outcome;
+pub fn show_deliver(octets: &[u8], out: &mut Output) -> Result<(), Refusal> {
+    out.put(b"SMS-DELIVER\n");
+    let read = SmsDeliver::decode(octets)?;
     let message = read.message;
-    let p1 = address_line(out, at, labels::FROM, message.tp_originating_address);
-    let p2 = time_line(out, p1, labels::TIME, message.tp_service_centre_timestamp);
-    let shown = user_data(
+    address_line(out, Label::From, message.tp_originating_address);
+    time_line(out, Label::Time, message.tp_service_centre_timestamp);
+    let replaced = user_data(
         out,
-        p2,
         message.tp_udhi,
         message.tp_dcs,
         message.tp_user_data_length,
         message.tp_user_data,
     );
-    let end = stand_ins(out, shown, read.replaced_escapes);
-    unless_refused(out, at, end, outcome)
+    stand_ins(out, replaced, read.replaced_escapes);
+    Ok(())
 }
 
-fn destination(out: &mut Output, at: usize, is_held: bool, address: SMSAddress) -> usize {
-    if is_held {
-        return address_line(out, at, labels::TO, address);
+fn destination(out: &mut Output, destination: Option<SMSAddress>) {
+    match destination {
+        Some(address) => address_line(out, Label::To, address),
+        None => words_line(out, Label::To, "no destination"),
     }
-    words_line(out, at, labels::TO, b"no destination")
 }
 
 // No line without a validity period.
-fn validity(
-    out: &mut Output,
-    at: usize,
-    period: ValidityPeriod,
-    time: Time,
-    octets: [u8; 7],
-) -> usize {
+fn validity(out: &mut Output, period: ValidityPeriod, time: Time, octets: [u8; 7]) {
     match period {
-        ValidityPeriod::None => at,
-        ValidityPeriod::Relative(v) => relative_line(out, at, v),
-        ValidityPeriod::Absolute => time_line(out, at, labels::VALID, time),
-        ValidityPeriod::Enhanced => octets_line(out, at, labels::VALID, &octets),
+        ValidityPeriod::None => (),
+        ValidityPeriod::Relative(v) => relative_line(out, v),
+        ValidityPeriod::Absolute => time_line(out, Label::Valid, time),
+        ValidityPeriod::Enhanced => octets_line(out, Label::Valid, &octets),
     }
 }
 
 // A line if a status report is requested.
-fn report(out: &mut Output, at: usize, is_requested: bool) -> usize {
+fn report(out: &mut Output, is_requested: bool) {
     if is_requested {
-        return words_line(out, at, labels::REPORT, b"requested");
+        words_line(out, Label::Report, "requested");
     }
-    at
 }
 
 // What is shown before the user data of a SUBMIT.
-fn before_user_data(out: &mut Output, at: usize, message: SmsSubmit) -> usize {
-    let period = message.tp_validity_period;
-    let octets = message.validity_period_octets;
-    let p1 = destination(
+fn before_user_data(out: &mut Output, message: SmsSubmit) {
+    destination(out, message.tp_destination_address);
+    reference_line(out, message.tp_mr);
+    validity(
         out,
-        at,
-        message.has_destination_address,
-        message.tp_destination_address,
+        message.tp_validity_period,
+        message.validity_period_digits,
+        message.validity_period_octets,
     );
-    let p2 = reference_line(out, p1, message.tp_mr);
-    let p3 = validity(out, p2, period, message.validity_period_digits, octets);
-    report(out, p3, message.tp_srr)
+    report(out, message.tp_srr);
 }
 
 // The reader has counted its user data too.
-fn submit(out: &mut Output, at: usize, read: SubmitRead) -> usize {
-    let outcome = read.outcome;
+pub fn show_submit(octets: &[u8], out: &mut Output) -> Result<(), Refusal> {
+    out.put(b"SMS-SUBMIT\n");
+    let read = tpdu::decode_sms_submit_tpdu(octets)?;
     let message = read.message;
-    let next = before_user_data(out, at, message);
-    let shown = user_data(
+    before_user_data(out, message);
+    user_data(
         out,
-        next,
         message.tp_udhi,
         message.tp_dcs,
         message.tp_user_data_length,
         message.tp_user_data_raw,
     );
-    let end = stand_ins_line(out, shown.end, read.replaced_escapes);
-    unless_refused(out, at, end, outcome)
+    stand_ins_line(out, read.replaced_escapes);
+    Ok(())
 }
 
 // No line without a cause.
-fn cause(out: &mut Output, at: usize, cause: OptionalOctet) -> usize {
-    match cause {
-        OptionalOctet::Absent => at,
-        OptionalOctet::Present(x) => cause_line(out, at, x),
+fn cause(out: &mut Output, cause: Option<u8>) {
+    if let Some(x) = cause {
+        cause_line(out, x);
     }
 }
 
-// A kind of report with an outcome.
-fn kind_and_outcome(out: &mut Output, at: usize, kind: &[u8], outcome: RpOutcome) -> usize {
-    let next = output::put(out, at, kind);
+// The heading of a report: its kind, and the outcome that carries it.
+fn heading(out: &mut Output, kind: &str, outcome: RpOutcome) {
+    out.put_text(kind);
     match outcome {
-        RpOutcome::RpAck => output::put(out, next, b" (RP-ACK)\n"),
-        RpOutcome::RpError => output::put(out, next, b" (RP-ERROR)\n"),
+        RpOutcome::RpAck => out.put(b" (RP-ACK)\n"),
+        RpOutcome::RpError => out.put(b" (RP-ERROR)\n"),
     }
 }
 
-// The heading of a report: its kind, and the outcome that its record holds; a refusal has no record, and then it is the
-// outcome that was asked for.
-fn heading(
+// What a reader of reports gives. The outcome is the one that the record holds; a refusal has no record, and then it is
+// the one that was asked for.
+fn submit_report(
     out: &mut Output,
-    at: usize,
-    kind: &[u8],
-    o: Outcome,
     asked: RpOutcome,
-    held: RpOutcome,
-) -> usize {
-    match o {
-        Outcome::Done => kind_and_outcome(out, at, kind, held),
-        Outcome::Refused(_) => kind_and_outcome(out, at, kind, asked),
-    }
+    read: Result<SubmitReportRead, Refusal>,
+) -> Result<(), Refusal> {
+    let outcome = read.map_or(asked, |read| read.message.rp_outcome);
+    heading(out, "SMS-SUBMIT-REPORT", outcome);
+    let read = read?;
+    let message = read.message;
+    cause(out, message.tp_failure_cause);
+    time_line(out, Label::Time, message.tp_service_centre_timestamp);
+    let replaced = optional_user_data(
+        out,
+        message.tp_udhi == 1,
+        message.tp_dcs,
+        message.tp_user_data_length,
+        message.tp_user_data,
+    );
+    stand_ins(out, replaced, read.replaced_escapes);
+    Ok(())
 }
 
-fn submit_report(out: &mut Output, at: usize, asked: RpOutcome, read: SubmitReportRead) -> usize {
-    let outcome = read.outcome;
+fn deliver_report(
+    out: &mut Output,
+    asked: RpOutcome,
+    read: Result<DeliverReportRead, Refusal>,
+) -> Result<(), Refusal> {
+    let outcome = read.map_or(asked, |read| read.message.rp_outcome);
+    heading(out, "SMS-DELIVER-REPORT", outcome);
+    let read = read?;
     let message = read.message;
-    let held = message.rp_outcome;
-    let failure = message.tp_failure_cause;
-    let dcs = message.tp_dcs;
-    let udl = message.tp_user_data_length;
-    let start = heading(out, at, b"SMS-SUBMIT-REPORT", outcome, asked, held);
-    let p1 = cause(out, start, failure);
-    let p2 = time_line(out, p1, labels::TIME, message.tp_service_centre_timestamp);
-    let udhi = message.tp_udhi == 1;
-    let shown = optional_user_data(out, p2, udhi, dcs, udl, message.tp_user_data);
-    let end = stand_ins(out, shown, read.replaced_escapes);
-    unless_refused(out, start, end, outcome)
-}
-
-fn deliver_report(out: &mut Output, at: usize, asked: RpOutcome, read: DeliverReportRead) -> usize {
-    let outcome = read.outcome;
-    let message = read.message;
-    let held = message.rp_outcome;
-    let failure = message.tp_failure_cause;
-    let dcs = message.tp_dcs;
-    let udl = message.tp_user_data_length;
-    let start = heading(out, at, b"SMS-DELIVER-REPORT", outcome, asked, held);
-    let next = cause(out, start, failure);
-    let shown = optional_user_data(out, next, message.tp_udhi, dcs, udl, message.tp_user_data);
-    let end = stand_ins(out, shown, read.replaced_escapes);
-    unless_refused(out, start, end, outcome)
+    cause(out, message.tp_failure_cause);
+    let replaced = optional_user_data(
+        out,
+        message.tp_udhi,
+        message.tp_dcs,
+        message.tp_user_data_length,
+        message.tp_user_data,
+    );
+    stand_ins(out, replaced, read.replaced_escapes);
+    Ok(())
 }
 
 // When a message was sent, when it was done with, and how.
-fn fate(out: &mut Output, at: usize, sent: Time, done: Time, status: u8) -> usize {
-    let p1 = time_line(out, at, labels::SENT, sent);
-    let p2 = time_line(out, p1, labels::DONE, done);
-    status_line(out, p2, status)
+fn fate(out: &mut Output, sent: Time, done: Time, status: u8) {
+    time_line(out, Label::Sent, sent);
+    time_line(out, Label::Done, done);
+    status_line(out, status);
 }
 
-fn status_report(out: &mut Output, at: usize, read: StatusReportRead) -> usize {
-    let outcome = read.outcome;
+pub fn show_status_report(octets: &[u8], out: &mut Output) -> Result<(), Refusal> {
+    out.put(b"SMS-STATUS-REPORT\n");
+    let read = SmsStatusReport::decode(octets)?;
     let message = read.message;
-    let dcs = message.tp_dcs;
-    let udl = message.tp_user_data_length;
-    let p1 = address_line(out, at, labels::TO, message.tp_recipient_address);
-    let p2 = reference_line(out, p1, message.tp_mr);
-    let p3 = fate(
+    address_line(out, Label::To, message.tp_recipient_address);
+    reference_line(out, message.tp_mr);
+    fate(
         out,
-        p2,
         message.tp_service_centre_timestamp,
         message.tp_discharge_time,
         message.tp_status,
     );
-    let shown = optional_user_data(out, p3, message.tp_udhi, dcs, udl, message.tp_user_data);
-    let end = stand_ins(out, shown, read.replaced_escapes);
-    unless_refused(out, at, end, outcome)
+    let replaced = optional_user_data(
+        out,
+        message.tp_udhi,
+        message.tp_dcs,
+        message.tp_user_data_length,
+        message.tp_user_data,
+    );
+    stand_ins(out, replaced, read.replaced_escapes);
+    Ok(())
 }
 
-// ---- messages: the kind, and what its reader gives
+// ---- the reports, by the outcome that their reader is asked for
 
-pub fn show_deliver(octets: &[u8], out: &mut Output, at: usize) -> usize {
-    let next = output::put(out, at, b"SMS-DELIVER\n");
-    deliver(out, next, SmsDeliver::decode(octets))
-}
-
-pub fn show_submit(octets: &[u8], out: &mut Output, at: usize) -> usize {
-    let next = output::put(out, at, b"SMS-SUBMIT\n");
-    submit(out, next, tpdu::decode_sms_submit_tpdu(octets))
-}
-
-pub fn show_submit_report_ack(octets: &[u8], out: &mut Output, at: usize) -> usize {
+pub fn show_submit_report_ack(octets: &[u8], out: &mut Output) -> Result<(), Refusal> {
     let read = SmsSubmitReport::decode_for_rp_ack(octets);
-    submit_report(out, at, RpOutcome::RpAck, read)
+    submit_report(out, RpOutcome::RpAck, read)
 }
 
-pub fn show_submit_report_error(octets: &[u8], out: &mut Output, at: usize) -> usize {
+pub fn show_submit_report_error(octets: &[u8], out: &mut Output) -> Result<(), Refusal> {
     let read = SmsSubmitReport::decode_for_rp_error(octets);
-    submit_report(out, at, RpOutcome::RpError, read)
+    submit_report(out, RpOutcome::RpError, read)
 }
 
-pub fn show_deliver_report_ack(octets: &[u8], out: &mut Output, at: usize) -> usize {
+pub fn show_deliver_report_ack(octets: &[u8], out: &mut Output) -> Result<(), Refusal> {
     let read = SmsDeliverReport::decode_for_rp_ack(octets);
-    deliver_report(out, at, RpOutcome::RpAck, read)
+    deliver_report(out, RpOutcome::RpAck, read)
 }
 
-pub fn show_deliver_report_error(octets: &[u8], out: &mut Output, at: usize) -> usize {
+pub fn show_deliver_report_error(octets: &[u8], out: &mut Output) -> Result<(), Refusal> {
     let read = SmsDeliverReport::decode_for_rp_error(octets);
-    deliver_report(out, at, RpOutcome::RpError, read)
+    deliver_report(out, RpOutcome::RpError, read)
 }
 
-pub fn show_status_report(octets: &[u8], out: &mut Output, at: usize) -> usize {
-    let next = output::put(out, at, b"SMS-STATUS-REPORT\n");
-    status_report(out, next, SmsStatusReport::decode(octets))
+// ---- refusals
+
+// What is shown after the kind of a message whose reader gives no record.
+pub fn show_refusal(refusal: Refusal, out: &mut Output) {
+    refused_line(out, refusal);
 }

@@ -1,188 +1,126 @@
 // User data shown: the coding, the header with its elements if there is one, and the text, or the data as they are.
 use crate::lines::{coding_line, octets_line, unread_line, utf8_line, utf16_line};
 use output::Output;
-use text_fields::slices::{after, between};
-use tpdu::{OptionalOctet, UserData, UserDataCoding};
+use text_fields::slices::first;
+use tpdu::{UserData, UserDataCoding};
 use wording::elements::put_elements;
-use wording::labels;
-use wording::refusals::refusal_number;
+use wording::labels::Label;
 
-// User data that were shown: the place after them, and how many escapes were replaced in their text.
-#[derive(Clone, Copy)]
-pub struct Shown {
-    pub end: usize,
-    pub replaced: usize,
-}
-
-// Shown up to a place, with no text in septets.
-fn up_to(end: usize) -> Shown {
-    Shown { end, replaced: 0 }
-}
-
-// ---- headers; no refusal is number 0
+// ---- headers
 
 // A header in hexadecimal, and a line for each of its elements, or why it has none that can be read.
-fn header_lines(out: &mut Output, at: usize, header: &[u8]) -> usize {
-    let read = tpdu::read_header_elements(header);
-    let outcome = read.outcome;
-    let elements = read.elements;
-    let refusal = refusal_number(outcome);
-    if refusal != 0 {
-        return unread_line(out, at, labels::HEADER, header, refusal);
-    }
-    let next = octets_line(out, at, labels::HEADER, header);
-    put_elements(out, next, elements, true)
-}
-
-// ---- 7-bit coding
-
-// A text, or the data that it couldn't be read from.
-fn text_or_data(out: &mut Output, at: usize, refusal: u8, text: &[u8], data: &[u8]) -> usize {
-    if refusal == 0 {
-        return utf8_line(out, at, text);
-    }
-    unread_line(out, at, labels::DATA, data, refusal)
-}
-
-fn septets(out: &mut Output, at: usize, udl: u8, data: &[u8]) -> Shown {
-    let read = tpdu::unpack_gsm7(data, udl as usize);
-    let text = read.text;
-    let outcome = read.outcome;
-    let refusal = refusal_number(outcome);
-    let end = text_or_data(out, at, refusal, between(&text, 0, read.text_length), data);
-    Shown {
-        end,
-        replaced: read.replaced_escapes,
+fn header_lines(out: &mut Output, header: &[u8]) {
+    match tpdu::read_header_elements(header) {
+        Ok(elements) => {
+            octets_line(out, Label::Header, header);
+            put_elements(out, elements, true);
+        }
+        Err(why) => unread_line(out, Label::Header, header, why),
     }
 }
 
-// The header of a text that was read.
-fn header(out: &mut Output, at: usize, refusal: u8, octets: &[u8]) -> usize {
-    if refusal == 0 {
-        return header_lines(out, at, octets);
+// ---- 7-bit coding: each gives how many escapes were replaced in the text
+
+// The text, or the data that it couldn't be read from.
+fn septets(out: &mut Output, udl: u8, data: &[u8]) -> usize {
+    match tpdu::unpack_gsm7(data, usize::from(udl)) {
+        Ok(read) => {
+            utf8_line(out, first(&read.text, read.text_length));
+            read.replaced_escapes
+        }
+        Err(why) => {
+            unread_line(out, Label::Data, data, why);
+            0
+        }
     }
-    at
 }
 
-fn header_and_septets(out: &mut Output, at: usize, udl: u8, data: &[u8]) -> Shown {
-    let read = tpdu::unpack_gsm7_with_header(data, udl as usize);
-    let octets = read.header;
-    let text = read.text;
-    let outcome = read.outcome;
-    let refusal = refusal_number(outcome);
-    let next = header(out, at, refusal, between(&octets, 0, read.header_length));
-    let end = text_or_data(
-        out,
-        next,
-        refusal,
-        between(&text, 0, read.text_length),
-        data,
-    );
-    Shown {
-        end,
-        replaced: read.replaced_escapes,
+fn header_and_septets(out: &mut Output, udl: u8, data: &[u8]) -> usize {
+    match tpdu::unpack_gsm7_with_header(data, usize::from(udl)) {
+        Ok(read) => {
+            header_lines(out, first(&read.header, read.header_length));
+            utf8_line(out, first(&read.text, read.text_length));
+            read.replaced_escapes
+        }
+        Err(why) => {
+            unread_line(out, Label::Data, data, why);
+            0
+        }
     }
 }
 
 // ---- other codings
 
 // Text if the coding is UCS2, else data.
-fn whole_octets(out: &mut Output, at: usize, coding: UserDataCoding, data: &[u8]) -> usize {
+fn whole_octets(out: &mut Output, coding: UserDataCoding, data: &[u8]) {
     match coding {
-        UserDataCoding::Ucs2 => utf16_line(out, at, data),
-        _ => octets_line(out, at, labels::DATA, data),
+        UserDataCoding::Ucs2 => utf16_line(out, data),
+        _ => octets_line(out, Label::Data, data),
     }
 }
 
-// How many octets a header takes, by its first.
-fn header_size(first: u8) -> usize {
-    first as usize + 1
-}
-
-// The header and what is after it; the data as they are if the header doesn't fit.
-fn header_and_octets(out: &mut Output, at: usize, coding: UserDataCoding, data: &[u8]) -> usize {
-    if data.len() == 0 {
-        return octets_line(out, at, labels::DATA, data);
+// The header, which its first octet counts, and what is after it; the data as they are if the header doesn't fit.
+fn header_and_octets(out: &mut Output, coding: UserDataCoding, data: &[u8]) {
+    let size = data.first().map_or(0, |length| usize::from(*length) + 1);
+    if size == 0 || data.len() < size {
+        return octets_line(out, Label::Data, data);
     }
-    let h = header_size(data[0]);
-    if data.len() < h {
-        return octets_line(out, at, labels::DATA, data);
-    }
-    let next = header_lines(out, at, between(data, 0, h));
-    whole_octets(out, next, coding, after(data, h))
+    let (header, text) = data.split_at(size);
+    header_lines(out, header);
+    whole_octets(out, coding, text);
 }
 
 // ---- any coding
 
-// The header, if there is one, and the text or data.
+// The header, if there is one, and the text or data; how many escapes were replaced in the text.
 fn header_and_text(
     out: &mut Output,
-    at: usize,
     udhi: bool,
     coding: UserDataCoding,
     udl: u8,
     data: &[u8],
-) -> Shown {
-    match coding {
-        UserDataCoding::Gsm7Bit => {
-            if udhi {
-                header_and_septets(out, at, udl, data)
-            } else {
-                septets(out, at, udl, data)
-            }
+) -> usize {
+    match (coding, udhi) {
+        (UserDataCoding::Gsm7Bit, true) => header_and_septets(out, udl, data),
+        (UserDataCoding::Gsm7Bit, false) => septets(out, udl, data),
+        (_, true) => {
+            header_and_octets(out, coding, data);
+            0
         }
-        _ => {
-            if udhi {
-                up_to(header_and_octets(out, at, coding, data))
-            } else {
-                up_to(whole_octets(out, at, coding, data))
-            }
+        (_, false) => {
+            whole_octets(out, coding, data);
+            0
         }
     }
 }
 
-// The coding, and what is in the data.
-pub fn user_data(
-    out: &mut Output,
-    at: usize,
-    udhi: bool,
-    dcs: u8,
-    udl: u8,
-    data: UserData,
-) -> Shown {
-    let octets = data.octets;
-    let held = between(&octets, 0, data.length);
-    let next = coding_line(out, at, dcs);
-    header_and_text(out, next, udhi, tpdu::user_data_coding(dcs), udl, held)
+// The coding, and what is in the data; how many escapes were replaced in their text.
+pub fn user_data(out: &mut Output, udhi: bool, dcs: u8, udl: u8, data: UserData) -> usize {
+    coding_line(out, dcs);
+    header_and_text(
+        out,
+        udhi,
+        tpdu::user_data_coding(dcs),
+        udl,
+        first(&data.octets, data.length),
+    )
 }
 
-// No DCS means 0.
-fn or_zero(dcs: OptionalOctet) -> u8 {
-    match dcs {
-        OptionalOctet::Present(x) => x,
-        OptionalOctet::Absent => 0,
-    }
-}
-
-// The coding alone, if it is held.
-fn coding_held(out: &mut Output, at: usize, dcs: OptionalOctet) -> usize {
-    match dcs {
-        OptionalOctet::Present(x) => coding_line(out, at, x),
-        OptionalOctet::Absent => at,
-    }
-}
-
-// The user data of a report.
+// The user data of a report; without TP-UDL, the coding alone, if it is held. No TP-DCS means 0.
 pub fn optional_user_data(
     out: &mut Output,
-    at: usize,
     udhi: bool,
-    dcs: OptionalOctet,
-    udl: OptionalOctet,
+    dcs: Option<u8>,
+    udl: Option<u8>,
     data: UserData,
-) -> Shown {
+) -> usize {
     match udl {
-        OptionalOctet::Present(n) => user_data(out, at, udhi, or_zero(dcs), n, data),
-        OptionalOctet::Absent => up_to(coding_held(out, at, dcs)),
+        Some(n) => user_data(out, udhi, dcs.unwrap_or(0), n, data),
+        None => {
+            if let Some(dcs) = dcs {
+                coding_line(out, dcs);
+            }
+            0
+        }
     }
 }

@@ -3,122 +3,122 @@
 #![tactic(auto)]
 
 use std::io;
-use tpdu::{Outcome, SMSAddress, UserData};
-
-fn say<R: Print>(rt: &R, text: &[u8]) -> io::Result<()> {
-    rt.write_all(text)
-}
-
-// Says the number of a refusal; 0 octets are written.
-fn refused<R: Print>(rt: &R, number: u8) -> io::Result<usize> {
-    println!(rt; "refused {number}")?;
-    Ok(0)
-}
-
-// Says octets in hexadecimal; how many there are.
-fn say_hex<R: Print>(rt: &R, octets: &[u8]) -> io::Result<usize> {
-    let mut i = 0;
-    while i < octets.len() {
-        let octet = octets[i];
-        print!(rt; "{octet:02x}")?;
-        i += 1;
-    }
-    say(rt, b"\n")?;
-    Ok(octets.len())
-}
+use tpdu::{Refusal, SMSAddress, SmsDeliver, SmsSubmit, UserData};
 
 // The first n octets of an array: what lies after its length is not held by a record.
 fn first(octets: &[u8], n: usize) -> &[u8] {
-    if n <= octets.len() {
-        return &octets[0..n];
+    &octets[..n.min(octets.len())]
+}
+
+fn say_refusal<R: Print>(rt: &R, why: Refusal) -> io::Result<()> {
+    println!(rt; "refused {}", why.number())
+}
+
+// Says octets in hexadecimal.
+fn say_hex<R: Print>(rt: &R, octets: &[u8]) -> io::Result<()> {
+    for octet in octets {
+        print!(rt; "{octet:02x}")?;
     }
-    octets
+    println!(rt)
 }
 
 fn say_number<R: Print>(rt: &R, sender: SMSAddress) -> io::Result<()> {
-    let digits = sender.address;
-    say(rt, first(&digits, sender.address_length))?;
-    say(rt, b": ")
+    rt.write_all(first(&sender.address, sender.address_length))?;
+    rt.write_all(b": ")
 }
 
-// The text of user data in 7-bit coding.
+// Says the text of user data in 7-bit coding, or why there is none.
 fn say_text<R: Print>(rt: &R, data: UserData, septets: u8) -> io::Result<()> {
-    let octets = data.octets;
-    let read = tpdu::unpack_gsm7(first(&octets, data.length), septets as usize);
-    let outcome = read.outcome;
-    if let Outcome::Refused(why) = outcome {
-        refused(rt, why.number())?;
-        return Ok(());
+    match tpdu::unpack_gsm7(first(&data.octets, data.length), septets as usize) {
+        Ok(read) => {
+            rt.write_all(first(&read.text, read.text_length))?;
+            println!(rt)
+        }
+        Err(why) => say_refusal(rt, why),
     }
-    let text = read.text;
-    say(rt, first(&text, read.text_length))?;
-    say(rt, b"\n")
 }
 
-// Writes a text in 7-bit coding to a lent buffer; how many octets the message takes. Its record is a blank one, such as
-// the reader gives for no octets, with its fields set.
-fn write<R: Print>(
+// Writes a text in 7-bit coding to a lent buffer; how many octets the message takes. Its record is the blank one but for
+// the fields that are set here.
+fn write(
+    destination: SMSAddress,
+    reference: u8,
+    text: &[u8],
+    out: &mut [u8],
+) -> Result<usize, Refusal> {
+    let mut octets = [0u8; 255];
+    let packed = tpdu::pack_gsm7(text, &mut octets)?;
+    let septets = u8::try_from(packed.septets).map_err(|_| Refusal::TooManySeptets)?;
+    let message = SmsSubmit {
+        tp_mti: 1,
+        tp_mr: reference,
+        tp_destination_address: Some(destination),
+        tp_user_data_length: septets,
+        tp_user_data_raw: UserData {
+            octets,
+            length: packed.octets,
+        },
+        ..SmsSubmit::default()
+    };
+    message.encode(out)
+}
+
+// Writes a message and says its octets, or why there are none; how many octets it takes.
+fn send<R: Print>(
     rt: &R,
     destination: SMSAddress,
     reference: u8,
     text: &[u8],
     out: &mut [u8],
 ) -> io::Result<usize> {
-    let mut octets = [0u8; 255];
-    let packed = tpdu::pack_gsm7(text, &mut octets);
-    let outcome = packed.outcome;
-    if let Outcome::Refused(why) = outcome {
-        return refused(rt, why.number());
-    }
-    let septets = packed.septets;
-    let length = packed.octets;
-    let data = UserData { octets, length };
-    let mut message = tpdu::decode_sms_submit_tpdu(b"").message;
-    message.tp_mti = 1;
-    message.tp_mr = reference;
-    message.has_destination_address = true;
-    message.tp_destination_address = destination;
-    message.tp_user_data_length = if septets < 256 { septets as u8 } else { 0 };
-    message.tp_user_data_raw = data;
-    match message.encode(out) {
-        tpdu::Written::Done(n) => say_hex(rt, first(out, n)),
-        tpdu::Written::Refused(why) => refused(rt, why.number()),
+    match write(destination, reference, text, out) {
+        Ok(n) => {
+            say_hex(rt, first(out, n))?;
+            Ok(n)
+        }
+        Err(why) => {
+            say_refusal(rt, why)?;
+            Ok(0)
+        }
     }
 }
 
 // Two messages, one after the other.
-fn write_two<R: Print>(rt: &R, destination: SMSAddress, out: &mut [u8]) -> io::Result<()> {
-    let n = write(rt, destination, 1, b"REEL3 MOISTURE 7.5", out)?;
-    if n <= out.len() {
-        write(rt, destination, 2, b"was 8.0", &mut out[n..])?;
+fn send_two<R: Print>(rt: &R, destination: SMSAddress, out: &mut [u8]) -> io::Result<()> {
+    let n = send(rt, destination, 1, b"REEL3 MOISTURE 7.5", out)?;
+    if let Some(rest) = out.get_mut(n..) {
+        send(rt, destination, 2, b"was 8.0", rest)?;
     }
     Ok(())
 }
 
 // Says the text of the SUBMIT after so many octets; how many it takes.
 fn read_after<R: Print>(rt: &R, octets: &[u8], count: usize) -> io::Result<usize> {
-    let read = tpdu::submit_behind(octets, count);
-    let message = read.message;
-    say_text(rt, message.tp_user_data_raw, message.tp_user_data_length)?;
-    Ok(read.octets_read)
+    match tpdu::submit_behind(octets, count) {
+        Ok(read) => {
+            let message = read.message;
+            say_text(rt, message.tp_user_data_raw, message.tp_user_data_length)?;
+            Ok(read.octets_read)
+        }
+        Err(why) => {
+            say_refusal(rt, why)?;
+            Ok(0)
+        }
+    }
 }
 
 fn main(rt: HostRuntime) -> io::Result<()> {
-    let read = tpdu::SmsDeliver::decode(
-        b"\x04\x0b\x91\x13\x56\x55\x00\x21\xf3\x00\x00\x62\x11\x61\x20\x51\x00\x40\
-        \x15\x53\x28\x48\x5a\x2c\x32\x67\xa0\xe6\x33\x39\xa5\x56\xa5\x45\xd0\xcd\x55\x03",
-    );
-    let outcome = read.outcome;
-    if let Outcome::Refused(why) = outcome {
-        refused(&rt, why.number())?;
-        return Ok(());
-    }
-    let message = read.message;
+    let octets = b"\x04\x0b\x91\x13\x56\x55\x00\x21\xf3\x00\x00\x62\x11\x61\x20\x51\x00\x40\
+        \x15\x53\x28\x48\x5a\x2c\x32\x67\xa0\xe6\x33\x39\xa5\x56\xa5\x45\xd0\xcd\x55\x03";
+    let message = match SmsDeliver::decode(octets) {
+        Ok(read) => read.message,
+        Err(why) => return say_refusal(&rt, why),
+    };
     say_number(&rt, message.tp_originating_address)?;
     say_text(&rt, message.tp_user_data, message.tp_user_data_length)?;
     let mut out = [0u8; 64];
-    write_two(&rt, message.tp_originating_address, &mut out)?;
+    send_two(&rt, message.tp_originating_address, &mut out)?;
     let count = read_after(&rt, &out, 0)?;
     read_after(&rt, &out, count)?;
-    write_two(&rt, message.tp_originating_address, &mut [0u8; 8])
+    send_two(&rt, message.tp_originating_address, &mut [0u8; 8])
 }

@@ -12,8 +12,8 @@ use borrow.Author.Tests.{ltb-true, ltb-false, ne_eqb, lt-ltb, le-ltb}
 use lib.Dec.{ltb}
 use lib.ListN.{length, get_or, drop, length-append}
 use lib.Seq.{drop-append_seam}
-use Rattle.octets.specs.Answers.{Said, gives, refuses}
-use Rattle.std.specs.Prelude.{if◌then◌else◌}
+use Rattle.octets.specs.Answers.{Said}
+use Rattle.std.specs.Prelude.{if◌then◌else◌, Ok, Err}
 use Rattle.octets.specs.declared.Refusal.TheVariants.{NotInAlphabet}
 use Rattle.octets.proofs.Table.{below}
 use Rattle.septets.specs.Septets.{Digits, septets_in, packed_septets}
@@ -46,10 +46,10 @@ utf8_third c a b d r e = by_test (ltb c 0x80) refl (ltb c 0x800) refl
 
 -- a character that is read: its octets stand at the start of the text
 abbrev Starts : List ℕ → Said (ℕ × ℕ) → Type 0
-Starts xs (gives (c, w)) = (xs ≡ utf8 c ++ drop w xs) × (1 ≤ w)
-Starts xs (refuses why) = Unit
+Starts xs (Ok (c, w)) = (xs ≡ utf8 c ++ drop w xs) × (1 ≤ w)
+Starts xs (Err why) = Unit
 
-accept : (xs : List ℕ) (c w : ℕ) (t : Bool) → (t ≡ true → Starts xs (gives (c, w))) → Starts xs (if t then gives (c, w) else refuses NotInAlphabet)
+accept : (xs : List ℕ) (c w : ℕ) (t : Bool) → (t ≡ true → Starts xs (Ok (c, w))) → Starts xs (if t then Ok (c, w) else Err NotInAlphabet)
 accept xs c w true f = f refl
 accept xs c w false f = tt
 
@@ -74,7 +74,7 @@ unfolding first_character
 starts x xs = by_first (ltb x 0x80) refl (ltb x 0xe0)
   where
     by_first : (t : Bool) → ltb x 0x80 ≡ t → (u : Bool)
-        → Starts (x ∷ xs) (if t then gives (x, 1) else if u then two_octets x (get_or xs 0 0) else three_octets x (get_or xs 0 0) (get_or xs 1 0))
+        → Starts (x ∷ xs) (if t then Ok (x, 1) else if u then two_octets x (get_or xs 0 0) else three_octets x (get_or xs 0 0) (get_or xs 1 0))
     by_first true e u = (rw (utf8_one x (ltb-true _ _ e)), omega arith)
     by_first false e true = starts_two (x ∷ xs) (omega arith)
     by_first false e false = starts_three (x ∷ xs) (omega arith)
@@ -90,16 +90,16 @@ Entries xs none = Unit
 Entries xs (some ss) = (es : List Entry) × (spelled es ≡ xs) × (coded es ≡ ss)
 
 module _ (x : ℕ) (xs : List ℕ) where
-  by_code : (c w : ℕ) → Starts (x ∷ xs) (gives (c, w)) → (a : Said (List ℕ)) → Says c a → (r : Option (List ℕ)) → Entries (drop (w - 1) xs) r → Entries (x ∷ xs) (before a r)
+  by_code : (c w : ℕ) → Starts (x ∷ xs) (Ok (c, w)) → (a : Said (List ℕ)) → Says c a → (r : Option (List ℕ)) → Entries (drop (w - 1) xs) r → Entries (x ∷ xs) (before a r)
   unfolding before spelled coded
-  by_code c w st (gives ks) says none b = tt
-  by_code c w st (gives ks) says (some ss) b = (says.0 ∷ b.0, rw (says.1, b.1, ← drop_first x xs w st.1) (sym st.0), rw (says.2, b.2))
-  by_code c w st (refuses why) says r b = tt
+  by_code c w st (Ok ks) says none b = tt
+  by_code c w st (Ok ks) says (some ss) b = (says.0 ∷ b.0, rw (says.1, b.1, ← drop_first x xs w st.1) (sym st.0), rw (says.2, b.2))
+  by_code c w st (Err why) says r b = tt
 
   by_character_lem : (f : Said (ℕ × ℕ)) → Starts (x ∷ xs) f → ((k : ℕ) → Entries (drop k xs) (scan xs k)) → Entries (x ∷ xs) (starting_with f (λ skip. scan xs skip))
   unfolding starting_with
-  by_character_lem (gives (c, w)) st ih = by_code c w st (code_of c) (code_says_lem c) (scan xs (w - 1)) (ih (w - 1))
-  by_character_lem (refuses why) st ih = tt
+  by_character_lem (Ok (c, w)) st ih = by_code c w st (code_of c) (code_says_lem c) (scan xs (w - 1)) (ih (w - 1))
+  by_character_lem (Err why) st ih = tt
 
 entries : (xs : List ℕ) (k : ℕ) → Entries (drop k xs) (scan xs k)
 unfolding scan spelled coded
@@ -122,11 +122,11 @@ first_three_octets : (a b d : ℕ) (rest : List ℕ) → 0xe0 ≤ a → first_ch
 unfolding first_character
 first_three_octets a b d rest h = let l : 0x80 ≤ a = omega arith in rw (le-ltb a 0x80 l, le-ltb a 0xe0 h)
 
-first_of : (c : ℕ) (rest : List ℕ) → c < 0x10000 → first_character (utf8 c ++ rest) ≡ gives (c, length (utf8 c))
+first_of : (c : ℕ) (rest : List ℕ) → c < 0x10000 → first_character (utf8 c ++ rest) ≡ Ok (c, length (utf8 c))
 unfolding first_character
 first_of c rest h = by_test (ltb c 0x80) refl (ltb c 0x800) refl
   where
-    by_test : (t : Bool) → ltb c 0x80 ≡ t → (u : Bool) → ltb c 0x800 ≡ u → first_character (utf8 c ++ rest) ≡ gives (c, length (utf8 c))
+    by_test : (t : Bool) → ltb c 0x80 ≡ t → (u : Bool) → ltb c 0x800 ≡ u → first_character (utf8 c ++ rest) ≡ Ok (c, length (utf8 c))
     by_test true p u q = rw (utf8_one c (ltb-true c 0x80 p), p)
     by_test false p true q =
         let l = ltb-false c 0x80 p in
@@ -135,7 +135,7 @@ first_of c rest h = by_test (ltb c 0x80) refl (ltb c 0x800) refl
         let b = 128 + c % 64 in
         let back : two a b ≡ c = omega arith in
         rw (utf8_two c l s)
-        (first_two_octets a b rest (omega arith) (omega arith) ∙ two_read a b (omega arith) (rw back) (rw back) ∙ ap (λ (n : ℕ). gives (n, 2)) back)
+        (first_two_octets a b rest (omega arith) (omega arith) ∙ two_read a b (omega arith) (rw back) (rw back) ∙ ap (λ (n : ℕ). Ok (n, 2)) back)
     by_test false p false q =
         let l = ltb-false c 0x800 q in
         let a = 224 + c / 4096 in
@@ -143,7 +143,7 @@ first_of c rest h = by_test (ltb c 0x80) refl (ltb c 0x800) refl
         let d = 128 + c % 64 in
         let back : three a b d ≡ c = omega arith in
         rw (utf8_three c l)
-        (first_three_octets a b d rest (omega arith) ∙ three_read a b d (omega arith) (rw back) (rw back) (rw back) ∙ ap (λ (n : ℕ). gives (n, 3)) back)
+        (first_three_octets a b d rest (omega arith) ∙ three_read a b d (omega arith) (rw back) (rw back) (rw back) ∙ ap (λ (n : ℕ). Ok (n, 3)) back)
 
 -- so its code comes first, and then the septets of what follows
 pub scan_utf8 : (c : ℕ) (rest : List ℕ) → c < 0x10000 → scan (utf8 c ++ rest) 0 ≡ before (code_of c) (scan rest 0)
@@ -158,7 +158,7 @@ unfolding character
 character_small (plain code h n) = ltb-true _ _ (below (λ k. ltb (get_or alphabet k 0) 0x10000) 128 refl code h)
 character_small (extended place h) = ltb-true _ _ (below (λ i. ltb (get_or extension i (row 0 0)).character 0x10000) 10 refl place h)
 
-pub entry_coded : (e : Entry) → code_of (character_of e) ≡ gives (septets_for e)
+pub entry_coded : (e : Entry) → code_of (character_of e) ≡ Ok (septets_for e)
 entry_coded (plain code h n) = alphabet_one_to_one code h n
 entry_coded (extended place h) = extension_coded place h
 

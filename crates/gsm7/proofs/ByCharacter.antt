@@ -8,8 +8,8 @@ use native.Mathlib.Omega.{arith}
 use borrow.Author.Tests.{ltb-true, lt-ltb, le-ltb, ne_eqb}
 use lib.Dec.{ltb}
 use lib.ListN.{get_or}
-use Rattle.octets.specs.Answers.{Said, gives, refuses}
-use Rattle.std.specs.Prelude.{if◌then◌else◌}
+use Rattle.octets.specs.Answers.{Said}
+use Rattle.std.specs.Prelude.{if◌then◌else◌, Ok, Err}
 use Rattle.octets.specs.declared.Refusal.TheVariants.{NotInAlphabet}
 use Rattle.octets.proofs.Table.{below}
 use Rattle.gsm7.specs.Alphabet.{alphabet, row_with, index_of}
@@ -44,7 +44,7 @@ greek =
 
 -- a table's entry is right where the test says so
 entry_right : (c x : ℕ) (others : Said (List ℕ)) → Ten others → same_code (code_of c) (entry x others) ≡ true → code_of c ≡ entry x others
-entry_right c x others h = same_code_lem (code_of c) (entry x others) (ten c (code_of c) (code_says_lem c)) (ten_or (ltb x 128) (gives (x ∷ [])) others tt h)
+entry_right c x others h = same_code_lem (code_of c) (entry x others) (ten c (code_of c) (code_says_lem c)) (ten_or (ltb x 128) (Ok (x ∷ [])) others tt h)
 
 code_test : ℕ → Bool
 code_test c = same_code (code_of c) (entry (get_or by_character c 0) (extended_code c))
@@ -54,11 +54,11 @@ unfolding code_test code_of extended_code index_of row_with same
 codes_right c h = entry_right c (get_or by_character c 0) (extended_code c) (ten c (extended_code c) (extended_says c)) (below code_test 256 refl c h)
 
 greek_test : ℕ → Bool
-greek_test k = same_code (code_of (0x393 + k)) (entry (get_or greek k 0) (refuses NotInAlphabet))
+greek_test k = same_code (code_of (0x393 + k)) (entry (get_or greek k 0) (Err NotInAlphabet))
 
-pub greek_right : (k : ℕ) → k < 23 → code_of (0x393 + k) ≡ entry (get_or greek k 0) (refuses NotInAlphabet)
+pub greek_right : (k : ℕ) → k < 23 → code_of (0x393 + k) ≡ entry (get_or greek k 0) (Err NotInAlphabet)
 unfolding greek_test code_of extended_code index_of row_with same
-greek_right k h = entry_right (0x393 + k) (get_or greek k 0) (refuses NotInAlphabet) refl (below greek_test 23 refl k h)
+greek_right k h = entry_right (0x393 + k) (get_or greek k 0) (Err NotInAlphabet) refl (below greek_test 23 refl k h)
 
 -- a character of the default alphabet is below 100 or a Greek letter
 abbrev placed : ℕ → Bool

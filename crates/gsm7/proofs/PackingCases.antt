@@ -14,7 +14,8 @@ use Rattle.octets.specs.declared.Refusal.TheVariants.{NotInAlphabet, TooManySept
 use Rattle.septets.specs.Septets.{header_septets, octet_count}
 use Rattle.septets.proofs.Inverse.{length_packed, octets_with_header}
 use Rattle.gsm7.specs.Writing.{septets_of}
-use Rattle.gsm7.specs.Packing.{SaidCounts, octets_after, packed_as, packed_after, packing}
+use Rattle.gsm7.specs.declared.packing.Packed.{Packed}
+use Rattle.gsm7.specs.Packing.{octets_after, packed_as, packed_after, packing}
 
 -- they take as many octets as all their septets: no packer passes 224
 pub length_after : (header ss : List ℕ) → length (octets_after header ss) ≡ octet_count 0 (header_septets (length header) + length ss)
@@ -49,12 +50,12 @@ module _ (header text : List ℕ) where
     packing_done h = packing_some ∙ after_done header ss h
 
   -- and where it gives octets
-  abbrev pub Made : List ℕ → SaidCounts → Type 0
+  abbrev pub Made : List ℕ → Packed → Type 0
   Made xs a =
       (ss : List ℕ) × (septets_of text ≡ some ss) × (header_septets (length header) + length ss ≤ 255) × (xs ≡ octets_after header ss)
       × (a ≡ packed_as (octets_after header ss) (header_septets (length header) + length ss))
 
-  pub packing_made : (xs : List ℕ) (a : SaidCounts) → packing header text ≡ made xs a
+  pub packing_made : (xs : List ℕ) (a : Packed) → packing header text ≡ made xs a
       → Made xs a
   packing_made xs a p = by_septets (septets_of text) refl
     where

@@ -1,5 +1,6 @@
 -- What holds of every text that is packed.
 -- Assumes nothing.
+use Rattle.std.specs.Prelude.{Ok, Err}
 use Prim.Native.Nat.{ℕ, ◌+◌, ◌≤◌}
 use mathlib.Core.Path.{◌≡◌, refl, sym, ◌∙◌, ap, ap₂}
 use mathlib.Core.Bool.{Bool, true, false}
@@ -11,15 +12,18 @@ use native.Mathlib.Nat.{zero-add}
 use borrow.Author.Tests.{ltb-true, ltb-false}
 use lib.Dec.{ltb}
 use lib.ListN.{length}
-use Rattle.octets.specs.Answers.{Said, fine}
 use Rattle.octets.specs.declared.Refusal.{Refusal}
 use Rattle.octets.specs.Lent.{refused, made}
 use Rattle.octets.specs.declared.Refusal.TheVariants.{NotInAlphabet}
 use Rattle.septets.specs.Septets.{octet_count, septets_in, packed_septets, header_septets}
 use Rattle.septets.proofs.Inverse.{length_packed, length_septets, septets_septets}
-use Rattle.gsm7.specs.Reading.{text_of, replaced_in, SaidText, text_given, text_refused, unpacked}
+use Rattle.gsm7.specs.Reading.{text_of, replaced_in, text_given, unpacked}
 use Rattle.gsm7.specs.Writing.{septets_of}
-use Rattle.gsm7.specs.Packing.{SaidCounts, packed_as, packing}
+use Rattle.gsm7.specs.Packing.{packed_as, packing}
+use Rattle.gsm7.specs.declared.decode.Unpacked.{Unpacked}
+use Rattle.gsm7.specs.declared.packing.Packed.{Packed}
+use Rattle.octets.proofs.Checks.{never}
+use Rattle.octets.proofs.Places.{given}
 use Rattle.gsm7.specs.Characters.{Entry, spelled}
 use Rattle.gsm7.proofs.Reading.{unpacked_long, unpacked_few, unpacked_done}
 use Rattle.gsm7.proofs.Adequate.{entries_of, written, text_packed_text, packed_none_replaced}
@@ -39,23 +43,23 @@ refused_with_10 header text = by_septets (septets_of text) refl
     by_septets (some ss) e =
         ((λ p es q. clash ss e p (ltb 255 (header_septets (length header) + length ss)) refl), λ h. absurd (let w = entries_of text ss e in h w.0 w.1))
 
--- the counts that a packer answers: the octets are those of the septets (TP-UDL), and never pass 224
-pub packing_counts : (header text xs : List ℕ) (said : Said Unit) (octets septets : ℕ) → packing header text ≡ made xs (said, octets, septets)
-    → (said ≡ fine) × (octets ≡ length xs) × (length xs ≡ octet_count 0 septets) × (length xs ≤ 224)
-packing_counts header text xs said octets septets p =
-    let m = packing_made header text xs (said, octets, septets) p in
+-- the counts that a packer tells: the octets are those of the septets (TP-UDL), and never pass 224
+pub packing_counts : (header text xs : List ℕ) (told : Packed) → packing header text ≡ made xs told
+    → (told.octets ≡ length xs) × (length xs ≡ octet_count 0 told.septets) × (length xs ≤ 224)
+packing_counts header text xs told p =
+    let m = packing_made header text xs told p in
     let long = ap length m.3 ∙ length_after header m.0 in
-    (ap (λ (b : SaidCounts). b.0) m.4, ap (λ (b : SaidCounts). b.1) m.4 ∙ sym (ap length m.3), long ∙ ap (λ (b : SaidCounts). octet_count 0 b.2) (sym m.4), omega (arith, m.2, long))
+    (ap (λ (b : Packed). b.octets) m.4 ∙ sym (ap length m.3), long ∙ ap (λ (b : Packed). octet_count 0 b.septets) (sym m.4), omega (arith, m.2, long))
 
 -- what was packed reads back as the text, none replaced
-pub packed_reads : (text xs : List ℕ) (said : Said Unit) (octets septets : ℕ) → packing [] text ≡ made xs (said, octets, septets) → unpacked xs 0 septets ≡ text_given text 0
-packed_reads text xs said octets septets p =
-    let m = packing_made [] text xs (said, octets, septets) p in
-    let n : septets ≡ length m.0 = ap (λ (b : SaidCounts). b.2) m.4 ∙ zero-add _ in
+pub packed_reads : (text xs : List ℕ) (told : Packed) → packing [] text ≡ made xs told → unpacked xs 0 told.septets ≡ Ok (text_given text 0)
+packed_reads text xs told p =
+    let m = packing_made [] text xs told p in
+    let n : told.septets ≡ length m.0 = ap (λ (b : Packed). b.septets) m.4 ∙ zero-add _ in
     let few : length m.0 ≤ 255 = omega (arith, m.2) in
     ap₂ (λ (os : List ℕ) (k : ℕ). unpacked os 0 k) m.3 n
     ∙ unpacked_done (packed_septets 0 m.0) 0 (length m.0) few (rw length_packed (omega arith))
-    ∙ ap₂ text_given (text_packed_text 0 text m.0 m.1) (packed_none_replaced 0 text m.0 m.1)
+    ∙ ap₂ (λ (t : List ℕ) (k : ℕ). Ok (text_given t k)) (text_packed_text 0 text m.0 m.1) (packed_none_replaced 0 text m.0 m.1)
 
 -- a text that was read with none replaced, and packed again, gives the same septets
 module _ (os : List ℕ) (n : ℕ) where
@@ -63,24 +67,20 @@ module _ (os : List ℕ) (n : ℕ) where
   ss = septets_in os 0 n
 
   abbrev Again : Type 0
-  Again = (unpacked os 0 n ≡ text_given (text_of ss) 0) × (packing [] (text_of ss) ≡ made (packed_septets 0 ss) (packed_as (packed_septets 0 ss) n))
+  Again = (unpacked os 0 n ≡ Ok (text_given (text_of ss) 0)) × (packing [] (text_of ss) ≡ made (packed_septets 0 ss) (packed_as (packed_septets 0 ss) n))
 
-  not_refused : (why : Refusal) → (unpacked os 0 n).0 ≡ fine → unpacked os 0 n ≡ text_refused why → Again
-  unfolding text_refused
-  not_refused why done e = let q = sym done ∙ ap (λ (u : SaidText). u.0) e in let z : ◌≡◌ {A = ℕ} 0 1 = cc in absurd (omega arith)
-
-  again : n ≤ 255 → octet_count 0 n ≤ length os → (unpacked os 0 n).3 ≡ 0 → Again
+  again : {text : Unpacked} → n ≤ 255 → octet_count 0 n ≤ length os → unpacked os 0 n ≡ Ok text → text.replaced_escapes ≡ 0 → Again
   unfolding text_given
-  again few enough none_is =
+  again few enough e none_is =
       let read = unpacked_done os 0 n few enough in
-      let counted : replaced_in ss ≡ 0 = sym (ap (λ (u : SaidText). u.3) read) ∙ none_is in
+      let counted : replaced_in ss ≡ 0 = ap (λ (u : Unpacked). u.replaced_escapes) (given (sym read ∙ e)) ∙ none_is in
       let long : length ss ≡ n = length_septets os 0 n in
-      (read ∙ ap (text_given (text_of ss)) counted, packing_done [] (text_of ss) ss (read_again ss (septets_septets os 0 n) counted) (omega arith) ∙ rw (long, zero-add))
+      (read ∙ ap (λ (k : ℕ). Ok (text_given (text_of ss) k)) counted, packing_done [] (text_of ss) ss (read_again ss (septets_septets os 0 n) counted) (omega arith) ∙ rw (long, zero-add))
 
-  pub packed_again : (unpacked os 0 n).0 ≡ fine → (unpacked os 0 n).3 ≡ 0 → Again
-  packed_again done none_is = by_count (ltb 255 n) refl (ltb (length os) (octet_count 0 n)) refl
+  pub packed_again : {text : Unpacked} → unpacked os 0 n ≡ Ok text → text.replaced_escapes ≡ 0 → Again
+  packed_again e none_is = by_count (ltb 255 n) refl (ltb (length os) (octet_count 0 n)) refl
     where
       by_count : (t : Bool) → ltb 255 n ≡ t → (u : Bool) → ltb (length os) (octet_count 0 n) ≡ u → Again
-      by_count true p u q = not_refused _ done (unpacked_long os 0 n (ltb-true _ _ p))
-      by_count false p true q = not_refused _ done (unpacked_few os 0 n (ltb-false _ _ p) (ltb-true _ _ q))
-      by_count false p false q = again (ltb-false _ _ p) (ltb-false _ _ q) none_is
+      by_count true p u q = absurd (never (sym e ∙ unpacked_long os 0 n (ltb-true _ _ p)))
+      by_count false p true q = absurd (never (sym e ∙ unpacked_few os 0 n (ltb-false _ _ p) (ltb-true _ _ q)))
+      by_count false p false q = again (ltb-false _ _ p) (ltb-false _ _ q) e none_is

@@ -1,5 +1,6 @@
 -- The text of the septets that are left, one character at a time; and what reading gives, case by case.
 -- Assumes nothing.
+use Rattle.std.specs.Prelude.{Ok, Err}
 use Prim.Native.Nat.{ℕ, suc, ◌+◌, ◌-◌, ◌*◌, ◌/◌, ◌^◌, ◌<◌, ◌≤◌}
 use mathlib.Core.Path.{◌≡◌, refl, ◌∙◌}
 use mathlib.Core.Bool.{true}
@@ -11,13 +12,13 @@ use lib.ListN.{length, replicate}
 use borrow.Author.Tests.{lt-ltb, le-ltb, eq-eqb, ne_eqb}
 use Rattle.octets.specs.Lent.{Wrote}
 use Rattle.octets.specs.declared.Refusal.TheVariants.{LengthTooLarge, TooFewOctets}
-use Rattle.octets.specs.Answers.{fine}
 use Rattle.octets.proofs.Laws.{sets_zeros}
 use Rattle.septets.specs.Septets.{number_of, lowest_digits, septet_from, septet_at, in_window, septets_in, octet_count}
 use Rattle.septets.proofs.Number.{digits_step}
 use Rattle.gsm7.specs.Alphabet.{character, escaped, replaced}
 use Rattle.gsm7.specs.Internal.{plain, four_plain, four_characters}
-use Rattle.gsm7.specs.Reading.{utf8, text_of, after_escape, replaced_in, replaced_after, SaidText, text_given, text_refused, unpacked}
+use Rattle.gsm7.specs.declared.decode.Unpacked.{Unpacked}
+use Rattle.gsm7.specs.Reading.{utf8, text_of, after_escape, replaced_in, replaced_after, text_given, unpacked}
 use Rattle.gsm7.proofs.Utf8.{utf8_one}
 use Rattle.gsm7.proofs.PlainSeptets.{plain_means, each_plain}
 
@@ -143,21 +144,21 @@ replaced_start os f n = rw left_start
 
 -- what reading gives, case by case
 module _ (os : List ℕ) (f n : ℕ) where
-  pub unpacked_long : 255 < n → unpacked os f n ≡ text_refused LengthTooLarge
+  pub unpacked_long : 255 < n → unpacked os f n ≡ Err LengthTooLarge
   unfolding unpacked
   unpacked_long h = rw (lt-ltb 255 n h)
 
   module _ (few : n ≤ 255) where
-    pub unpacked_few : length os < octet_count f n → unpacked os f n ≡ text_refused TooFewOctets
+    pub unpacked_few : length os < octet_count f n → unpacked os f n ≡ Err TooFewOctets
     unfolding unpacked
     unpacked_few h = rw (le-ltb 255 n few, lt-ltb _ _ h)
 
-    pub unpacked_done : octet_count f n ≤ length os → unpacked os f n ≡ text_given (text_of (septets_in os f n)) (replaced_in (septets_in os f n))
+    pub unpacked_done : octet_count f n ≤ length os → unpacked os f n ≡ Ok (text_given (text_of (septets_in os f n)) (replaced_in (septets_in os f n)))
     unfolding unpacked
     unpacked_done h = rw (le-ltb 255 n few, le-ltb _ _ h)
 
 -- a text stored from the start of the array
 pub text_stored : (text : List ℕ) (k : ℕ) → length text ≤ 510 → {n m : ℕ} {array : List ℕ} → Wrote 0 text (replicate 510 0) n array × (m ≡ k)
-    → ◌≡◌ {A = SaidText} (fine, array, n, m) (text_given text k)
+    → ◌≡◌ {A = Unpacked} (record { text = array; text_length = n; replaced_escapes = m }) (text_given text k)
 unfolding text_given
 text_stored text k h w = rw (w.0.place, w.0.list, zero-add, sets_zeros 510 text h, w.1)

@@ -8,26 +8,25 @@ use mathlib.Core.Option.{Option, none, some}
 use native.Mathlib.Omega.{arith}
 use lib.Dec.{ltb}
 use lib.ListN.{length, get_or, take, drop, replicate, length-append, drop_of_length-le}
-use lib.Seq.{drop-cons, drop-drop, sets}
-use Rattle.octets.specs.Answers.{Said, gives, refuses}
-use Rattle.std.specs.Prelude.{if◌then◌else◌}
+use lib.Seq.{drop-cons, drop-drop, sets, length-sets}
+use Rattle.octets.specs.Answers.{Said}
+use Rattle.std.specs.Prelude.{if◌then◌else◌, Ok, Err}
 use Rattle.octets.specs.Lent.{Wrote}
 use Rattle.octets.specs.declared.Refusal.{Refusal}
 use Rattle.octets.specs.declared.Refusal.TheVariants.{NotInAlphabet}
 use Rattle.octets.proofs.Laws.{sets_append, sets_zeros, take_pad}
-use Rattle.gsm7.specs.declared.encode.Scanned.{Scanned}
-use Rattle.gsm7.specs.declared.encode.Scanned.TheVariants.{Counted, NotCoded}
+use Rattle.octets.proofs.Checks.{never}
 use Rattle.gsm7.specs.Characters.{Entry, plain, extended, septets_for}
 use Rattle.gsm7.specs.Reading.{utf8}
 use Rattle.gsm7.specs.Writing.{same, code_of, two_octets, three_octets, first_character, before, starting_with, scan}
-use Rattle.gsm7.specs.Internal.{scanned_says, ScannedAs, stored}
+use Rattle.gsm7.specs.Internal.{ScannedAs, stored}
 use Rattle.gsm7.proofs.FirstCharacter.{two, three}
 use Rattle.gsm7.proofs.Tables.{Says, code_says_lem}
 
 -- a character has one to three octets
 abbrev width : Said (ℕ × ℕ) → ℕ
-width (gives (c, w)) = w
-width (refuses why) = 1
+width (Ok (c, w)) = w
+width (Err why) = 1
 
 abbrev Narrow : Said (ℕ × ℕ) → Type 0
 Narrow s = (1 ≤ width s) × (width s ≤ 3)
@@ -38,20 +37,20 @@ narrow_or false a b p q = q
 
 narrow_two : (a b : ℕ) → Narrow (two_octets a b)
 unfolding two_octets
-narrow_two a b = narrow_or (same (utf8 (two a b)) (a ∷ b ∷ [])) (gives (two a b, 2)) (refuses NotInAlphabet) (omega arith) (omega arith)
+narrow_two a b = narrow_or (same (utf8 (two a b)) (a ∷ b ∷ [])) (Ok (two a b, 2)) (Err NotInAlphabet) (omega arith) (omega arith)
 
 narrow_three : (a b d : ℕ) → Narrow (three_octets a b d)
 unfolding three_octets
-narrow_three a b d = narrow_or (same (utf8 (three a b d)) (a ∷ b ∷ d ∷ [])) (gives (three a b d, 3)) (refuses NotInAlphabet) (omega arith) (omega arith)
+narrow_three a b d = narrow_or (same (utf8 (three a b d)) (a ∷ b ∷ d ∷ [])) (Ok (three a b d, 3)) (Err NotInAlphabet) (omega arith) (omega arith)
 
 narrow : (xs : List ℕ) → Narrow (first_character xs)
 unfolding first_character
 narrow xs =
     let a = get_or xs 0 0 in
-    narrow_or (ltb a 0x80) (gives (a, 1)) (if ltb a 0xe0 then two_octets a (get_or xs 1 0) else three_octets a (get_or xs 1 0) (get_or xs 2 0)) (omega arith)
+    narrow_or (ltb a 0x80) (Ok (a, 1)) (if ltb a 0xe0 then two_octets a (get_or xs 1 0) else three_octets a (get_or xs 1 0) (get_or xs 2 0)) (omega arith)
     (narrow_or (ltb a 0xe0) (two_octets a (get_or xs 1 0)) (three_octets a (get_or xs 1 0) (get_or xs 2 0)) (narrow_two a (get_or xs 1 0)) (narrow_three a (get_or xs 1 0) (get_or xs 2 0)))
 
-pub first_width : (xs : List ℕ) (c w : ℕ) → first_character xs ≡ gives (c, w) → (1 ≤ w) × (w ≤ 3)
+pub first_width : (xs : List ℕ) (c w : ℕ) → first_character xs ≡ Ok (c, w) → (1 ≤ w) × (w ≤ 3)
 first_width xs c w e = rw e at (narrow xs)
 
 scan_skip : (xs : List ℕ) (k : ℕ) → scan xs k ≡ scan (drop k xs) 0
@@ -73,7 +72,7 @@ entry_few (extended place h) = omega arith
 
 -- the septets of a character stored, the rest is stored after them
 module _ {codes after : List ℕ} {count next : ℕ} where
-  pub settled_before : (ks : List ℕ) → Wrote count ks codes next after → (o : Option (List ℕ)) → settled codes count (before (gives ks) o) ≡ settled after next o
+  pub settled_before : (ks : List ℕ) → Wrote count ks codes next after → (o : Option (List ℕ)) → settled codes count (before (Ok ks) o) ≡ settled after next o
   unfolding settled before
   settled_before ks w none = refl
   settled_before ks w (some ss) =
@@ -84,21 +83,21 @@ module _ {codes after : List ℕ} {count next : ℕ} where
   module _ (c : ℕ) (w : Wrote count (stored (code_of c)) codes next after) where
     -- a character has at most two septets, and none exactly where it has no code
     abbrev Stored : Said (List ℕ) → Type 0
-    Stored a = Says c a → Wrote count (stored a) codes next after → (next ≤ count + 2) × ((next ≡ count → ⊥) → (ks : List ℕ) × (a ≡ gives ks) × Wrote count ks codes next after) × (next ≡ count → a ≡ refuses NotInAlphabet)
+    Stored a = Says c a → Wrote count (stored a) codes next after → (next ≤ count + 2) × ((next ≡ count → ⊥) → (ks : List ℕ) × (a ≡ Ok ks) × Wrote count ks codes next after) × (next ≡ count → a ≡ Err NotInAlphabet)
 
     by_septets : (a : Said (List ℕ)) → Stored a
-    by_septets (gives ks) s w =
+    by_septets (Ok ks) s w =
         let few = rw s.2 at (entry_few s.0) in
         (omega (arith, w.place), (λ n. (ks, refl, w)), λ e. absurd (omega (arith, w.place)))
-    by_septets (refuses why) s w = (omega (arith, w.place), (λ n. absurd (n (omega (arith, w.place)))), λ e. ap refuses s)
+    by_septets (Err why) s w = (omega (arith, w.place), (λ n. absurd (n (omega (arith, w.place)))), λ e. ap Err s)
 
     pub stored_few : next ≤ count + 2
     stored_few = (by_septets (code_of c) (code_says_lem c) w).0
 
-    pub stored_some : (next ≡ count → ⊥) → (ks : List ℕ) × (code_of c ≡ gives ks) × Wrote count ks codes next after
+    pub stored_some : (next ≡ count → ⊥) → (ks : List ℕ) × (code_of c ≡ Ok ks) × Wrote count ks codes next after
     stored_some = (by_septets (code_of c) (code_says_lem c) w).1
 
-    pub stored_none : next ≡ count → code_of c ≡ refuses NotInAlphabet
+    pub stored_none : next ≡ count → code_of c ≡ Err NotInAlphabet
     stored_none = (by_septets (code_of c) (code_says_lem c) w).2
 
 module _ (text : List ℕ) (i : ℕ) where
@@ -107,55 +106,66 @@ module _ (text : List ℕ) (i : ℕ) where
   scan_end h = rw (drop_of_length-le text h)
 
   module _ (h : i < length text) where
-    pub scan_broken : {why : Refusal} → first_character (drop i text) ≡ refuses why → scan (drop i text) 0 ≡ none
+    pub scan_broken : {why : Refusal} → first_character (drop i text) ≡ Err why → scan (drop i text) 0 ≡ none
     unfolding scan starting_with
     scan_broken {why} e =
-        let e' : first_character (get_or text i 0 ∷ drop (suc i) text) ≡ refuses why = rw (drop-cons text i 0 h) at e in
+        let e' : first_character (get_or text i 0 ∷ drop (suc i) text) ≡ Err why = rw (drop-cons text i 0 h) at e in
         rw (drop-cons text i 0 h, e')
 
-    module _ (c w : ℕ) (e : first_character (drop i text) ≡ gives (c, w)) where
+    module _ (c w : ℕ) (e : first_character (drop i text) ≡ Ok (c, w)) where
       pub scan_read : scan (drop i text) 0 ≡ before (code_of c) (scan (drop (i + w) text) 0)
       unfolding scan starting_with
       scan_read =
-          let e' : first_character (get_or text i 0 ∷ drop (suc i) text) ≡ gives (c, w) = rw (drop-cons text i 0 h) at e in
+          let e' : first_character (get_or text i 0 ∷ drop (suc i) text) ≡ Ok (c, w) = rw (drop-cons text i 0 h) at e in
           let wide = first_width (drop i text) c w e in
           let far : suc i + (w - 1) ≡ i + w = omega arith in
           rw (drop-cons text i 0 h, e') (ap (before (code_of c)) (scan_skip (drop (suc i) text) (w - 1) ∙ rw (drop-drop, far)))
 
-      pub scan_absent : {why : Refusal} → code_of c ≡ refuses why → scan (drop i text) 0 ≡ none
+      pub scan_absent : {why : Refusal} → code_of c ≡ Err why → scan (drop i text) 0 ≡ none
       unfolding before
       scan_absent p = scan_read ∙ rw p
 
       -- the turn of a loop that stores the septets of the next character
-      pub scan_more : {codes after : List ℕ} {count next : ℕ} (ks : List ℕ) → code_of c ≡ gives ks → Wrote count ks codes next after
+      pub scan_more : {codes after : List ℕ} {count next : ℕ} (ks : List ℕ) → code_of c ≡ Ok ks → Wrote count ks codes next after
           → {whole : Option (List ℕ × ℕ)} → settled codes count (scan (drop i text) 0) ≡ whole → settled after next (scan (drop (i + w) text) 0) ≡ whole
       scan_more ks p written inv = sym (settled_before ks written (scan (drop (i + w) text) 0)) ∙ rw (scan_read, p) at inv
 
 -- what a scan answers, once all is settled
-pub scanned_none : (o : Option (List ℕ)) (codes a b : List ℕ) (count : ℕ) (rest : Option (List ℕ)) → rest ≡ none → settled codes count rest ≡ settled a 0 o → ScannedAs o NotCoded a b
+pub scanned_none : (o : Option (List ℕ)) (codes a b : List ℕ) (count : ℕ) (rest : Option (List ℕ)) → rest ≡ none → settled codes count rest ≡ settled a 0 o → ScannedAs o (Err NotInAlphabet) a b
 unfolding settled
 scanned_none none codes a b count rest e p = refl
 scanned_none (some ss) codes a b count rest e p = let q = rw e at p in let z : ◌≡◌ {A = ℕ} 0 1 = cc in absurd (omega arith)
 
-pub scanned_done : (o : Option (List ℕ)) (codes a : List ℕ) (count : ℕ) (rest : Option (List ℕ)) → rest ≡ some [] → settled codes count rest ≡ settled a 0 o → ScannedAs o (Counted count) a codes
+pub scanned_done : (o : Option (List ℕ)) (codes a : List ℕ) (count : ℕ) (rest : Option (List ℕ)) → rest ≡ some [] → settled codes count rest ≡ settled a 0 o → ScannedAs o (Ok count) a codes
 unfolding settled
 scanned_done none codes a count rest e p = let q = rw e at p in let z : ◌≡◌ {A = ℕ} 0 1 = cc in absurd (omega arith)
 scanned_done (some ss) codes a count rest e p =
     let q : ◌≡◌ {A = Option (List ℕ × ℕ)} (some (codes, count + 0)) (some (sets a 0 ss, 0 + length ss)) = rw e at p in
     let r : ◌≡◌ {A = List ℕ × ℕ} (codes, count + 0) (sets a 0 ss, 0 + length ss) = cc in
     let n : count ≡ length ss = omega (arith, ap (λ (x : List ℕ × ℕ). x.1) r) in
-    (ap gives n, ap (λ (x : List ℕ × ℕ). x.0) r)
+    (ap Ok n, ap (λ (x : List ℕ × ℕ). x.0) r)
 
 -- what a scan's answer says of the septets
-pub scanned_some : (o : Option (List ℕ)) {r : Scanned} (a b : List ℕ) {n : ℕ} → ScannedAs o r a b → r ≡ Counted n
+pub scanned_some : (o : Option (List ℕ)) {r : Said ℕ} (a b : List ℕ) {n : ℕ} → ScannedAs o r a b → r ≡ Ok n
     → (ss : List ℕ) × (o ≡ some ss) × (n ≡ length ss) × (b ≡ sets a 0 ss)
-scanned_some none a b h e = let q = sym (ap scanned_says e) ∙ h in let z : ◌≡◌ {A = ℕ} 0 1 = cc in absurd (omega arith)
-scanned_some (some ss) a b h e = let q = sym (ap scanned_says e) ∙ h.0 in (ss, refl, (cc), h.1)
+scanned_some none a b h e = let q = sym e ∙ h in let z : ◌≡◌ {A = ℕ} 0 1 = cc in absurd (omega arith)
+scanned_some (some ss) a b h e = let q = sym e ∙ h.0 in (ss, refl, (cc), h.1)
 
-pub scanned_not : (o : Option (List ℕ)) {r : Scanned} (a b : List ℕ) → ScannedAs o r a b → r ≡ NotCoded → o ≡ none
-scanned_not none a b h e = refl
-scanned_not (some ss) a b h e = let q = sym (ap scanned_says e) ∙ h.0 in let z : ◌≡◌ {A = ℕ} 0 1 = cc in absurd (omega arith)
+pub scanned_not : (o : Option (List ℕ)) {why : Refusal} (a b : List ℕ) → ScannedAs o (Err why) a b → (o ≡ none) × (why ≡ NotInAlphabet)
+scanned_not none a b h = (refl, (cc))
+scanned_not (some ss) a b h = absurd (never (sym h.0))
 
 -- the septets that fit the array stand at its start
 pub codes_are : (ss : List ℕ) {b : List ℕ} {n : ℕ} → n ≡ length ss → b ≡ sets (replicate 255 0) 0 ss → n ≤ 255 → take n b ≡ ss
 codes_are ss e h l = rw (h, sets_zeros 255 ss (omega arith), e) (take_pad 255 ss)
+
+-- where the septets are counted: they are known, the array keeps its length, and those that fit it stand at its start
+module _ (o : Option (List ℕ)) (codes : List ℕ) (n : ℕ) (scan : ScannedAs o (Ok n) (replicate 255 0) codes) where
+  pub scanned_codes : (ss : List ℕ) × (o ≡ some ss) × (n ≡ length ss) × (codes ≡ sets (replicate 255 0) 0 ss)
+  scanned_codes = scanned_some o (replicate 255 0) codes scan refl
+
+  pub codes_long : length codes ≡ 255
+  codes_long = ap length scanned_codes.3 ∙ length-sets (replicate 255 0) 0 scanned_codes.0
+
+  pub codes_first : n ≤ 255 → take n codes ≡ scanned_codes.0
+  codes_first few = codes_are scanned_codes.0 scanned_codes.2 scanned_codes.3 few

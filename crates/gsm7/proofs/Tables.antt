@@ -9,8 +9,8 @@ use native.Mathlib.Omega.{arith}
 use borrow.Author.Tests.{ltb-true, eqb-true, eqb-false, ne_eqb}
 use lib.Dec.{eqb, ltb}
 use lib.ListN.{get_or}
-use Rattle.octets.specs.Answers.{Said, gives, refuses}
-use Rattle.std.specs.Prelude.{if◌then◌else◌}
+use Rattle.octets.specs.Answers.{Said}
+use Rattle.std.specs.Prelude.{if◌then◌else◌, Ok, Err}
 use Rattle.octets.specs.declared.Refusal.TheVariants.{NotInAlphabet}
 use Rattle.octets.proofs.Choice.{and_true}
 use Rattle.octets.proofs.Table.{below}
@@ -23,8 +23,8 @@ use Rattle.gsm7.proofs.Rows.{Stands, row_stands, index_found}
 -- ---- the septets of a character are those of an entry of the tables; where it has none, 10
 
 abbrev pub Says : ℕ → Said (List ℕ) → Type 0
-Says c (gives ks) = (e : Entry) × (character_of e ≡ c) × (septets_for e ≡ ks)
-Says c (refuses why) = why ≡ NotInAlphabet
+Says c (Ok ks) = (e : Entry) × (character_of e ≡ c) × (septets_for e ≡ ks)
+Says c (Err why) = why ≡ NotInAlphabet
 
 module _ (c : ℕ) where
   by_row : (o : Option Extension) → Stands (λ (e : Extension). e.character) c extension o → Says c (escape_and_code o)
@@ -39,14 +39,14 @@ module _ (c : ℕ) where
   unfolding code_of character
   code_says_lem = by_space (eqb c 0x20) refl
     where
-      by_alphabet : (eqb c 0x20 ≡ false) → (t : Bool) → ltb (index_of alphabet c) 128 ≡ t → Says c (if t then gives (index_of alphabet c ∷ []) else extended_code c)
+      by_alphabet : (eqb c 0x20 ≡ false) → (t : Bool) → ltb (index_of alphabet c) 128 ≡ t → Says c (if t then Ok (index_of alphabet c ∷ []) else extended_code c)
       by_alphabet n true e =
           let h : index_of alphabet c < 128 = ltb-true _ _ e in
           let found : get_or alphabet (index_of alphabet c) 0 ≡ c = index_found alphabet c h in
           (plain (index_of alphabet c) h (λ p. eqb-false c 0x20 n (sym found ∙ ap (λ (k : ℕ). get_or alphabet k 0) p)), found, refl)
       by_alphabet n false e = extended_says
 
-      by_space : (t : Bool) → eqb c 0x20 ≡ t → Says c (if t then gives (0x20 ∷ []) else if ltb (index_of alphabet c) 128 then gives (index_of alphabet c ∷ []) else extended_code c)
+      by_space : (t : Bool) → eqb c 0x20 ≡ t → Says c (if t then Ok (0x20 ∷ []) else if ltb (index_of alphabet c) 128 then Ok (index_of alphabet c ∷ []) else extended_code c)
       by_space true e = (plain 0x20 (omega arith) (λ p. omega arith), sym (eqb-true c 0x20 e), refl)
       by_space false e = by_alphabet e (ltb (index_of alphabet c) 128) refl
 
@@ -62,39 +62,39 @@ same_is (x ∷ xs) (y ∷ ys) e =
     ap₂ ◌∷◌ (eqb-true x y t.1) (same_is xs ys t.0)
 
 abbrev pub same_code : Said (List ℕ) → Said (List ℕ) → Bool
-same_code (gives xs) (gives ys) = same xs ys
-same_code (gives xs) (refuses why) = false
-same_code (refuses why) (gives ys) = false
-same_code (refuses why) (refuses why') = true
+same_code (Ok xs) (Ok ys) = same xs ys
+same_code (Ok xs) (Err why) = false
+same_code (Err why) (Ok ys) = false
+same_code (Err why) (Err why') = true
 
 -- a refusal is 10
 abbrev pub Ten : Said (List ℕ) → Type 0
-Ten (gives ks) = Unit
-Ten (refuses why) = why ≡ NotInAlphabet
+Ten (Ok ks) = Unit
+Ten (Err why) = why ≡ NotInAlphabet
 
 pub ten : (c : ℕ) (a : Said (List ℕ)) → Says c a → Ten a
-ten c (gives ks) s = tt
-ten c (refuses why) s = s
+ten c (Ok ks) s = tt
+ten c (Err why) s = s
 
 pub ten_or : (t : Bool) (a b : Said (List ℕ)) → Ten a → Ten b → Ten (if t then a else b)
 ten_or true a b p q = p
 ten_or false a b p q = q
 
 pub same_code_lem : (a b : Said (List ℕ)) → Ten a → Ten b → same_code a b ≡ true → a ≡ b
-same_code_lem (gives xs) (gives ys) p q t = ap gives (same_is xs ys t)
-same_code_lem (gives xs) (refuses why) p q t = absurd (false≢true t)
-same_code_lem (refuses why) (gives ys) p q t = absurd (false≢true t)
-same_code_lem (refuses why) (refuses why') p q t = ap refuses (p ∙ sym q)
+same_code_lem (Ok xs) (Ok ys) p q t = ap Ok (same_is xs ys t)
+same_code_lem (Ok xs) (Err why) p q t = absurd (false≢true t)
+same_code_lem (Err why) (Ok ys) p q t = absurd (false≢true t)
+same_code_lem (Err why) (Err why') p q t = ap Err (p ∙ sym q)
 
-pub same_septets : (c : ℕ) (ks : List ℕ) → same_code (code_of c) (gives ks) ≡ true → code_of c ≡ gives ks
-same_septets c ks t = same_code_lem (code_of c) (gives ks) (ten c (code_of c) (code_says_lem c)) tt t
+pub same_septets : (c : ℕ) (ks : List ℕ) → same_code (code_of c) (Ok ks) ≡ true → code_of c ≡ Ok ks
+same_septets c ks t = same_code_lem (code_of c) (Ok ks) (ten c (code_of c) (code_says_lem c)) tt t
 
 -- ---- the alphabet is one-to-one but for the space of 1B
 
 single_test : ℕ → Bool
-single_test k = if eqb k 0x1b then true else same_code (code_of (character k)) (gives (k ∷ []))
+single_test k = if eqb k 0x1b then true else same_code (code_of (character k)) (Ok (k ∷ []))
 
-pub alphabet_one_to_one : (k : ℕ) → k < 128 → (k ≡ 0x1b → ⊥) → code_of (character k) ≡ gives (k ∷ [])
+pub alphabet_one_to_one : (k : ℕ) → k < 128 → (k ≡ 0x1b → ⊥) → code_of (character k) ≡ Ok (k ∷ [])
 unfolding single_test code_of index_of character extended_code row_with same
 alphabet_one_to_one k h n = same_septets (character k) (k ∷ []) (rw (ne_eqb k 0x1b n) at (below single_test 128 refl k h))
 
@@ -104,21 +104,21 @@ abbrev septets_of_row : Extension → List ℕ
 septets_of_row e = 0x1b ∷ e.code ∷ []
 
 extension_test : Extension → Bool
-extension_test e = same_code (code_of e.character) (gives (septets_of_row e)) && (eqb (escaped e.code) e.character && (ltb e.code 128 && eqb (replaced e.code) 0))
+extension_test e = same_code (code_of e.character) (Ok (septets_of_row e)) && (eqb (escaped e.code) e.character && (ltb e.code 128 && eqb (replaced e.code) 0))
 
 module _ (i : ℕ) (h : i < 10) where
   abbrev e : Extension
   e = get_or extension i (row 0 0)
 
-  tested : (code_of e.character ≡ gives (septets_of_row e)) × (escaped e.code ≡ e.character) × (e.code < 128) × (replaced e.code ≡ 0)
+  tested : (code_of e.character ≡ Ok (septets_of_row e)) × (escaped e.code ≡ e.character) × (e.code < 128) × (replaced e.code ≡ 0)
   unfolding extension_test code_of index_of escaped replaced character extended_code row_with same
   tested =
-      let (coded, more) = and_true (same_code (code_of e.character) (gives (septets_of_row e))) _ (below (λ i. extension_test (get_or extension i (row 0 0))) 10 refl i h) in
+      let (coded, more) = and_true (same_code (code_of e.character) (Ok (septets_of_row e))) _ (below (λ i. extension_test (get_or extension i (row 0 0))) 10 refl i h) in
       let (shown, last) = and_true (eqb (escaped e.code) e.character) _ more in
       let (small, listed) = and_true (ltb e.code 128) _ last in
       (same_septets e.character (septets_of_row e) coded, eqb-true _ _ shown, ltb-true _ _ small, eqb-true _ _ listed)
 
-  pub extension_coded : code_of e.character ≡ gives (septets_of_row e)
+  pub extension_coded : code_of e.character ≡ Ok (septets_of_row e)
   extension_coded = tested.0
 
   pub extension_shown : escaped e.code ≡ e.character

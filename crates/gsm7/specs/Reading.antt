@@ -1,8 +1,7 @@
 -- The text of septets (TS 23.038 §6.2.1.1), in UTF-8, and what the text readers answer.
-use Rattle.std.specs.Prelude.{ℕ, ◌+◌, ◌/◌, ◌%◌, ◌≡◌, refl, List, [], ◌∷◌, ◌++◌, length, eqb, ltb, if◌then◌else◌}
-use Rattle.octets.specs.Answers.{Said, refuses, fine, outcome_says}
+use Rattle.std.specs.Prelude.{ℕ, ◌+◌, ◌/◌, ◌%◌, ◌≡◌, refl, List, [], ◌∷◌, ◌++◌, length, eqb, ltb, if◌then◌else◌, Ok, Err}
+use Rattle.octets.specs.Answers.{Said}
 use Rattle.octets.specs.Arrays.{pad}
-use Rattle.octets.specs.declared.Refusal.{Refusal}
 use Rattle.octets.specs.declared.Refusal.TheVariants.{LengthTooLarge, TooFewOctets}
 use Rattle.septets.specs.Septets.{number_of, lowest_digits, septets_in, octet_count}
 use Rattle.gsm7.specs.declared.decode.Unpacked.{Unpacked}
@@ -46,27 +45,16 @@ unfoldable pub replaced_in_all : List (List ℕ) → ℕ
 replaced_in_all [] = 0
 replaced_in_all (text ∷ texts) = replaced_in text + replaced_in_all texts
 
--- what a text reader's answer says: its outcome, the text's array, how many octets of it are text, and how many escapes were replaced
-abbrev pub SaidText : Type 0
-SaidText = Said Unit × List ℕ × ℕ × ℕ
-
-abbrev pub unpacked_says : Unpacked → SaidText
-unpacked_says u = (outcome_says u.outcome, u.text, u.text_length, u.replaced_escapes)
-
 -- a text in its array, with n escapes replaced
-unfoldable pub text_given : List ℕ → ℕ → SaidText
-text_given text n = (fine, pad 510 text, length text, n)
-
--- a refusal: no text
-unfoldable pub text_refused : Refusal → SaidText
-text_refused why = (refuses why, pad 510 [], 0, 0)
+unfoldable pub text_given : List ℕ → ℕ → Unpacked
+text_given text n = record { text = pad 510 text; text_length = length text; replaced_escapes = n }
 
 -- what reading n septets after f fill bits gives; 1 where they are more than 255, 19 where the octets are too few for them
-unfoldable pub unpacked : List ℕ → ℕ → ℕ → SaidText
+unfoldable pub unpacked : List ℕ → ℕ → ℕ → Said Unpacked
 unpacked os f n =
-    if ltb 255 n then text_refused LengthTooLarge
-    else if ltb (length os) (octet_count f n) then text_refused TooFewOctets
-    else text_given (text_of (septets_in os f n)) (replaced_in (septets_in os f n))
+    if ltb 255 n then Err LengthTooLarge
+    else if ltb (length os) (octet_count f n) then Err TooFewOctets
+    else Ok (text_given (text_of (septets_in os f n)) (replaced_in (septets_in os f n)))
 
 -- escape before escape and escape last are a space; the euro sign is E2 82 AC
 known_texts : (text_of (0x1b ∷ 0x1b ∷ 0x41 ∷ []) ≡ 0x20 ∷ 0x41 ∷ []) × (text_of (0x41 ∷ 0x1b ∷ []) ≡ 0x41 ∷ 0x20 ∷ []) × (text_of (0x1b ∷ 0x65 ∷ []) ≡ 0xe2 ∷ 0x82 ∷ 0xac ∷ [])
@@ -80,7 +68,7 @@ unfolding replaced_in replaced_after replaced_in_all replaced row_with
 known_replaced = (refl, refl, refl, refl, refl)
 
 -- 9B 0D is escape and escape, 9B 20 escape and 41, 9B 32 the euro sign; 256 septets; one septet and no octet
-known_readings : (unpacked (0x9b ∷ 0x0d ∷ []) 0 2 ≡ text_given (0x20 ∷ []) 1) × (unpacked (0x9b ∷ 0x20 ∷ []) 0 2 ≡ text_given (0x41 ∷ []) 1) × (unpacked (0x9b ∷ 0x32 ∷ []) 0 2 ≡ text_given (0xe2 ∷ 0x82 ∷ 0xac ∷ []) 0)
-    × (unpacked [] 0 256 ≡ text_refused LengthTooLarge) × (unpacked [] 0 1 ≡ text_refused TooFewOctets)
+known_readings : (unpacked (0x9b ∷ 0x0d ∷ []) 0 2 ≡ Ok (text_given (0x20 ∷ []) 1)) × (unpacked (0x9b ∷ 0x20 ∷ []) 0 2 ≡ Ok (text_given (0x41 ∷ []) 1)) × (unpacked (0x9b ∷ 0x32 ∷ []) 0 2 ≡ Ok (text_given (0xe2 ∷ 0x82 ∷ 0xac ∷ []) 0))
+    × (unpacked [] 0 256 ≡ Err LengthTooLarge) × (unpacked [] 0 1 ≡ Err TooFewOctets)
 unfolding number_of lowest_digits septets_in text_of after_escape replaced_in replaced_after utf8 character escaped replaced row_with unpacked
 known_readings = (refl, refl, refl, refl, refl)

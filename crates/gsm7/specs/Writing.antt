@@ -1,7 +1,7 @@
 -- The septets of a text: characters of UTF-8, one after the other, each with its code or its escape and code. The law `adequate` says the same with no scanning.
-use Rattle.std.specs.Prelude.{ℕ, zero, suc, ◌+◌, ◌-◌, ◌*◌, ◌%◌, ◌≡◌, refl, Bool, true, false, ◌&&◌, List, [], ◌∷◌, ◌++◌, get_or, eqb, ltb, if◌then◌else◌}
+use Rattle.std.specs.Prelude.{ℕ, zero, suc, ◌+◌, ◌-◌, ◌*◌, ◌%◌, ◌≡◌, refl, Bool, true, false, ◌&&◌, List, [], ◌∷◌, ◌++◌, get_or, eqb, ltb, if◌then◌else◌, Ok, Err}
 use Rattle.std.proofs.Math.Option.{Option, none, some}
-use Rattle.octets.specs.Answers.{Said, gives, refuses}
+use Rattle.octets.specs.Answers.{Said}
 use Rattle.octets.specs.declared.Refusal.TheVariants.{NotInAlphabet}
 use Rattle.gsm7.specs.declared.decode.Extension.{Extension}
 use Rattle.gsm7.specs.Alphabet.{alphabet, extension, row_with, index_of}
@@ -9,8 +9,8 @@ use Rattle.gsm7.specs.Reading.{utf8}
 
 -- an escape and the code of a row, if there is one
 abbrev pub escape_and_code : Option Extension → Said (List ℕ)
-escape_and_code none = refuses NotInAlphabet
-escape_and_code (some e) = gives (0x1b ∷ e.code ∷ [])
+escape_and_code none = Err NotInAlphabet
+escape_and_code (some e) = Ok (0x1b ∷ e.code ∷ [])
 
 -- the septets of a character that is not in the default alphabet
 unfoldable pub extended_code : ℕ → Said (List ℕ)
@@ -19,8 +19,8 @@ extended_code c = escape_and_code (row_with (λ (e : Extension). e.character) c 
 -- the septets of a character: its code, or an escape and its code; a space is 20, though 1B reads as one too
 unfoldable pub code_of : ℕ → Said (List ℕ)
 code_of c =
-    if eqb c 0x20 then gives (0x20 ∷ [])
-    else if ltb (index_of alphabet c) 128 then gives (index_of alphabet c ∷ [])
+    if eqb c 0x20 then Ok (0x20 ∷ [])
+    else if ltb (index_of alphabet c) 128 then Ok (index_of alphabet c ∷ [])
     else extended_code c
 
 -- two lists are the same
@@ -34,31 +34,31 @@ same (x ∷ xs) (y ∷ ys) = same xs ys && eqb x y
 unfoldable pub two_octets : ℕ → ℕ → Said (ℕ × ℕ)
 two_octets a b =
     let c = a % 32 * 64 + b % 64 in
-    if same (utf8 c) (a ∷ b ∷ []) then gives (c, 2) else refuses NotInAlphabet
+    if same (utf8 c) (a ∷ b ∷ []) then Ok (c, 2) else Err NotInAlphabet
 
 unfoldable pub three_octets : ℕ → ℕ → ℕ → Said (ℕ × ℕ)
 three_octets a b d =
     let c = a % 16 * 4096 + b % 64 * 64 + d % 64 in
-    if same (utf8 c) (a ∷ b ∷ d ∷ []) then gives (c, 3) else refuses NotInAlphabet
+    if same (utf8 c) (a ∷ b ∷ d ∷ []) then Ok (c, 3) else Err NotInAlphabet
 
 -- the first character of a text, with the number of its octets
 unfoldable pub first_character : List ℕ → Said (ℕ × ℕ)
 first_character xs =
     let a = get_or xs 0 0 in
-    if ltb a 0x80 then gives (a, 1)
+    if ltb a 0x80 then Ok (a, 1)
     else if ltb a 0xe0 then two_octets a (get_or xs 1 0)
     else three_octets a (get_or xs 1 0) (get_or xs 2 0)
 
 -- septets before others; nothing, where a character has none
 unfoldable pub before : Said (List ℕ) → Option (List ℕ) → Option (List ℕ)
-before (gives ks) none = none
-before (gives ks) (some ss) = some (ks ++ ss)
-before (refuses why) rest = none
+before (Ok ks) none = none
+before (Ok ks) (some ss) = some (ks ++ ss)
+before (Err why) rest = none
 
 -- the septets of a text that starts with a character, by those of what follows its octets
 unfoldable pub starting_with : Said (ℕ × ℕ) → (ℕ → Option (List ℕ)) → Option (List ℕ)
-starting_with (gives (c, width)) rest = before (code_of c) (rest (width - 1))
-starting_with (refuses why) rest = none
+starting_with (Ok (c, width)) rest = before (code_of c) (rest (width - 1))
+starting_with (Err why) rest = none
 
 -- the septets of a text, once the octets of a character that is read already are skipped
 unfoldable pub scan : List ℕ → ℕ → Option (List ℕ)

@@ -2,12 +2,11 @@
 ghost use Rattle.std.specs.Prelude.{◌≡◌, ◌+◌, ◌%◌, ◌<◌, ◌≤◌, true, [], ◌∷◌, length, get_or};
 ghost use Rattle.octets.specs.Lent.{Wrote};
 ghost use Rattle.gsm7.specs.Alphabet.{alphabet as defaultAlphabet, extension, row, character, escaped, replaced};
-ghost use Rattle.octets.specs.declared.Refusal.TheVariants.{LengthTooLarge, TooFewOctets};
 ghost use Rattle.septets.specs.Septets.{septets_in, in_window};
 ghost use Rattle.gsm7.specs.Internal.{plain, four_plain, four_characters};
-ghost use Rattle.gsm7.specs.Reading.{utf8, text_of, replaced_in, unpacked_says, text_given, text_refused, unpacked};
+ghost use Rattle.gsm7.specs.Reading.{utf8, text_of, replaced_in, text_given, unpacked};
 
-use octets::{Outcome, Refusal};
+use octets::Refusal;
 use septets::BitPlace;
 
 pub const GSM7_ESCAPE: u8 = 0x1B;
@@ -26,7 +25,7 @@ pub const ALPHABET: [u16; 128] = [
 ];
 
 // A row of the extension table: what follows the escape, and the character.
-#[derive(Clone, Copy)]
+#[derive(Clone, Copy, Debug, PartialEq, Eq)]
 pub struct Extension {
     pub code: u8,
     pub character: u16,
@@ -77,23 +76,23 @@ const EXTENSION: [Extension; 10] = [
 ];
 
 // The text of counted septets, and the number of escapes in them that led to no character of the extension table.
-#[derive(Clone, Copy)]
+// An array with its length: there is no heap.
+#[derive(Clone, Copy, Debug)]
 pub struct Unpacked {
-    pub outcome: Outcome,
     pub text: [u8; 510],
     pub text_length: usize,
     pub replaced_escapes: usize,
 }
 
 // Text that was written: the place after it, and the number of escapes in it that led to no character of the extension table.
-#[derive(Clone, Copy)]
+#[derive(Clone, Copy, Debug, PartialEq, Eq)]
 pub struct TextPut {
     pub end: usize,
     pub replaced: usize,
 }
 
 // The character of a code that follows an escape; `replaced` is 1 where it is none of the extension table, else 0.
-#[derive(Clone, Copy)]
+#[derive(Clone, Copy, Debug, PartialEq, Eq)]
 pub struct AfterEscape {
     pub character: u16,
     pub replaced: usize,
@@ -120,8 +119,7 @@ pub fn escaped_character(alphabet: &[u16; 128], code: u8) -> AfterEscape
     requires { (code < 128) × (alphabet.now ≡ defaultAlphabet) }
     ensures { result ≡ record { character = escaped code; replaced = replaced code } }
 {
-    let mut i = 0;
-    while i < 10 {
+    for i in 0..10 {
         let e = extension_row(i);
         if e.code == code {
             return AfterEscape {
@@ -129,7 +127,6 @@ pub fn escaped_character(alphabet: &[u16; 128], code: u8) -> AfterEscape
                 replaced: 0,
             };
         }
-        i += 1;
     }
     AfterEscape {
         character: default_character(alphabet, code),
@@ -226,6 +223,7 @@ pub fn unpack_septets(
         octet: 0,
         shift: fill,
     };
+    // A `while`: one, two or four septets a turn, and left early at a last escape, as document 01 says.
     while consumed < septets {
         let window = place.window(data);
         let code = septets::septet_in(window, 0);
@@ -257,50 +255,26 @@ pub fn unpack_septets(
 // The text of counted septets that are all there.
 fn whole_text(data: &[u8], septets: usize) -> Unpacked
     requires { septets ≤ 255 }
-    ensures { unpacked_says result ≡ text_given (text_of (septets_in «data».now 0 septets)) (replaced_in (septets_in «data».now 0 septets)) }
+    ensures { result ≡ text_given (text_of (septets_in «data».now 0 septets)) (replaced_in (septets_in «data».now 0 septets)) }
 {
     let mut text = [0u8; 510];
     let put = unpack_septets(data, 0, septets, &mut text, 0);
     Unpacked {
-        outcome: Outcome::Done,
         text,
         text_length: put.end,
         replaced_escapes: put.replaced,
     }
 }
 
-fn refused(why: Refusal) -> Unpacked
-    ensures { unpacked_says result ≡ text_refused why }
-{
-    Unpacked {
-        outcome: Outcome::Refused(why),
-        text: [0u8; 510],
-        text_length: 0,
-        replaced_escapes: 0,
-    }
-}
-
-fn too_long() -> Unpacked
-    ensures { unpacked_says result ≡ text_refused LengthTooLarge }
-{
-    refused(Refusal::LengthTooLarge)
-}
-
-fn too_few_octets() -> Unpacked
-    ensures { unpacked_says result ≡ text_refused TooFewOctets }
-{
-    refused(Refusal::TooFewOctets)
-}
-
 // The text of exactly `septets` septets.
-pub fn unpack_gsm7(data: &[u8], septets: usize) -> Unpacked
-    ensures { unpacked_says result ≡ unpacked «data».now 0 septets }
+pub fn unpack_gsm7(data: &[u8], septets: usize) -> Result<Unpacked, Refusal>
+    ensures { result ≡ unpacked «data».now 0 septets }
 {
     if 255 < septets {
-        return too_long();
+        return Err(Refusal::LengthTooLarge);
     }
     if data.len() < (septets * 7 + 7) / 8 {
-        return too_few_octets();
+        return Err(Refusal::TooFewOctets);
     }
-    whole_text(data, septets)
+    Ok(whole_text(data, septets))
 }

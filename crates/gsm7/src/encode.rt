@@ -2,9 +2,10 @@
 ghost use Rattle.std.specs.Prelude.{◌≡◌, ◌+◌, ◌^◌, ◌<◌, ◌≤◌, [], ◌∷◌, length, drop};
 ghost use Rattle.octets.specs.Lent.{Wrote};
 ghost use Rattle.gsm7.specs.Writing.{code_of, extended_code, two_octets, three_octets, first_character, septets_of};
-ghost use Rattle.gsm7.specs.Internal.{code_says, scalar_says, Codes, ScannedAs, stored};
+ghost use Rattle.gsm7.specs.Internal.{code_says, Codes, ScannedAs, stored};
 
 use crate::decode::GSM7_ESCAPE;
+use octets::Refusal;
 
 // The code of each character below 100 that is in the default alphabet; FF for the others.
 pub const CODES: [u8; 256] = [
@@ -33,44 +34,27 @@ const GREEK_CODES: [u8; 23] = [
 ];
 
 // The septets of a character.
-#[derive(Clone, Copy)]
+#[derive(Clone, Copy, Debug, PartialEq, Eq)]
 pub enum Code {
     Single(u8),
     Escaped(u8),
-    Absent,
 }
 
-// A character of UTF-8, and the number of its octets.
-#[derive(Clone, Copy)]
-pub enum Scalar {
-    Read(u16, usize),
-    Broken,
-}
-
-// How many septets a text has.
-#[derive(Clone, Copy)]
-pub enum Scanned {
-    Counted(usize),
-    NotCoded,
-}
-
-// The code of a character of the extension table.
-fn escape_of(c: u16) -> Code
+// The code of a character of the extension table; none where it has no such character.
+fn escape_of(c: u16) -> Option<Code>
     ensures { code_says result ≡ extended_code c }
 {
-    let mut i = 0;
-    while i < 10 {
+    for i in 0..10 {
         let e = crate::decode::extension_row(i);
         if e.character == c {
-            return Code::Escaped(e.code);
+            return Some(Code::Escaped(e.code));
         }
-        i += 1;
     }
-    Code::Absent
+    None
 }
 
 // The code of a character from 100 on.
-fn high_code_of(c: u16) -> Code
+fn high_code_of(c: u16) -> Option<Code>
     requires { 256 ≤ c }
     ensures { code_says result ≡ code_of c }
 {
@@ -82,13 +66,13 @@ fn high_code_of(c: u16) -> Code
     }
     let code = GREEK_CODES[(c - 0x393) as usize];
     if code < 128 {
-        return Code::Single(code);
+        return Some(Code::Single(code));
     }
-    Code::Absent
+    None
 }
 
 // The code of a character.
-fn code_of(codes: &[u8; 256], c: u16) -> Code
+fn code_of(codes: &[u8; 256], c: u16) -> Option<Code>
     requires { Codes codes.now }
     ensures { code_says result ≡ code_of c }
 {
@@ -97,54 +81,54 @@ fn code_of(codes: &[u8; 256], c: u16) -> Code
     }
     let code = codes[c as usize];
     if code < 128 {
-        return Code::Single(code);
+        return Some(Code::Single(code));
     }
     escape_of(c)
 }
 
-fn two_octets(a: u16, b: u16) -> Scalar
-    ensures { scalar_says result ≡ two_octets a b }
+fn two_octets(a: u16, b: u16) -> Result<(u16, usize), Refusal>
+    ensures { result ≡ two_octets a b }
 {
     let c = a % 32 * 64 + b % 64;
     if c < 0x80 {
-        return Scalar::Broken;
+        return Err(Refusal::NotInAlphabet);
     }
     if 128 + c % 64 != b {
-        return Scalar::Broken;
+        return Err(Refusal::NotInAlphabet);
     }
     if 192 + c / 64 != a {
-        return Scalar::Broken;
+        return Err(Refusal::NotInAlphabet);
     }
-    Scalar::Read(c, 2)
+    Ok((c, 2))
 }
 
-fn three_octets(a: u16, b: u16, d: u16) -> Scalar
-    ensures { scalar_says result ≡ three_octets a b d }
+fn three_octets(a: u16, b: u16, d: u16) -> Result<(u16, usize), Refusal>
+    ensures { result ≡ three_octets a b d }
 {
     let c = a % 16 * 4096 + b % 64 * 64 + d % 64;
     if c < 0x800 {
-        return Scalar::Broken;
+        return Err(Refusal::NotInAlphabet);
     }
     if 128 + c % 64 != d {
-        return Scalar::Broken;
+        return Err(Refusal::NotInAlphabet);
     }
     if 128 + c / 64 % 64 != b {
-        return Scalar::Broken;
+        return Err(Refusal::NotInAlphabet);
     }
     if 224 + c / 4096 != a {
-        return Scalar::Broken;
+        return Err(Refusal::NotInAlphabet);
     }
-    Scalar::Read(c, 3)
+    Ok((c, 3))
 }
 
 // The character that starts at `at`.
-pub fn character_at(text: &[u8], at: usize) -> Scalar
+pub fn character_at(text: &[u8], at: usize) -> Result<(u16, usize), Refusal>
     requires { at < length text.now }
-    ensures { scalar_says result ≡ first_character (drop at text.now) }
+    ensures { result ≡ first_character (drop at text.now) }
 {
     let a = septets::octet_or_zero(text, at);
     if a < 0x80 {
-        return Scalar::Read(a, 1);
+        return Ok((a, 1));
     }
     let b = septets::octet_or_zero(text, at + 1);
     if a < 0xE0 {
@@ -172,22 +156,23 @@ pub fn add_character(table: &[u8; 256], codes: &mut [u8; 255], count: usize, c: 
     ensures { Wrote count (stored (code_of c)) codes.old result codes.new }
 {
     match code_of(table, c) {
-        Code::Single(code) => add(codes, count, code),
-        Code::Escaped(code) => {
+        Some(Code::Single(code)) => add(codes, count, code),
+        Some(Code::Escaped(code)) => {
             let next = add(codes, count, GSM7_ESCAPE);
             add(codes, next, code)
         }
-        Code::Absent => count,
+        None => count,
     }
 }
 
 // The septets of a text by a table of codes, counted past the array's end.
-fn scan_by(table: &[u8; 256], text: &[u8], codes: &mut [u8; 255]) -> Scanned
+fn scan_by(table: &[u8; 256], text: &[u8], codes: &mut [u8; 255]) -> Result<usize, Refusal>
     requires { Codes table.now × (length codes.old ≡ 255) }
     ensures { ScannedAs (septets_of text.now) result codes.old codes.new }
 {
     let mut count = 0;
     let mut i = 0;
+    // A `while`: a character is one to three octets of the text, so no range counts them.
     while i < text.len() {
         let octet = text[i];
         if octet < 0x80 {
@@ -198,21 +183,19 @@ fn scan_by(table: &[u8; 256], text: &[u8], codes: &mut [u8; 255]) -> Scanned
                 continue;
             }
         }
-        let Scalar::Read(c, width) = character_at(text, i) else {
-            return Scanned::NotCoded;
-        };
+        let (c, width) = character_at(text, i)?;
         let next = add_character(table, codes, count, c);
         if next == count {
-            return Scanned::NotCoded;
+            return Err(Refusal::NotInAlphabet);
         }
         count = next;
         i += width;
     }
-    Scanned::Counted(count)
+    Ok(count)
 }
 
 // The septets of a text, counted past the array's end.
-pub fn scan_text(text: &[u8], codes: &mut [u8; 255]) -> Scanned
+pub fn scan_text(text: &[u8], codes: &mut [u8; 255]) -> Result<usize, Refusal>
     requires { length codes.old ≡ 255 }
     ensures { ScannedAs (septets_of text.now) result codes.old codes.new }
 {

@@ -1,5 +1,6 @@
 -- Octets taken apart: which elements they have.
 -- Assumes nothing.
+use Rattle.std.specs.Prelude.{Ok, Err}
 use Prim.Native.Nat.{ℕ, zero, suc, ◌+◌, ◌≤◌, ◌<◌}
 use mathlib.Core.Path.{◌≡◌, refl, sym, ap, ◌∙◌}
 use mathlib.Core.List.{List, [], ◌∷◌, ◌++◌}
@@ -9,7 +10,7 @@ use borrow.Author.Tests.{leb-true, le-leb, lt-leb, ltb-true, ltb-false, le-ltb}
 use lib.Dec.{leb, ltb}
 use lib.ListN.{length, take, drop, length-append, take-append-drop}
 use lib.Seq.{length-take-le, drop-append_seam, take-append_seam}
-use Rattle.octets.specs.Answers.{Said, gives, refuses}
+use Rattle.octets.specs.Answers.{Said}
 use Rattle.octets.specs.declared.Refusal.{Refusal}
 use Rattle.octets.specs.declared.Refusal.TheVariants.{HeaderNotWhole, ElementPassesHeader}
 use Rattle.octets.proofs.Checks.{never}
@@ -34,18 +35,18 @@ module _ (i n : ℕ) (s : List ℕ) where
   one_more h = rw (le-leb n (length s) h) (ap (before (element i (take n s))) (skip n s))
 
   -- one that passes the end
-  pub passes : length s < n → elements_of (i ∷ n ∷ s) ≡ refuses ElementPassesHeader
+  pub passes : length s < n → elements_of (i ∷ n ∷ s) ≡ Err ElementPassesHeader
   unfolding elements_after
   passes h = rw (lt-leb n (length s) h)
 
-pub lone : (i : ℕ) → elements_of (i ∷ []) ≡ refuses ElementPassesHeader
+pub lone : (i : ℕ) → elements_of (i ∷ []) ≡ Err ElementPassesHeader
 unfolding elements_after
 lone i = refl
 
 -- ---- octets are their elements, one after the other
 
 -- the elements are read from their octets
-pub joined_reads : (es : List Element) → elements_of (joined es) ≡ gives es
+pub joined_reads : (es : List Element) → elements_of (joined es) ≡ Ok es
 unfolding joined elements_after
 joined_reads [] = refl
 joined_reads (e ∷ es) =
@@ -53,12 +54,12 @@ joined_reads (e ∷ es) =
     one_more e.identifier (length v) (v ++ joined es) (rw length-append (omega arith))
     ∙ rw (take-append_seam v (joined es), drop-append_seam v (joined es), joined_reads es)
 
-before_given : {e : Element} {es : List Element} (others : Said (List Element)) → before e others ≡ gives es → (fs : List Element) × (others ≡ gives fs) × (es ≡ e ∷ fs)
-before_given (gives fs) q = (fs, refl, sym (given q))
-before_given (refuses why) q = absurd (never (sym q))
+before_given : {e : Element} {es : List Element} (others : Said (List Element)) → before e others ≡ Ok es → (fs : List Element) × (others ≡ Ok fs) × (es ≡ e ∷ fs)
+before_given (Ok fs) q = (fs, refl, sym (given q))
+before_given (Err why) q = absurd (never (sym q))
 
 -- the octets that are read are those of the elements
-joined_back : (s : List ℕ) (n : ℕ) (es : List Element) → elements_after n s ≡ gives es → joined es ≡ drop n s
+joined_back : (s : List ℕ) (n : ℕ) (es : List Element) → elements_after n s ≡ Ok es → joined es ≡ drop n s
 unfolding joined elements_after
 joined_back [] zero es e = rw (← given e)
 joined_back [] (suc n) es e = rw (← given e)
@@ -70,17 +71,17 @@ joined_back (i ∷ n ∷ s) zero es e =
 joined_back (x ∷ s) (suc n) es e = joined_back s n es e
 
 -- octets have these elements exactly when they are these elements, one after the other
-pub elements_are : (s : List ℕ) (es : List Element) → (elements_of s ≡ gives es) ↔ (joined es ≡ s)
+pub elements_are : (s : List ℕ) (es : List Element) → (elements_of s ≡ Ok es) ↔ (joined es ≡ s)
 elements_are s es = (joined_back s 0 es, λ e. rw (← e) (joined_reads es))
 
 -- ---- a header and what follows it
 
 -- a header of elements is read as these, whatever follows it
-pub header_reads : (es : List Element) (rest : List ℕ) → elements_in (header_of es ++ rest) ≡ gives es
+pub header_reads : (es : List Element) (rest : List ℕ) → elements_in (header_of es ++ rest) ≡ Ok es
 unfolding elements_in header_of
 header_reads es rest = rw (le-ltb (suc (length (joined es ++ rest))) (length (joined es) + 1) (rw length-append (omega arith)), take-append_seam (joined es) rest) (joined_reads es)
 
-header_back : (s : List ℕ) (es : List Element) → elements_in s ≡ gives es → (rest : List ℕ) × (s ≡ header_of es ++ rest)
+header_back : (s : List ℕ) (es : List Element) → elements_in s ≡ Ok es → (rest : List ℕ) × (s ≡ header_of es ++ rest)
 unfolding elements_in header_of
 header_back s es e =
     ⊎_elim (λ (t, q). absurd (never (sym q))) (λ (t, q). whole s (ltb-false _ _ t) ((elements_are (after_first s) es).0 q)) (chosen (ltb (length s) (header_octets s)) e)
@@ -90,17 +91,17 @@ header_back s es e =
     whole (x ∷ s) h p = (drop x s, rw (p, length-take-le x s (omega arith), take-append-drop x s))
 
 -- a header is taken exactly when its octets after the first are elements, one after the other: it is a header of these, and something follows or nothing
-pub header_is : (s : List ℕ) (es : List Element) → (elements_in s ≡ gives es) ↔ ((rest : List ℕ) × (s ≡ header_of es ++ rest))
+pub header_is : (s : List ℕ) (es : List Element) → (elements_in s ≡ Ok es) ↔ ((rest : List ℕ) × (s ≡ header_of es ++ rest))
 header_is s es = (header_back s es, λ (rest, e). rw e (header_reads es rest))
 
 -- ---- what is refused
 
-before_refused : (e : Element) {why : Refusal} (others : Said (List Element)) → before e others ≡ refuses why → others ≡ refuses why
-before_refused e (gives es) q = absurd (never q)
-before_refused e (refuses w) q = q
+before_refused : (e : Element) {why : Refusal} (others : Said (List Element)) → before e others ≡ Err why → others ≡ Err why
+before_refused e (Ok es) q = absurd (never q)
+before_refused e (Err w) q = q
 
 -- octets that are no elements: 24
-passes_only : (s : List ℕ) (n : ℕ) (why : Refusal) → elements_after n s ≡ refuses why → ElementPassesHeader ≡ why
+passes_only : (s : List ℕ) (n : ℕ) (why : Refusal) → elements_after n s ≡ Err why → ElementPassesHeader ≡ why
 unfolding elements_after
 passes_only [] zero why e = absurd (never e)
 passes_only [] (suc n) why e = absurd (never e)
@@ -109,6 +110,6 @@ passes_only (i ∷ n ∷ s) zero why e = ⊎_elim (λ (t, q). passes_only (n ∷
 passes_only (x ∷ s) (suc n) why e = passes_only s n why e
 
 -- a header is refused with 17 where it is longer than the data, and else with 24
-pub refused_with : (s : List ℕ) (why : Refusal) → elements_in s ≡ refuses why → ((length s < header_octets s) × (HeaderNotWhole ≡ why)) ⊎ ((header_octets s ≤ length s) × (ElementPassesHeader ≡ why))
+pub refused_with : (s : List ℕ) (why : Refusal) → elements_in s ≡ Err why → ((length s < header_octets s) × (HeaderNotWhole ≡ why)) ⊎ ((header_octets s ≤ length s) × (ElementPassesHeader ≡ why))
 unfolding elements_in
 refused_with s why e = ⊎_elim (λ (t, q). inl (ltb-true _ _ t, (cc))) (λ (t, q). inr (ltb-false _ _ t, passes_only (after_first s) 0 why q)) (chosen (ltb (length s) (header_octets s)) e)

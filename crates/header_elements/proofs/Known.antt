@@ -1,10 +1,11 @@
 -- Known rows: headers that are read and written, and what is refused.
 -- Assumes nothing.
+use Rattle.std.specs.Prelude.{Ok, Err}
 use Prim.Native.Nat.{ℕ, zero, suc}
 use mathlib.Core.Path.{◌≡◌, refl}
 use mathlib.Core.List.{List, [], ◌∷◌, ◌++◌}
 use lib.ListN.{length, replicate}
-use Rattle.octets.specs.Answers.{gives, refuses, fine}
+use Rattle.octets.specs.Answers.{fine}
 use Rattle.octets.specs.Arrays.{pad}
 use Rattle.octets.specs.Checks.{checked}
 use Rattle.octets.specs.Lent.{refused, made}
@@ -16,18 +17,18 @@ use Rattle.header_elements.specs.Record.{values, held, elements_read, elements_w
 
 -- a header is read as these elements, and they are written as the same header or another
 abbrev ReadAndWritten : List ℕ → List Element → List ℕ → Type 0
-ReadAndWritten header es other = (elements_read header ≡ (fine, held es)) × (header_making (held es) ≡ made other (gives (length other)))
+ReadAndWritten header es other = (elements_read header ≡ Ok (held es)) × (header_making (held es) ≡ made other (length other))
 
 abbrev Both : List ℕ → List Element → Type 0
 Both header es = ReadAndWritten header es header
 
 -- octets are read as these elements
 abbrev Read : List ℕ → List Element → Type 0
-Read s es = elements_read s ≡ (fine, held es)
+Read s es = elements_read s ≡ Ok (held es)
 
 -- octets are refused
 abbrev Unread : List ℕ → Refusal → Type 0
-Unread s why = elements_read s ≡ (refuses why, held [])
+Unread s why = elements_read s ≡ Err why
 
 -- so many elements of these identifiers, lengths and values are refused
 abbrev Unwritten : ℕ → List ℕ → List ℕ → List ℕ → Refusal → Type 0

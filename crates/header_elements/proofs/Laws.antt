@@ -1,5 +1,6 @@
 -- Header elements read and written: what was read is written in its one order, as it was exactly where it was so ordered; what was written is read back so ordered.
 -- Assumes nothing.
+use Rattle.std.specs.Prelude.{Ok, Err}
 use Prim.Native.Nat.{ℕ, suc, ◌+◌, ◌≤◌, ◌<◌}
 use mathlib.Core.Path.{◌≡◌, refl, sym, ap, ◌∙◌}
 use mathlib.Core.Bool.{Bool, true, false}
@@ -11,7 +12,7 @@ use borrow.Author.Tests.{le-leb, lt-leb, leb-true, leb-false}
 use lib.Dec.{leb}
 use lib.ListN.{length, take}
 use lib.Seq.{take-append_seam, drop-append_seam}
-use Rattle.octets.specs.Answers.{Said, gives, refuses, fine}
+use Rattle.octets.specs.Answers.{Said, fine}
 use Rattle.octets.specs.Each.{Octets}
 use Rattle.octets.specs.Lent.{refused, made}
 use Rattle.octets.specs.declared.Refusal.TheVariants.{ElementsTooLong}
@@ -37,11 +38,11 @@ module _ (r : HeaderElements) where
   unfolding header_making
   makes_none h = one_against header _ (rw (lt-leb (needed r) 255 h))
 
-  pub makes : needed r ≤ 255 → header_making r ≡ made header (gives (length header))
+  pub makes : needed r ≤ 255 → header_making r ≡ made header (length header)
   unfolding header_making
   makes h = all_passed header _ (rw (le-leb (needed r) 255 h))
 
-  pub was_made : {octets : List ℕ} {a : Said ℕ} → header_making r ≡ made octets a → (needed r ≤ 255) × (header ≡ octets)
+  pub was_made : {octets : List ℕ} {a : ℕ} → header_making r ≡ made octets a → (needed r ≤ 255) × (header ≡ octets)
   unfolding header_making
   was_made e = let (passed, is) = made_told _ header e in (leb-true _ _ (holds ElementsTooLong (leb (needed r) 255) [] passed).0, is)
 
@@ -57,14 +58,14 @@ module _ (r : HeaderElements) where
   too_large h t = makes_none (omega arith)
 
   -- at most 256 octets are written
-  pub at_most : Typed r → {octets : List ℕ} {a : Said ℕ} → header_making r ≡ made octets a → length octets ≤ 256
+  pub at_most : Typed r → {octets : List ℕ} {a : ℕ} → header_making r ≡ made octets a → length octets ≤ 256
   at_most typed e = let (few, is) = was_made e in rw (← is, header_size_lem typed few) (omega arith)
 
 -- ---- a header that was read
 
-answered : {r : HeaderElements} (found : Said (List Element)) → answer found ≡ (fine, r) → (es : List Element) × (found ≡ gives es) × (r ≡ held es)
-answered (gives es) e = (es, refl, sym (ap (λ (x : Said Unit × HeaderElements). x.1) e))
-answered (refuses why) e = absurd (never (sym (ap (λ (x : Said Unit × HeaderElements). x.0) e)))
+answered : {r : HeaderElements} (found : Said (List Element)) → answer found ≡ Ok r → (es : List Element) × (found ≡ Ok es) × (r ≡ held es)
+answered (Ok es) e = (es, refl, sym (given e))
+answered (Err why) e = absurd (never (sym e))
 
 -- identifiers of a header are octets
 octets_below : (es : List Element) → Octets (joined es) → Below 256 es
@@ -96,7 +97,7 @@ module _ (s : List ℕ) (o : Octets s) (r : HeaderElements) where
   told_of : (es : List Element) (rest : List ℕ) → s ≡ header_of es ++ rest → r ≡ held es → (own ≡ header_of list) × Below 256 list × (needed r ≤ 255)
   told_of es rest whole is = rw (is, list_held es, needed_held es, whole) (counted es rest (λ j. rw whole at (o j)))
 
-  module _ (e : elements_read s ≡ (fine, r)) where
+  module _ (e : elements_read s ≡ Ok r) where
     told : (own ≡ header_of list) × Below 256 list × (needed r ≤ 255)
     unfolding elements_read
     told = let (es, found, is) = answered (elements_in s) e in let (rest, whole) = (header_is s es).0 found in told_of es rest whole is
@@ -106,11 +107,11 @@ module _ (s : List ℕ) (o : Octets s) (r : HeaderElements) where
     same_octets = rw (told.0, same_size list told.1)
 
     -- reading any accepted header and writing it returns its elements so ordered, in as many octets: they rise, and of each identifier they are the same list as before
-    pub so_ordered : (header_making r ≡ made (header_of (ordered list)) (gives (length own))) × Rising (ordered list) × ((i : ℕ) → having i (ordered list) ≡ having i list)
+    pub so_ordered : (header_making r ≡ made (header_of (ordered list)) (length own)) × Rising (ordered list) × ((i : ℕ) → having i (ordered list) ≡ having i list)
     so_ordered = (rw same_octets at (makes r told.2), rising list, none_lost list told.1)
 
     -- and the header's own octets exactly when they are in that order already
-    pub own_octets : (header_making r ≡ made own (gives (length own))) ↔ Rising list
+    pub own_octets : (header_making r ≡ made own (length own)) ↔ Rising list
     own_octets = (
       λ m. (already list told.1).0 (header_tells (ordered list) list ((was_made r m).1 ∙ told.0)),
       λ up. so_ordered.0 ∙ rw ((already list told.1).1 up, told.0),
@@ -119,8 +120,8 @@ module _ (s : List ℕ) (o : Octets s) (r : HeaderElements) where
 -- ---- what was written
 
 -- it is read back as the same record so ordered, whatever follows it; that is the record itself exactly when its elements are in that order
-pub read_back : (r : HeaderElements) → Typed r → (octets : List ℕ) (a : Said ℕ) → header_making r ≡ made octets a → (rest : List ℕ)
-    → (elements_read (octets ++ rest) ≡ (fine, in_order r)) × (list_of (in_order r) ≡ ordered (list_of r)) × (cleared (in_order r) ≡ in_order r) × (in_order (in_order r) ≡ in_order r) × ((in_order r ≡ cleared r) ↔ Rising (list_of r))
+pub read_back : (r : HeaderElements) → Typed r → (octets : List ℕ) (a : ℕ) → header_making r ≡ made octets a → (rest : List ℕ)
+    → (elements_read (octets ++ rest) ≡ Ok (in_order r)) × (list_of (in_order r) ≡ ordered (list_of r)) × (cleared (in_order r) ≡ in_order r) × (in_order (in_order r) ≡ in_order r) × ((in_order r ≡ cleared r) ↔ Rising (list_of r))
 unfolding elements_read in_order
 read_back r typed octets a e rest =
     let es = list_of r in

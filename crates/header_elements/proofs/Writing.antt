@@ -7,10 +7,12 @@ use mathlib.Core.List.{List, [], ◌∷◌, ◌++◌}
 use native.Mathlib.Nat.{add-zero, le_refl}
 use native.Mathlib.Numerals.{add-one}
 use native.Mathlib.Omega.{arith}
-use borrow.Author.Tests.{eqb-true, eqb-false, ltb-true, ltb-false}
-use lib.Dec.{eqb, ltb}
-use lib.ListN.{length, get_or, set, take, drop, replicate, length-append, length-drop, length-set, drop_of_length-le, get_or-replicate}
-use lib.Seq.{sets, drop-cons, drop-drop, length-take-le, get_or-set_same, get_or-set_other}
+use borrow.Author.Tests.{ltb-true, ltb-false}
+use lib.Dec.{ltb}
+use lib.ListN.{length, get_or, take, drop, replicate, length-append, length-drop, get_or-replicate}
+use lib.Seq.{sets, drop-drop, length-take-le}
+use Rattle.std.specs.List.{sum}
+use Rattle.std.proofs.lemmas.List.Sums.{sum_by-cons, sum_by_more, sum_by-take-le}
 use Rattle.octets.specs.Lent.{Wrote}
 use Rattle.octets.proofs.Laws.{Left, left_start, left_step, left_fits, left_end, wrote_then, kept_by}
 use Rattle.header_elements.specs.Elements.{Element, element, joined}
@@ -19,80 +21,27 @@ use Rattle.header_elements.specs.Record.{elements_with, total}
 use Rattle.header_elements.specs.Internal.{FirstFrom, Firsts, Nexts, Starts}
 use Rattle.header_elements.proofs.Order.{having_one, having_not, joined_append}
 
--- ---- the lengths from a place on, and those before it
+-- ---- the lengths added up, and those before a place
 
-pub total_next : (ns : List ℕ) (i : ℕ) → i < length ns → total (drop i ns) ≡ get_or ns i 0 + total (drop (i + 1) ns)
+pub total_sum : (ns : List ℕ) → total ns ≡ sum ns
 unfolding total
-total_next ns i h = rw (drop-cons ns i 0 h, add-one)
+total_sum [] = refl
+total_sum (n ∷ ns) = rw (total_sum ns) (sym (sum_by-cons (λ x. x) n ns))
 
-pub total_done : (ns : List ℕ) (i : ℕ) → length ns ≤ i → total (drop i ns) ≡ 0
-unfolding total
-total_done ns i h = rw (drop_of_length-le ns {i = i} h)
-
-pub total_more : (ns : List ℕ) (i : ℕ) → i < length ns → total (take (suc i) ns) ≡ total (take i ns) + get_or ns i 0
-unfolding total
-total_more [] i h = absurd (omega arith)
-total_more (n ∷ ns) zero h = omega arith
-total_more (n ∷ ns) (suc i) h = rw (total_more ns i (omega arith)) (omega arith)
+pub total_more : (ns : List ℕ) (i : ℕ) → i < length ns → total (take (i + 1) ns) ≡ total (take i ns) + get_or ns i 0
+total_more ns i h = simp total_sum (sum_by_more (λ x. x) ns i 0 h)
 
 pub total_inside : (ns : List ℕ) (i : ℕ) → i < length ns → total (take i ns) + get_or ns i 0 ≤ total ns
-unfolding total
-total_inside [] i h = absurd (omega arith)
-total_inside (n ∷ ns) zero h = omega arith
-total_inside (n ∷ ns) (suc i) h = omega (arith, total_inside ns i (omega arith))
-
--- ---- where values start
-
-pub starts_start : (ns starts : List ℕ) → length starts ≡ 127 → (0 ≡ total (take 0 ns)) × Starts 0 ns starts
-unfolding total
-starts_start ns starts size = (refl, record { start = λ j h. omega arith; all_starts = size })
-
-pub starts_step : {ns starts : List ℕ} {i : ℕ} → Starts i ns starts → i < 127 → Starts (i + 1) ns (set starts i (total (take i ns)))
-starts_step {ns} {starts} {i} s h = record { start = λ j p. by j p (eqb j i) refl; all_starts = length-set starts i (total (take i ns)) ∙ s.all_starts }
-  where
-    by : (j : ℕ) → j < i + 1 → (t : Bool) → eqb j i ≡ t → get_or (set starts i (total (take i ns))) j 0 ≡ total (take j ns)
-    by j p true q = rw (eqb-true j i q) (get_or-set_same starts i (total (take i ns)) 0 (omega (arith, s.all_starts)))
-    by j p false q = let other = eqb-false j i q in get_or-set_other starts i j (total (take i ns)) 0 other ∙ s.start j (omega arith)
+total_inside ns i h = omega (arith, total_more ns i h, simp (← total_sum) at (sum_by-take-le (λ x. x) ns (i + 1)))
 
 -- ---- elements chained, from the last to the first
 
-module _ {is : List ℕ} (k i : ℕ) where
-  first_here : get_or is i 0 ≡ k → FirstFrom is k i i
-  first_here e = record { after = le_refl i; none_between = λ j a b h q. omega arith; there = λ h. e }
-
-  first_later : (get_or is i 0 ≡ k → ⊥) → {place : ℕ} → FirstFrom is k (i + 1) place → FirstFrom is k i place
-  first_later other {place} f = record { after = omega (arith, f.after); none_between = λ j a b h q. by j a b h q (eqb j i) refl; there = f.there }
-    where
-      by : (j : ℕ) → i ≤ j → j < place → j < length is → get_or is j 0 ≡ k → (t : Bool) → eqb j i ≡ t → ⊥
-      by j a b h q true e = other (rw (eqb-true j i e) at q)
-      by j a b h q false e = let apart = eqb-false j i e in f.none_between j (omega arith) b h q
-
 -- none is chained yet
-module _ (is : List ℕ) (few : length is ≤ 127) where
-  pub firsts_start : Firsts (length is) is (replicate 256 127)
-  firsts_start = record { first_place = λ k h. rw (get_or-replicate {A = ℕ} 256 k 127 0 h) none; all_firsts = refl }
-    where
-      none : {k : ℕ} → FirstFrom is k (length is) 127
-      none = record { after = few; none_between = λ j a b h q. omega arith; there = λ h. omega arith }
-
-  pub nexts_start : (next : List ℕ) → length next ≡ 127 → Nexts (length is) is next
-  nexts_start next size = record { next_place = λ j a h. omega arith; all_nexts = size }
-
--- one element more
-module _ {is first : List ℕ} {i : ℕ} (octet : get_or is i 0 < 256) (f : Firsts (i + 1) is first) where
-  pub firsts_step : Firsts i is (set first (get_or is i 0) i)
-  firsts_step = record { first_place = λ k h. by k h (eqb k (get_or is i 0)) refl; all_firsts = length-set first (get_or is i 0) i ∙ f.all_firsts }
-    where
-      by : (k : ℕ) → k < 256 → (t : Bool) → eqb k (get_or is i 0) ≡ t → FirstFrom is k i (get_or (set first (get_or is i 0) i) k 0)
-      by k h true e = let same = eqb-true k (get_or is i 0) e in rw (same, get_or-set_same first (get_or is i 0) i 0 (omega (arith, f.all_firsts))) (first_here (get_or is i 0) i refl)
-      by k h false e = let other = eqb-false k (get_or is i 0) e in rw (get_or-set_other first (get_or is i 0) k i 0 other) (first_later k i (λ q. other (sym q)) (f.first_place k h))
-
-  pub nexts_step : {next : List ℕ} → i < 127 → Nexts (i + 1) is next → Nexts i is (set next i (get_or first (get_or is i 0) 0))
-  nexts_step {next} few n = record { next_place = λ j a h. by j a h (eqb j i) refl; all_nexts = length-set next i (get_or first (get_or is i 0) 0) ∙ n.all_nexts }
-    where
-      by : (j : ℕ) → i ≤ j → j < length is → (t : Bool) → eqb j i ≡ t → FirstFrom is (get_or is j 0) (j + 1) (get_or (set next i (get_or first (get_or is i 0) 0)) j 0)
-      by j a h true e = rw (eqb-true j i e, get_or-set_same next i (get_or first (get_or is i 0) 0) 0 (omega (arith, n.all_nexts))) (f.first_place (get_or is i 0) octet)
-      by j a h false e = let other = eqb-false j i e in rw (get_or-set_other next i j (get_or first (get_or is i 0) 0) 0 other) (n.next_place j (omega arith) h)
+pub firsts_start : (is : List ℕ) → length is ≤ 127 → Firsts (length is) is (replicate 256 127)
+firsts_start is few = record { first_place = λ k h. rw (get_or-replicate {A = ℕ} 256 k 127 0 h) none; all_firsts = refl }
+  where
+    none : {k : ℕ} → FirstFrom is k (length is) 127
+    none = record { after = few; none_between = λ j a b h q. omega arith; there = λ h. omega arith }
 
 -- ---- the elements from a place on
 
@@ -197,9 +146,6 @@ module _ (is ns s : List ℕ) where
         one_fits room = omega (arith, left_fits (one i) (rest (get_or is from 0) (suc i)) p.left this_first room, p.kept)
 
         module _ {next : List ℕ} (n : Nexts 0 is next) where
-          pub goes_on : i < get_or next i 0
-          goes_on = omega (arith, (n.next_place i (omega arith) h).after)
-
           pub putting_step : {later : ℕ} {after : List ℕ} → Wrote place (one i) out later after → Putting out₀ at from after later (get_or next i 0)
           putting_step w =
               let f = n.next_place i (omega arith) h in

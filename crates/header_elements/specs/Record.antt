@@ -1,6 +1,6 @@
 -- Header elements in their record: what the reader answers, what the writer makes of a record, and what is no part of one.
-use Rattle.std.specs.Prelude.{ℕ, ◌+◌, ◌*◌, ◌≡◌, refl, List, [], ◌∷◌, ◌++◌, map, length, take, drop, leb}
-use Rattle.octets.specs.Answers.{Said, gives, refuses, fine}
+use Rattle.std.specs.Prelude.{ℕ, ◌+◌, ◌*◌, ◌≡◌, refl, List, [], ◌∷◌, ◌++◌, map, length, take, drop, leb, Ok, Err}
+use Rattle.octets.specs.Answers.{Said}
 use Rattle.octets.specs.Arrays.{pad, cleared_array}
 use Rattle.octets.specs.Checks.{◌unless◌, checked}
 use Rattle.octets.specs.Each.{Octets}
@@ -27,13 +27,13 @@ values (e ∷ es) = e.value ++ values es
 unfoldable pub held : List Element → HeaderElements
 held es = record { count = length es; identifiers = pad 127 (map identifier_of es); lengths = pad 127 (map length_of es); octets = pad 253 (values es) }
 
--- what a reader answers: done, and the elements; or its refusal, and none
-abbrev pub answer : Said (List Element) → Said Unit × HeaderElements
-answer (gives es) = (fine, held es)
-answer (refuses why) = (refuses why, held [])
+-- what a reader answers: the elements, or its refusal
+abbrev pub answer : Said (List Element) → Said HeaderElements
+answer (Ok es) = Ok (held es)
+answer (Err why) = Err why
 
 -- what reading a header answers
-unfoldable pub elements_read : List ℕ → Said Unit × HeaderElements
+unfoldable pub elements_read : List ℕ → Said HeaderElements
 elements_read s = answer (elements_in s)
 
 -- ---- writing
@@ -61,7 +61,7 @@ abbrev pub needed : HeaderElements → ℕ
 needed r = 2 * r.count + value_octets r
 
 -- what the writer makes of a record: 25, or a header of its elements, in their one order
-unfoldable pub header_making : HeaderElements → Making (Said ℕ)
+unfoldable pub header_making : HeaderElements → Making ℕ
 header_making r = checked ((ElementsTooLong unless leb (needed r) 255) ∷ []) (header_of (ordered (list_of r)))
 
 -- the same record with its elements in that order: what is read back

@@ -1,18 +1,18 @@
 // Elements of a user data header (TS 23.040 §9.2.3.24).
 #![tactic(auto)]
 
-ghost use Rattle.std.specs.Prelude.{◌≡◌, ◌∷◌, ◌+◌, ◌*◌, ◌≤◌, length, get_or, drop, replicate};
-ghost use Rattle.octets.specs.Answers.{refuses, outcome_says, written_says};
+ghost use Rattle.std.specs.Prelude.{◌≡◌, ◌∷◌, ◌+◌, ◌*◌, ◌≤◌, length, get_or, drop, replicate, Err};
 ghost use Rattle.octets.specs.Lent.{lend, Wrote};
 ghost use Rattle.header_elements.specs.Elements.{elements_of, joined};
 ghost use Rattle.header_elements.specs.Order.{having, ordered};
 ghost use Rattle.header_elements.specs.Record.{answer, elements_read, elements_with, total, header_making};
 ghost use Rattle.header_elements.specs.Internal.{Firsts, Nexts, Starts};
 
-use octets::{Outcome, Refusal, Written};
+use octets::Refusal;
 
 // Elements: identifiers, lengths, and the values end to end. A header has at most 127 elements and 253 octets of values.
-#[derive(Clone, Copy)]
+// Arrays beside each other, and not one of elements: without a heap each element would hold the 253 octets of the longest value.
+#[derive(Clone, Copy, Debug)]
 pub struct HeaderElements {
     pub count: usize,
     pub identifiers: [u8; 127],
@@ -20,31 +20,10 @@ pub struct HeaderElements {
     pub octets: [u8; 253],
 }
 
-// What reading gives: the elements, none on a refusal.
-#[derive(Clone, Copy)]
-pub struct ElementsRead {
-    pub outcome: Outcome,
-    pub elements: HeaderElements,
-}
-
-fn refused(why: Refusal) -> ElementsRead
-    ensures { (outcome_says result.outcome, result.elements) ≡ answer (refuses why) }
-{
-    ElementsRead {
-        outcome: Outcome::Refused(why),
-        elements: HeaderElements {
-            count: 0,
-            identifiers: [0u8; 127],
-            lengths: [0u8; 127],
-            octets: [0u8; 253],
-        },
-    }
-}
-
 // The elements of the octets after a header's first.
-fn read_elements(body: &[u8]) -> ElementsRead
+fn read_elements(body: &[u8]) -> Result<HeaderElements, Refusal>
     requires { length body.now ≤ 255 }
-    ensures { (outcome_says result.outcome, result.elements) ≡ answer (elements_of body.now) }
+    ensures { result ≡ answer (elements_of body.now) }
 {
     let mut identifiers = [0u8; 127];
     let mut lengths = [0u8; 127];
@@ -52,12 +31,13 @@ fn read_elements(body: &[u8]) -> ElementsRead
     let mut count = 0;
     let mut filled = 0;
     let mut at = 0;
+    // A `while`: an element says itself how many octets it has.
     while at + 1 < body.len() {
         let start = at + 2;
         let length = body[at + 1];
         let next = start + length as usize;
         if body.len() < next {
-            return refused(Refusal::ElementPassesHeader);
+            return Err(Refusal::ElementPassesHeader);
         }
         identifiers[count] = body[at];
         lengths[count] = length;
@@ -66,27 +46,24 @@ fn read_elements(body: &[u8]) -> ElementsRead
         at = next;
     }
     if at < body.len() {
-        return refused(Refusal::ElementPassesHeader);
+        return Err(Refusal::ElementPassesHeader);
     }
-    ElementsRead {
-        outcome: Outcome::Done,
-        elements: HeaderElements {
-            count,
-            identifiers,
-            lengths,
-            octets: values,
-        },
-    }
+    Ok(HeaderElements {
+        count,
+        identifiers,
+        lengths,
+        octets: values,
+    })
 }
 
 // Takes a header apart; octets after it are not looked at.
-pub fn read_header_elements(header: &[u8]) -> ElementsRead
-    ensures { (outcome_says result.outcome, result.elements) ≡ elements_read header.now }
+pub fn read_header_elements(header: &[u8]) -> Result<HeaderElements, Refusal>
+    ensures { result ≡ elements_read header.now }
 {
     let there = header.len();
     let end = user_data_header::header_octets(header);
     if there < end {
-        return refused(Refusal::HeaderNotWhole);
+        return Err(Refusal::HeaderNotWhole);
     }
     read_elements(&header[1..end])
 }
@@ -96,13 +73,7 @@ fn octets_needed(lengths: &[u8]) -> usize
     requires { length lengths.now ≤ 127 }
     ensures { result ≡ 2 * length lengths.now + total lengths.now }
 {
-    let mut needed = 2 * lengths.len();
-    let mut i = 0;
-    while i < lengths.len() {
-        needed += lengths[i] as usize;
-        i += 1;
-    }
-    needed
+    2 * lengths.len() + lengths.iter().map(|n| *n as usize).sum::<usize>()
 }
 
 // Writes one element from `at` on; the place after it.
@@ -121,11 +92,9 @@ fn find_starts(lengths: &[u8], starts: &mut [u8; 127])
     ensures { Starts (length lengths.now) lengths.now starts.new }
 {
     let mut start = 0;
-    let mut i = 0;
-    while i < lengths.len() {
+    for (i, length) in lengths.iter().enumerate() {
         starts[i] = start as u8;
-        start += lengths[i] as usize;
-        i += 1;
+        start += *length as usize;
     }
 }
 
@@ -135,11 +104,7 @@ fn chain(identifiers: &[u8], first: &mut [u8; 256], next: &mut [u8; 127])
     requires { (length identifiers.now ≤ 127) × (first.old ≡ replicate 256 127) × (length next.old ≡ 127) }
     ensures { Firsts 0 identifiers.now first.new × Nexts 0 identifiers.now next.new }
 {
-    let count = identifiers.len();
-    let mut chained = 0;
-    while chained < count {
-        chained += 1;
-        let i = count - chained;
+    for i in (0..identifiers.len()).rev() {
         let identifier = identifiers[i] as usize;
         next[i] = first[identifier];
         first[identifier] = i as u8;
@@ -162,6 +127,7 @@ fn put_chain(
 {
     let mut place = at;
     let mut i = from as usize;
+    // A `while`: it goes from element to element of one identifier, and not along them.
     while i < identifiers.len() {
         let start = starts[i] as usize;
         let end = start + lengths[i] as usize;
@@ -188,46 +154,43 @@ fn put_ordered(
     let mut next = [127u8; 127];
     chain(identifiers, &mut first, &mut next);
     let mut place = at;
-    let mut left = 256;
-    while 0 < left {
-        let identifier = 256 - left;
+    for from in &first {
         place = put_chain(
             out,
             place,
-            first[identifier],
+            *from,
             identifiers,
             lengths,
             values,
             &starts,
             &next,
         );
-        left -= 1;
     }
     place
 }
 
 impl HeaderElements {
     // Writes a header of the elements, by rising identifier, to the start of a lent output.
-    pub fn encode(self, out: &mut [u8]) -> Written
-        ensures { (written_says result, out.new) ≡ lend refuses (header_making self) out.old }
+    pub fn encode(self, out: &mut [u8]) -> Result<usize, Refusal>
+        ensures { (result, out.new) ≡ lend (header_making self) out.old }
     {
         let count = self.count;
         if 127 < count {
-            return Written::Refused(Refusal::ElementsTooLong);
+            return Err(Refusal::ElementsTooLong);
         }
         let identifiers = self.identifiers;
         let lengths = self.lengths;
         let values = self.octets;
         let needed = octets_needed(&lengths[..count]);
         if 255 < needed {
-            return Written::Refused(Refusal::ElementsTooLong);
+            return Err(Refusal::ElementsTooLong);
         }
         let size = needed + 1;
         if out.len() < size {
-            return Written::Refused(Refusal::OutputTooShort);
+            return Err(Refusal::OutputTooShort);
         }
         let place = octets::put_octet(out, 0, needed as u8);
-        Written::Done(put_ordered(
+        Ok(put_ordered(
             out,
             place,
             &identifiers[..count],

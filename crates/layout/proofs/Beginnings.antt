@@ -1,5 +1,6 @@
 -- Beginnings of a string: what a layout's reader makes of the front of what it reads (document 02, Ask 9).
 -- Assumes nothing.
+use Rattle.std.specs.Prelude.{Ok}
 use Prim.Native.Nat.{ℕ, zero, suc, ◌+◌, ◌<◌}
 use mathlib.Core.Path.{◌≡◌, refl, sym, ap, ◌∙◌}
 use mathlib.Core.Bool.{Bool, true, false}
@@ -11,7 +12,7 @@ use borrow.Author.Tests.{leb-true, leb-false}
 use lib.Dec.{leb}
 use lib.ListN.{length, take, drop, take-append-drop}
 use lib.Seq.{length-take-le}
-use Rattle.octets.specs.Answers.{Said, gives}
+use Rattle.octets.specs.Answers.{Said}
 use Rattle.octets.specs.Lent.{Making, made}
 use Rattle.octets.specs.declared.Refusal.TheVariants.{OctetsEnd}
 use Rattle.octets.proofs.Choice.{chosen}
@@ -85,8 +86,8 @@ endless_then (done a) next e also = also a
 
 -- ---- a kind without exception
 
-module _ {R : Type 0} (Typed : R → Type 0) (compared capitalised : R → R) (layout_of : R → Layout R) (write : R → Making (Said ℕ)) where
-  pub cut_always : ((r : R) → Typed r → (octets : List ℕ) (n : ℕ) → write r ≡ made octets (gives n) → (k : ℕ) → k < length octets → read (layout_of r) (take k octets) ≡ halted OctetsEnd)
+module _ {R : Type 0} (Typed : R → Type 0) (compared capitalised : R → R) (layout_of : R → Layout R) (write : R → Making ℕ) where
+  pub cut_always : ((r : R) → Typed r → (octets : List ℕ) (n : ℕ) → write r ≡ made octets n → (k : ℕ) → k < length octets → read (layout_of r) (take k octets) ≡ halted OctetsEnd)
       → Cut Typed compared capitalised layout_of write (λ r. none) (λ r. r)
   cut_always all = record {
     ends = λ r t octets n e k h x. all r t octets n e k h;

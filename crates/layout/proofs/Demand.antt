@@ -7,8 +7,8 @@ use mathlib.Core.List.{List, ◌++◌}
 use mathlib.Core.Logic.{◌↔◌, ◌⊎◌, inl, inr, ⊎_elim}
 use borrow.Author.Tests.{le-leb}
 use lib.ListN.{length, drop}
-use Rattle.octets.specs.Answers.{Said, gives, refuses}
-use Rattle.std.specs.Prelude.{if◌then◌else◌}
+use Rattle.octets.specs.Answers.{Said}
+use Rattle.std.specs.Prelude.{if◌then◌else◌, Ok, Err}
 use Rattle.octets.specs.Each.{Octets}
 use Rattle.octets.specs.Lent.{Making, refused, made, lend}
 use Rattle.octets.specs.declared.Refusal.{Refusal}
@@ -20,30 +20,30 @@ use Rattle.layout.proofs.Makes.{Makes, makes}
 -- ---- what a writer makes of a record that was read
 
 -- these octets, or a refusal where b says so
-abbrev pub Answers : Making (Said ℕ) → List ℕ → Bool → Type 0
-Answers making octets false = making ≡ made octets (gives (length octets))
+abbrev pub Answers : Making ℕ → List ℕ → Bool → Type 0
+Answers making octets false = making ≡ made octets (length octets)
 Answers making octets true = (why : Refusal) × (making ≡ refused why)
 
 -- one more check before it
-pub answers_checked : (fails : Bool) (why : Refusal) (making : Making (Said ℕ)) (octets : List ℕ) (b : Bool) → Answers making octets b → Answers (if fails then refused why else making) octets (fails || b)
+pub answers_checked : (fails : Bool) (why : Refusal) (making : Making ℕ) (octets : List ℕ) (b : Bool) → Answers making octets b → Answers (if fails then refused why else making) octets (fails || b)
 answers_checked true why making octets b a = (why, refl)
 answers_checked false why making octets b a = a
 
 -- the second of two fields is checked first
-pub answers_two : (a b : Bool) (why also : Refusal) (xs octets : List ℕ) → xs ≡ octets → Answers (if b then refused also else if a then refused why else made xs (gives (length xs))) octets (a || (b || false))
+pub answers_two : (a b : Bool) (why also : Refusal) (xs octets : List ℕ) → xs ≡ octets → Answers (if b then refused also else if a then refused why else made xs (length xs)) octets (a || (b || false))
 answers_two true true why also xs octets e = (also, refl)
 answers_two true false why also xs octets e = (why, refl)
 answers_two false true why also xs octets e = (also, refl)
 answers_two false false why also xs octets e = rw e
 
-lent : (making : Making (Said ℕ)) (octets : List ℕ) (b : Bool) → Answers making octets b → (buffer : List ℕ) → length octets ≤ length buffer
-    → (b ≡ false → lend refuses making buffer ≡ (gives (length octets), octets ++ drop (length octets) buffer))
-    × (b ≡ true → (why : Refusal) × (lend refuses making buffer ≡ (refuses why, buffer)))
+lent : (making : Making ℕ) (octets : List ℕ) (b : Bool) → Answers making octets b → (buffer : List ℕ) → length octets ≤ length buffer
+    → (b ≡ false → lend making buffer ≡ (Ok (length octets), octets ++ drop (length octets) buffer))
+    × (b ≡ true → (why : Refusal) × (lend making buffer ≡ (Err why, buffer)))
 unfolding lend
 lent making octets false a buffer h = (λ e. rw (a, le-leb (length octets) (length buffer) h), λ e. absurd (false≢true e))
 lent making octets true a buffer h = (λ e. absurd (true≢false e), λ e. (a.0, rw a.1))
 
-module _ {R : Type 0} (cleared : R → R) (write : R → Making (Said ℕ)) where
+module _ {R : Type 0} (cleared : R → R) (write : R → Making ℕ) where
   -- two records are equal exactly when the canonical octets are
   abbrev pub Alike : R → List ℕ → R → List ℕ → Type 0
   Alike r c q d = (cleared r ≡ cleared q) ↔ (c ≡ d)

@@ -6,7 +6,7 @@ use mathlib.Core.Bool.{Bool, true, false}
 use mathlib.Core.List.{List, []}
 use Rattle.std.specs.Prelude.{if◌then◌else◌}
 use Rattle.gsm7.specs.Reading.{replaced_in_all}
-use Rattle.layout.specs.Layout.{Format, done, ◌then◌, Reached, reached, halted, reading, read_from, answer, replaced_of, Layout, plain, stopping, stops, read, records}
+use Rattle.layout.specs.Layout.{Format, done, ◌then◌, Reached, reached, halted, reading, read_from, answer, Layout, plain, stopping, stops, read, records}
 use Rattle.layout.proofs.Steps.{go_on, one_by_one}
 
 module _ {A R : Type 0} (make : A → R) where
@@ -32,13 +32,7 @@ module _ {A R : Type 0} (make : A → R) where
       by true = refl
       by false = format_records format s
 
-  -- and what the reader answers: the outcome, and the record of its fields
-  pub answer_records : (blank : A) (r : Reached A) → answer (make blank) (onward r) ≡ ((answer blank r).0, make (answer blank r).1)
-  answer_records blank (reached x n) = refl
-  answer_records blank (halted why) = refl
-
--- where nothing is read as text no escape is replaced
-pub no_texts : {R : Type 0} (r : Reached R) → replaced_of (λ q. []) r ≡ 0
-unfolding replaced_in_all
-no_texts (reached q n) = refl
-no_texts (halted why) = refl
+  -- and what the reader answers: the record of its fields
+  pub answer_records : {B : Type 0} (gives : R → ℕ → B) (r : Reached A) → answer gives (onward r) ≡ answer (λ x n. gives (make x) n) r
+  answer_records gives (reached x n) = refl
+  answer_records gives (halted why) = refl

@@ -11,8 +11,8 @@ use lib.Bits.{bit_and}
 use lib.Dec.{eqb, leb}
 use lib.ListN.{length, get_or, take, drop, length-drop, drop_of_length-le}
 use lib.Seq.{drop-cons, drop-drop, get_or-take, get_or-drop}
-use Rattle.octets.specs.Answers.{Said, gives, refuses}
-use Rattle.std.specs.Prelude.{if◌then◌else◌}
+use Rattle.octets.specs.Answers.{Said}
+use Rattle.std.specs.Prelude.{if◌then◌else◌, Ok, Err}
 use Rattle.octets.specs.Places.{octet_at, span_at}
 use Rattle.octets.specs.declared.Place.{Place}
 use Rattle.octets.specs.declared.Refusal.{Refusal}
@@ -64,7 +64,7 @@ module _ (s : List ℕ) (p : Place) where
 
   -- ---- by the answer of `Place::octet`
 
-  module _ {b : ℕ} {q : Place} (e : octet_at s p ≡ gives (b, q)) where
+  module _ {b : ℕ} {q : Place} (e : octet_at s p ≡ Ok (b, q)) where
     one_there : {R : Type 0} (k : Kind) (next : List ℕ → Format R) → ((f : List ℕ) → size k f ≡ 1) → read_from (field k next) s p.at ≡ read_from (next (canon k (b ∷ []))) s q.at
     one_there k next n =
         let (h, is, to) = octet_read s p e in
@@ -82,7 +82,7 @@ module _ (s : List ℕ) (p : Place) where
       pub message_differs : (message_type b ≡ mti → ⊥) → read_from (message mti bits next) s p.at ≡ halted WrongMessageType
       message_differs m = one_there (first bits) _ (λ f. refl) ∙ require_fails s q.at (ne_eqb _ mti (λ h. m (sym (kept_type bits d b) ∙ h))) WrongMessageType _
 
-  module _ (e : octet_at s p ≡ refuses OctetsEnd) where
+  module _ (e : octet_at s p ≡ Err OctetsEnd) where
     one_short : {R : Type 0} (k : Kind) (next : List ℕ → Format R) → ((f : List ℕ) → size k f ≡ 1) → read_from (field k next) s p.at ≡ halted OctetsEnd
     one_short k next n = short k next (rw (n (drop p.at s), length-drop) (omega (arith, octet_ended s p e)))
 
@@ -94,36 +94,36 @@ module _ (s : List ℕ) (p : Place) where
 
   -- ---- by the answer of `Place::span`
 
-  whole_there : {R : Type 0} {a : ℕ} {q : Place} (k : Kind) → span_at s p (size k (drop p.at s)) ≡ gives (a, q) → (next : List ℕ → Format R) → read_from (field k next) s p.at ≡ read_from (next (canon k (cut k (drop p.at s)))) s q.at
+  whole_there : {R : Type 0} {a : ℕ} {q : Place} (k : Kind) → span_at s p (size k (drop p.at s)) ≡ Ok (a, q) → (next : List ℕ → Format R) → read_from (field k next) s p.at ≡ read_from (next (canon k (cut k (drop p.at s)))) s q.at
   whole_there {q = q} k e next = let (h, a, to) = span_there s p _ e in there k next q h to
 
-  whole_short : {R : Type 0} {why : Refusal} (k : Kind) → span_at s p (size k (drop p.at s)) ≡ refuses why → (next : List ℕ → Format R) → read_from (field k next) s p.at ≡ halted OctetsEnd
+  whole_short : {R : Type 0} {why : Refusal} (k : Kind) → span_at s p (size k (drop p.at s)) ≡ Err why → (next : List ℕ → Format R) → read_from (field k next) s p.at ≡ halted OctetsEnd
   whole_short k e next = short k next (span_ended s p _ e)
 
   module _ (n : ℕ) where
-    pub span_goes_on : {R : Type 0} {a : ℕ} {q : Place} → span_at s p n ≡ gives (a, q) → (limit : Limit) (next : List ℕ → Format R) → read_from (field (octets limit n) next) s p.at ≡ read_from (next (take n (drop p.at s))) s q.at
+    pub span_goes_on : {R : Type 0} {a : ℕ} {q : Place} → span_at s p n ≡ Ok (a, q) → (limit : Limit) (next : List ℕ → Format R) → read_from (field (octets limit n) next) s p.at ≡ read_from (next (take n (drop p.at s))) s q.at
     span_goes_on e limit next = whole_there (octets limit n) e next
 
-    pub span_ends : {R : Type 0} {why : Refusal} → span_at s p n ≡ refuses why → (limit : Limit) (next : List ℕ → Format R) → read_from (field (octets limit n) next) s p.at ≡ halted OctetsEnd
+    pub span_ends : {R : Type 0} {why : Refusal} → span_at s p n ≡ Err why → (limit : Limit) (next : List ℕ → Format R) → read_from (field (octets limit n) next) s p.at ≡ halted OctetsEnd
     span_ends e limit next = whole_short (octets limit n) e next
 
   -- ---- by the answer of `address_span`
 
-  pub address_goes_on : {R : Type 0} {a : ℕ} {q : Place} → address_span s p ≡ gives (a, q) → (next : List ℕ → Format R) → read_from (field address next) s p.at ≡ read_from (next (canonical_address (cut address (drop a s)))) s q.at
+  pub address_goes_on : {R : Type 0} {a : ℕ} {q : Place} → address_span s p ≡ Ok (a, q) → (next : List ℕ → Format R) → read_from (field address next) s p.at ≡ read_from (next (canonical_address (cut address (drop a s)))) s q.at
   unfolding address_span span_at
   address_goes_on e next = whole_there address e next ∙ rw (span_there s p _ e).1
 
-  pub address_ends : {R : Type 0} → address_span s p ≡ refuses OctetsEnd → (next : List ℕ → Format R) → read_from (field address next) s p.at ≡ halted OctetsEnd
+  pub address_ends : {R : Type 0} → address_span s p ≡ Err OctetsEnd → (next : List ℕ → Format R) → read_from (field address next) s p.at ≡ halted OctetsEnd
   unfolding address_span span_at
   address_ends e next = whole_short address e next
 
   -- it starts at the place
-  pub address_starts : {a : ℕ} {q : Place} → address_span s p ≡ gives (a, q) → a ≡ p.at
+  pub address_starts : {a : ℕ} {q : Place} → address_span s p ≡ Ok (a, q) → a ≡ p.at
   unfolding address_span span_at
   address_starts e = (span_there s p _ e).1
 
   -- it lies in the string, from a place that does
-  pub address_inside : {a : ℕ} {q : Place} → address_span s p ≡ gives (a, q) → p.at ≤ length s → (a + address_size (drop a s) ≤ length s) × (q.at ≤ length s)
+  pub address_inside : {a : ℕ} {q : Place} → address_span s p ≡ Ok (a, q) → p.at ≤ length s → (a + address_size (drop a s) ≤ length s) × (q.at ≤ length s)
   unfolding address_span span_at
   address_inside {a} e h =
       let is : a ≡ p.at = (span_there s p _ e).1 in
@@ -132,35 +132,35 @@ module _ (s : List ℕ) (p : Place) where
 
   -- ---- by the answer of a method that reads an indicator
 
-  pub indicator_goes_on : {R : Type 0} {b : ℕ} {q : Place} → indicator_at s p ≡ gives (b, q) → (next : List ℕ → Format R) → read_from (field indicator next) s p.at ≡ read_from (next (b ∷ [])) s q.at
+  pub indicator_goes_on : {R : Type 0} {b : ℕ} {q : Place} → indicator_at s p ≡ Ok (b, q) → (next : List ℕ → Format R) → read_from (field indicator next) s p.at ≡ read_from (next (b ∷ [])) s q.at
   unfolding indicator_at
   indicator_goes_on {b = b} {q} e next = by (span_at s p (indicator_size (drop p.at s))) refl e
     where
-      by : (r : Said (ℕ × Place)) → span_at s p (indicator_size (drop p.at s)) ≡ r → leading_at s r ≡ gives (b, q) → read_from (field indicator next) s p.at ≡ read_from (next (b ∷ [])) s q.at
-      by (gives (a, to)) d e =
+      by : (r : Said (ℕ × Place)) → span_at s p (indicator_size (drop p.at s)) ≡ r → leading_at s r ≡ Ok (b, q) → read_from (field indicator next) s p.at ≡ read_from (next (b ∷ [])) s q.at
+      by (Ok (a, to)) d e =
           let (h, is, w) = span_there s p _ d in
           let at : p.at + 0 ≡ p.at = add-zero p.at in
           let first : get_or s a 0 ≡ b = ap (λ z. z.0) (given e) in
           let last : to ≡ q = ap (λ z. z.1) (given e) in
           whole_there indicator d next ∙ cc (get_or-take (indicator_size (drop p.at s)) (drop p.at s) 0 0 (indicator_positive (drop p.at s)), get_or-drop p.at s 0 0)
-      by (refuses why) d e = let z : ◌≡◌ {A = ℕ} 0 1 = cc in absurd (omega arith)
+      by (Err why) d e = let z : ◌≡◌ {A = ℕ} 0 1 = cc in absurd (omega arith)
 
-  pub indicator_ends : {R : Type 0} {why : Refusal} → indicator_at s p ≡ refuses why → (next : List ℕ → Format R) → read_from (field indicator next) s p.at ≡ halted OctetsEnd
+  pub indicator_ends : {R : Type 0} {why : Refusal} → indicator_at s p ≡ Err why → (next : List ℕ → Format R) → read_from (field indicator next) s p.at ≡ halted OctetsEnd
   unfolding indicator_at
   indicator_ends {why = why} e next = by (span_at s p (indicator_size (drop p.at s))) refl e
     where
-      by : (r : Said (ℕ × Place)) → span_at s p (indicator_size (drop p.at s)) ≡ r → leading_at s r ≡ refuses why → read_from (field indicator next) s p.at ≡ halted OctetsEnd
-      by (gives there) d e = let z : ◌≡◌ {A = ℕ} 0 1 = cc in absurd (omega arith)
-      by (refuses w) d e = whole_short indicator d next
+      by : (r : Said (ℕ × Place)) → span_at s p (indicator_size (drop p.at s)) ≡ r → leading_at s r ≡ Err why → read_from (field indicator next) s p.at ≡ halted OctetsEnd
+      by (Ok there) d e = let z : ◌≡◌ {A = ℕ} 0 1 = cc in absurd (omega arith)
+      by (Err w) d e = whole_short indicator d next
 
 -- ---- a layout that the first octet may stop
 
-pub stops_by : {b : ℕ} {q : Place} (mti : ℕ) (s : List ℕ) → octet_at s start ≡ gives (b, q) → stops mti s ≡ (eqb (message_type b) mti && not (eqb (bit_and b 0xbc) 0))
+pub stops_by : {b : ℕ} {q : Place} (mti : ℕ) (s : List ℕ) → octet_at s start ≡ Ok (b, q) → stops mti s ≡ (eqb (message_type b) mti && not (eqb (bit_and b 0xbc) 0))
 unfolding stops
 stops_by mti [] e = absurd (omega (arith, (octet_read [] start e).0))
 stops_by mti (x ∷ s) e = rw (octet_read (x ∷ s) start e).1
 
-pub stops_none : (mti : ℕ) (s : List ℕ) → octet_at s start ≡ refuses OctetsEnd → stops mti s ≡ false
+pub stops_none : (mti : ℕ) (s : List ℕ) → octet_at s start ≡ Err OctetsEnd → stops mti s ≡ false
 unfolding stops
 stops_none mti [] e = refl
 stops_none mti (x ∷ s) e = absurd (omega (arith, octet_ended (x ∷ s) start e))
@@ -169,11 +169,11 @@ module _ {R : Type 0} (mti : ℕ) (stands : List ℕ) (z : R) (bits : List ℕ) 
   abbrev stopping_read : Reached R
   stopping_read = read (stopping mti stands z (message mti bits next)) s
 
-  pub stopping_ends : octet_at s start ≡ refuses OctetsEnd → stopping_read ≡ halted OctetsEnd
+  pub stopping_ends : octet_at s start ≡ Err OctetsEnd → stopping_read ≡ halted OctetsEnd
   unfolding read
   stopping_ends e = rw (stops_none mti s e) (message_ends s start e mti bits next)
 
-  module _ {b : ℕ} {q : Place} (e : octet_at s start ≡ gives (b, q)) where
+  module _ {b : ℕ} {q : Place} (e : octet_at s start ≡ Ok (b, q)) where
     pub stopping_differs : (message_type b ≡ mti → ⊥) → stopping_read ≡ halted WrongMessageType
     unfolding read
     stopping_differs m = rw (stops_by mti s e, ne_eqb (message_type b) mti m) (message_differs s start e mti bits d next m)

@@ -1,11 +1,10 @@
 -- Layouts (document 01, "Messages") as data: the strings that a layout generates, their canonical octets, and the reader that it describes.
-use Rattle.std.specs.Prelude.{ℕ, suc, ◌+◌, ◌*◌, ◌/◌, ◌%◌, ◌^◌, ◌≡◌, refl, Bool, true, false, not, ◌&&◌, ◌||◌, List, [], ◌∷◌, ◌++◌, ◌⊎◌, leb, ltb, eqb, length, get_or, take, drop, if◌then◌else◌}
+use Rattle.std.specs.Prelude.{ℕ, suc, ◌+◌, ◌*◌, ◌/◌, ◌%◌, ◌^◌, ◌≡◌, refl, Bool, true, false, not, ◌&&◌, ◌||◌, List, [], ◌∷◌, ◌++◌, ◌⊎◌, leb, ltb, eqb, length, get_or, take, drop, if◌then◌else◌, Err, Ok}
 use Rattle.std.specs.Int.Bits.{bit_and}
-use Rattle.octets.specs.Answers.{Said, refuses, fine}
+use Rattle.octets.specs.Answers.{Said}
 use Rattle.octets.specs.Choice.{flag}
 use Rattle.octets.specs.declared.Refusal.{Refusal}
 use Rattle.octets.specs.declared.Refusal.TheVariants.{OctetsEnd, WrongMessageType}
-use Rattle.gsm7.specs.Reading.{replaced_in_all}
 use Rattle.address.specs.Address.{address_size, canonical_address}
 
 -- ---- kinds of field
@@ -176,15 +175,14 @@ reading (done r) s at = reached r at
 unfoldable pub read_from : {R : Type 0} → Format R → List ℕ → ℕ → Reached R
 read_from format s at = reading format (drop at s) at
 
--- what a reader answers: done, and the record; or its refusal, and the blank record
-abbrev pub answer : {R : Type 0} → R → Reached R → Said Unit × R
-answer blank (reached r at) = (fine, r)
-answer blank (halted why) = (refuses why, blank)
+-- what a reader answers: what it gives of the record and of the place that was reached; or its refusal
+abbrev pub answer : {R A : Type 0} → (R → ℕ → A) → Reached R → Said A
+answer gives (reached r at) = Ok (gives r at)
+answer gives (halted why) = Err why
 
--- what stands beside the record: the number of escapes that were replaced in all that was read as text, 0 on a refusal. `texts` gives the septets of each text; it is no function of the canonical octets, in which what stood in for another stands for itself
-abbrev pub replaced_of : {R : Type 0} → (R → List (List ℕ)) → Reached R → ℕ
-replaced_of texts (reached r at) = replaced_in_all (texts r)
-replaced_of texts (halted why) = 0
+-- the record, without what is given beside it
+abbrev pub alone : {R : Type 0} → R → ℕ → R
+alone r at = r
 
 -- ---- canonical octets, and what can't be written
 

@@ -8,7 +8,7 @@ use native.Mathlib.Nat.{add-zero, le_refl}
 use native.Mathlib.Numerals.{add-one}
 use native.Mathlib.Omega.{arith}
 use borrow.Author.Tests.{ne_eqb}
-use lib.ListN.{length, get_or, take, drop, length-drop, drop_of_length-le}
+use lib.ListN.{length, get_or, take, drop, length-drop}
 use lib.Seq.{drop-cons, take-take, take_all}
 use Rattle.octets.specs.Lent.{Wrote}
 use Rattle.coding.specs.Coding.{coding_of, data_octets}
@@ -123,11 +123,3 @@ module _ (slot : List ℕ) (size : length slot ≡ 2356) (total n : ℕ) (low : 
     pub shown_here : shown_parts dcs (holdings n (total + 1 - n) slot) ≡ shown_in (coding_of dcs) cut ++ shown_parts dcs (holdings (n + 1) (total + 1 - (n + 1)) slot)
     unfolding shown_parts
     shown_here = ap (shown_parts dcs) unrolled_here
-
--- nothing is after a header that passes the data
-pub after_none : (os l : List ℕ) (at : ℕ) {h : ℕ} → h ≡ header_octets os → length os < h → Wrote at (drop (header_octets os) os) l at l
-after_none os l at is few = let e : drop (header_octets os) os ≡ [] = drop_of_length-le os {i = header_octets os} (omega (arith, is)) in rw e (record { place = sym (add-zero at); list = refl })
-
--- what is after, as the code cuts it out
-pub after_cut : (os : List ℕ) {h : ℕ} → h ≡ header_octets os → take (length os - h) (drop h os) ≡ drop (header_octets os) os
-after_cut os {h} is = take_all (length os - h) (drop h os) (rw length-drop (le_refl _)) ∙ ap (λ (n : ℕ). drop n os) is

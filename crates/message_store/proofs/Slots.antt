@@ -1,17 +1,19 @@
 -- The slots of a store: where they are, and one that is put back as it was.
 -- Assumes nothing.
+use Rattle.std.specs.Prelude.{Some, None, Option as Maybe, Bool, ltb, if◌then◌else◌}
+use Rattle.std.proofs.lemmas.Option.{same_Some, none-some}
 use Prim.Native.Nat.{ℕ, ◌+◌, ◌-◌, ◌*◌, ◌≤◌, ◌<◌}
-use mathlib.Core.Path.{◌≡◌, ap, ◌∙◌}
-use mathlib.Core.Bool.{true, not}
+use mathlib.Core.Path.{refl, ◌≡◌, ap, ◌∙◌, sym}
+use mathlib.Core.Bool.{false, true, not}
 use mathlib.Core.List.{List, ◌++◌}
 use native.Mathlib.Omega.{arith}
-use borrow.Author.Tests.{leb-true, eqb-true, not-false}
+use borrow.Author.Tests.{leb-true, eqb-true, not-false, ltb-false, ltb-true}
 use lib.Dec.{leb, eqb}
 use lib.ListN.{length, take, drop, length-drop, take-append-drop}
 use lib.Seq.{length-take-le}
 use Rattle.octets.proofs.Choice.{and_true}
 use Rattle.octets.proofs.Laws.{part_is}
-use Rattle.message_store.specs.Store.{first, is_open, has_key, slot_fits, store_octets, slot_at, with_slot, slot_with, free_slot, fits}
+use Rattle.message_store.specs.Store.{slot_there, first, is_open, has_key, slot_fits, store_octets, slot_at, with_slot, slot_with, free_slot, fits}
 use Rattle.message_store.proofs.First.{first_bounds, first_before, first_passes}
 
 abbrev pub Room : List ℕ → Type 0
@@ -59,3 +61,20 @@ module _ (store : List ℕ) (e : fits store ≡ true) where
   fits_slot k h =
       let all = eqb-true (first (λ j. not (slot_fits (slot_at j store))) 16 0) 16 both.1 in
       not-false _ (first_before (λ j. not (slot_fits (slot_at j store))) 16 0 k (omega arith) (omega (arith, all)))
+
+-- ---- a slot that was found
+
+module _ (k : ℕ) where
+  pub slot_found : {j : ℕ} → Some j ≡ slot_there k → (j ≡ k) × (j < 16)
+  slot_found {j} = by (ltb k 16) refl
+    where
+      by : (t : Bool) → ltb k 16 ≡ t → Some j ≡ (if t then Some k else None) → (j ≡ k) × (j < 16)
+      by true t e = let same = same_Some j k e in (same, omega (arith, ltb-true k 16 t))
+      by false t e = absurd (none-some j (sym e))
+
+  pub slot_past : ◌≡◌ {A = Maybe ℕ} None (slot_there k) → 16 ≤ k
+  slot_past = by (ltb k 16) refl
+    where
+      by : (t : Bool) → ltb k 16 ≡ t → ◌≡◌ {A = Maybe ℕ} None (if t then Some k else None) → 16 ≤ k
+      by true t e = absurd (none-some k e)
+      by false t e = ltb-false k 16 t

@@ -1,6 +1,6 @@
 -- The part of a concatenated short message that a DELIVER is (TS 23.040 §9.2.3.24.1, §9.2.3.24.8).
-use Rattle.std.specs.Prelude.{ℕ, ◌-◌, ◌≤◌, ◌≡◌, refl, List, [], ◌∷◌, length, drop}
-use Rattle.octets.specs.Answers.{Said, gives, refuses}
+use Rattle.std.specs.Prelude.{ℕ, ◌-◌, ◌≤◌, ◌≡◌, refl, List, [], ◌∷◌, length, drop, Ok, Err}
+use Rattle.octets.specs.Answers.{Said}
 use Rattle.coding.specs.Coding.{data_of}
 use Rattle.coding.specs.declared.UserDataCoding.{UserDataCoding}
 use Rattle.coding.specs.declared.UserDataCoding.TheVariants.{Gsm7Bit, EightBit, Ucs2, Compressed}
@@ -11,7 +11,8 @@ use Rattle.user_data_header.specs.Header.{header_octets}
 use Rattle.address.specs.Address.{text_held}
 use Rattle.address.specs.declared.SMSAddress.{SMSAddress}
 use Rattle.deliver.specs.declared.SmsDeliver.{SmsDeliver}
-use Rattle.part_number.specs.Numbering.{Numbering, numbering_in}
+use Rattle.part_number.specs.Numbering.{numbering_in}
+use Rattle.part_number.specs.declared.PartNumber.{PartNumber}
 use Rattle.part_number.specs.declared.Reference.{Reference}
 
 -- parts belong together when these are equal: originating address (type, plan, text), reference with its width, total
@@ -42,9 +43,9 @@ pub record Arrived : Type 0 where
   pub part : Part
 
 -- the part that user data are by what they say of its number
-abbrev pub arrived_as : SMSAddress → ℕ → ℕ → List ℕ → Said Numbering → Said Arrived
-arrived_as a dcs udl ud (gives n) = gives (record { key = key_of a n.reference n.total; dcs = dcs; number = n.number; part = record { udl = udl; octets = ud } })
-arrived_as a dcs udl ud (refuses why) = refuses why
+abbrev pub arrived_as : SMSAddress → ℕ → ℕ → List ℕ → Said PartNumber → Said Arrived
+arrived_as a dcs udl ud (Ok n) = Ok (record { key = key_of a n.reference n.total; dcs = dcs; number = n.number; part = record { udl = udl; octets = ud } })
+arrived_as a dcs udl ud (Err why) = Err why
 
 -- the part that a DELIVER is: 17, 18, 24, 28
 unfoldable pub arrival_of : SmsDeliver → Said Arrived

@@ -4,7 +4,7 @@
 --     2 to 9     for each number from 1 to 8, 0 where the part is not held
 --     10 to 307  the key: total, width, reference (high octet first), type, plan, length of the text (high octet first), text
 --     308 on     for each number 256 octets: TP-UDL, then the user data
-use Rattle.std.specs.Prelude.{ℕ, zero, suc, ◌+◌, ◌*◌, ◌/◌, ◌%◌, Bool, true, false, not, ◌&&◌, ◌||◌, List, [], ◌∷◌, ◌++◌, length, get_or, set, take, drop, replicate, eqb, leb, if◌then◌else◌}
+use Rattle.std.specs.Prelude.{ℕ, zero, suc, ◌+◌, ◌*◌, ◌/◌, ◌%◌, Bool, true, false, not, ◌&&◌, ◌||◌, List, [], ◌∷◌, ◌++◌, length, get_or, set, take, drop, replicate, eqb, leb, ltb, if◌then◌else◌, Some, None, Option as Maybe}
 use Rattle.std.proofs.Math.Option.{Option, none, some}
 use Rattle.std.proofs.lemmas.List.Edits.{sets}
 use Rattle.coding.specs.Coding.{coding_of, data_octets}
@@ -106,6 +106,10 @@ slot_of key store = slot_with (key_octets key) store
 
 unfoldable pub free_slot : List ℕ → ℕ
 free_slot store = first (λ k. not (is_open (slot_at k store))) 16 0
+
+-- a slot that was found, none past the last
+abbrev pub slot_there : ℕ → Maybe ℕ
+slot_there k = if ltb k 16 then Some k else None
 
 -- refusal 1: a length field passes its array, or the store is too short
 unfoldable pub fits : List ℕ → Bool

@@ -1,18 +1,18 @@
 // The store that the caller lends for the parts of concatenated short messages: its slots, what stands in them, and what is shown of a message.
 #![tactic(auto)]
 
-ghost use Rattle.std.specs.Prelude.{◌≡◌, [], ◌+◌, ◌≤◌, length};
+ghost use Rattle.std.specs.Prelude.{◌≡◌, [], ◌+◌, ◌<◌, ◌≤◌, length};
 ghost use Rattle.octets.specs.Arrays.{pad};
 ghost use Rattle.octets.specs.Lent.{Wrote};
 ghost use Rattle.coding.specs.Coding.{data_octets};
 ghost use Rattle.message_store.specs.Part.{text_after, octets_after, shown_in};
-ghost use Rattle.message_store.specs.Store.{begins as beginsWith, has_key, is_open as isOpenSlot, slot_fits, store_octets, slot_with, free_slot, fits, reference_octets, key_octets, opened_with, with_part, message_in, missing_of, shown_of};
+ghost use Rattle.message_store.specs.Store.{begins as beginsWith, has_key, is_open as isOpenSlot, slot_fits, store_octets, slot_at, slot_with, slot_there, free_slot, fits, reference_octets, key_octets, opened_with, with_part, message_in, missing_of, shown_of};
 
 use coding::UserDataCoding;
 use part_number::Reference;
 
 // Numbers that are missing.
-#[derive(Clone, Copy)]
+#[derive(Clone, Copy, Debug)]
 pub struct Missing {
     pub numbers: [u8; 8],
     pub count: usize,
@@ -24,31 +24,15 @@ pub struct Missing {
 fn begins(s: &[u8], octets: &[u8]) -> bool
     ensures { result ≡ beginsWith octets.now s.now }
 {
-    if s.len() < octets.len() {
-        return false;
-    }
-    let mut i = 0;
-    while i < octets.len() {
-        if s[i] != octets[i] {
-            return false;
-        }
-        i += 1;
-    }
-    true
+    s.starts_with(octets)
 }
 
-// The octets stand at the start of others, which are as many at least. Octets that differ are rare here, so that looking at all is faster.
+// The octets stand at the start of others, which are as many at least.
 pub fn all_same(s: &[u8], octets: &[u8]) -> bool
     requires { length octets.now ≤ length s.now }
     ensures { result ≡ beginsWith octets.now s.now }
 {
-    let mut same = true;
-    let mut i = 0;
-    while i < octets.len() {
-        same = same & (s[i] == octets[i]);
-        i += 1;
-    }
-    same
+    octets == &s[..octets.len()]
 }
 
 fn is_open(slot: &[u8]) -> bool
@@ -59,6 +43,7 @@ fn is_open(slot: &[u8]) -> bool
 }
 
 // The length fields of an open slot, of the address and of the parts, pass no array.
+#[tactic(auto, unfolding(crate::specs::Store::slot_fits))]
 fn fits_slot(slot: &[u8]) -> bool
     requires { length slot.now ≡ 2356 }
     ensures { result ≡ slot_fits slot.now }
@@ -70,6 +55,7 @@ fn fits_slot(slot: &[u8]) -> bool
     (length <= 290) & (slot[10] <= 8)
 }
 
+#[tactic(auto, unfolding(crate::specs::Store::has_key))]
 fn has_key(slot: &[u8], key: &[u8]) -> bool
     requires { length slot.now ≡ 2356 }
     ensures { result ≡ has_key key.now slot.now }
@@ -80,57 +66,36 @@ fn has_key(slot: &[u8], key: &[u8]) -> bool
     begins(&slot[10..], key)
 }
 
-// The slot of a message, or 16.
-pub fn find_message(store: &[u8], key: &[u8]) -> usize
-    requires { store_octets ≤ length store.now }
-    ensures { result ≡ slot_with key.now store.now }
+// One of the 16 slots.
+fn slot(store: &[u8], k: usize) -> &[u8]
+    requires { (store_octets ≤ length store.now) × (k < 16) }
+    ensures { (result.now ≡ slot_at k store.now) × (length result.now ≡ 2356) }
 {
-    let mut k = 0;
-    while k < 16 {
-        let at = k * 2356;
-        let end = at + 2356;
-        if has_key(&store[at..end], key) {
-            return k;
-        }
-        k += 1;
-    }
-    16
+    let at = k * 2356;
+    &store[at..at + 2356]
 }
 
-// A slot where no message is open, or 16.
-pub fn find_free(store: &[u8]) -> usize
+// The slot of a message; none where it is not open.
+pub fn find_message(store: &[u8], key: &[u8]) -> Option<usize>
     requires { store_octets ≤ length store.now }
-    ensures { result ≡ free_slot store.now }
+    ensures { result ≡ slot_there (slot_with key.now store.now) }
 {
-    let mut k = 0;
-    while k < 16 {
-        let at = k * 2356;
-        let end = at + 2356;
-        if !is_open(&store[at..end]) {
-            return k;
-        }
-        k += 1;
-    }
-    16
+    (0..16).find(|k| has_key(slot(store, *k), key))
+}
+
+// A slot where no message is open; none where there is none.
+pub fn find_free(store: &[u8]) -> Option<usize>
+    requires { store_octets ≤ length store.now }
+    ensures { result ≡ slot_there (free_slot store.now) }
+{
+    (0..16).find(|k| !is_open(slot(store, *k)))
 }
 
 // The store is long enough, and no length field in it passes its array.
 pub fn fits_store(store: &[u8]) -> bool
     ensures { result ≡ fits store.now }
 {
-    if store.len() < 37696 {
-        return false;
-    }
-    let mut k = 0;
-    while k < 16 {
-        let at = k * 2356;
-        let end = at + 2356;
-        if !fits_slot(&store[at..end]) {
-            return false;
-        }
-        k += 1;
-    }
-    true
+    store.len() >= 37696 && (0..16).all(|k| fits_slot(slot(store, k)))
 }
 
 // The numbers from 1 to `total` that a slot does not hold.
@@ -140,13 +105,11 @@ pub fn missing_in(slot: &[u8], total: u8) -> Missing
 {
     let mut numbers = [0u8; 8];
     let mut count = 0;
-    let mut n = 1;
-    while n <= total {
+    for n in 1..total + 1 {
         if slot[n as usize + 1] == 0 {
             numbers[count] = n;
             count += 1;
         }
-        n += 1;
     }
     Missing { numbers, count }
 }
@@ -250,6 +213,7 @@ fn put_after(shown: &mut [u8], at: usize, udl: u8, data: &[u8]) -> usize
 }
 
 // Puts what is shown of a part from `at` on; the place after it.
+#[tactic(auto, using(coding::proofs::Laws::data_at_most), unfolding(crate::specs::Part::shown_in))]
 fn put_shown(shown: &mut [u8], at: usize, coding: UserDataCoding, udl: u8, data: &[u8]) -> usize
     requires { (at + 510 ≤ length shown.old) × (length «data».now ≡ data_octets coding udl) }
     ensures { Wrote at (shown_in coding (record { udl = udl; octets = «data».now })) shown.old result shown.new }
@@ -269,14 +233,12 @@ pub fn put_parts(shown: &mut [u8], slot: &[u8], total: u8) -> usize
 {
     let coding = coding::user_data_coding(slot[1]);
     let mut at = 0;
-    let mut n = 1;
-    while n <= total {
-        let start = 52 + (n as usize) * 256;
+    for n in 1..total as usize + 1 {
+        let start = 52 + n * 256;
         let udl = slot[start];
         let from = start + 1;
         let to = from + coding::user_data_octets(coding, udl);
         at = put_shown(shown, at, coding, udl, &slot[from..to]);
-        n += 1;
     }
     at
 }

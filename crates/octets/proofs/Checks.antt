@@ -8,15 +8,15 @@ use native.Mathlib.Omega.{arith}
 use borrow.Author.Tests.{leb-true}
 use lib.Dec.{leb}
 use lib.ListN.{length}
-use Rattle.octets.specs.Answers.{Said, gives, refuses, fine}
-use Rattle.std.specs.Prelude.{if◌then◌else◌}
+use Rattle.octets.specs.Answers.{Said, fine}
+use Rattle.std.specs.Prelude.{if◌then◌else◌, Ok, Err}
 use Rattle.octets.specs.Checks.{Check, ◌unless◌, found, checked, after_checked, all_fit}
 use Rattle.octets.specs.Lent.{Making, refused, made}
 use Rattle.octets.specs.declared.Refusal.{Refusal}
 use Rattle.octets.proofs.Choice.{and_true}
 
 -- what gives values is no refusal
-pub never : {A : Type 0} {x : A} {why : Refusal} → gives x ≡ refuses why → ⊥
+pub never : {A : Type 0} {x : A} {why : Refusal} → Ok x ≡ Err why → ⊥
 never e = let z : ◌≡◌ {A = ℕ} 0 1 = cc in omega arith
 
 -- ---- one list behind the other: what the first finds decides
@@ -27,7 +27,7 @@ module _ (more : List Check) where
   passed ((why unless true) ∷ checks) e = passed checks e
   passed ((why unless false) ∷ checks) e = absurd (never (sym e))
 
-  pub against : {why : Refusal} (checks : List Check) → found checks ≡ refuses why → found (checks ++ more) ≡ refuses why
+  pub against : {why : Refusal} (checks : List Check) → found checks ≡ Err why → found (checks ++ more) ≡ Err why
   against [] e = absurd (never e)
   against ((w unless true) ∷ checks) e = against checks e
   against ((w unless false) ∷ checks) e = e
@@ -39,14 +39,14 @@ module _ (octets : List ℕ) where
   checked_then ((why unless true) ∷ checks) more = checked_then checks more
   checked_then ((why unless false) ∷ checks) more = refl
 
-  by_found : (checks : List Check) → checked checks octets ≡ after_checked (found checks) (made octets (gives (length octets)))
+  by_found : (checks : List Check) → checked checks octets ≡ after_checked (found checks) (made octets (length octets))
   unfolding checked
   by_found checks = ap (λ (l : List Check). checked l octets) (sym (append-nil checks)) ∙ checked_then checks []
 
-  pub all_passed : (checks : List Check) → found checks ≡ fine → checked checks octets ≡ made octets (gives (length octets))
+  pub all_passed : (checks : List Check) → found checks ≡ fine → checked checks octets ≡ made octets (length octets)
   all_passed checks e = by_found checks ∙ rw e
 
-  pub one_against : {why : Refusal} (checks : List Check) → found checks ≡ refuses why → checked checks octets ≡ refused why
+  pub one_against : {why : Refusal} (checks : List Check) → found checks ≡ Err why → checked checks octets ≡ refused why
   one_against checks e = by_found checks ∙ rw e
 
 -- a check that holds leaves the others
@@ -59,7 +59,7 @@ pub check_fails : {holds : Bool} → holds ≡ false → (why : Refusal) (checks
 unfolding checked
 check_fails e why checks xs = rw e
 
-pub no_checks : (xs : List ℕ) → checked [] xs ≡ made xs (gives (length xs))
+pub no_checks : (xs : List ℕ) → checked [] xs ≡ made xs (length xs)
 unfolding checked
 no_checks xs = refl
 
@@ -89,13 +89,13 @@ module _ {octets : List ℕ} {A : Type 0} {answer : A} {m : Making A} (why : Ref
   made_unless false e = (refl, e)
 
 -- it made of octets that pass its checks
-pub made_told : {octets : List ℕ} {answer : Said ℕ} (checks : List Check) (xs : List ℕ) → checked checks xs ≡ made octets answer → (found checks ≡ fine) × (xs ≡ octets)
+pub made_told : {octets : List ℕ} {count : ℕ} (checks : List Check) (xs : List ℕ) → checked checks xs ≡ made octets count → (found checks ≡ fine) × (xs ≡ octets)
 unfolding checked
 made_told [] xs e = (refl, (cc))
 made_told ((why unless test) ∷ checks) xs e = let (t, f) = made_if why test e in let (g, x) = made_told checks xs f in (rw t g, x)
 
 -- and counts them
-pub made_counts : {octets : List ℕ} {answer : Said ℕ} (checks : List Check) (xs : List ℕ) → checked checks xs ≡ made octets answer → answer ≡ gives (length octets)
+pub made_counts : {octets : List ℕ} {count : ℕ} (checks : List Check) (xs : List ℕ) → checked checks xs ≡ made octets count → count ≡ length octets
 unfolding checked
 made_counts {octets} [] xs e = let same : xs ≡ octets = cc in cc
 made_counts ((why unless test) ∷ checks) xs e = made_counts checks xs (made_if why test e).1

@@ -1,7 +1,8 @@
 -- Every octet of a list: what a test of each says, and a loop that makes it from the first octet on.
 -- Assumes nothing.
 use Prim.Native.Nat.{ℕ, zero, suc, ◌+◌, ◌<◌, ◌≤◌}
-use mathlib.Core.Path.{◌≡◌, refl}
+use Rattle.std.specs.Prelude.{IsTrue, EachIndex, slice_index}
+use mathlib.Core.Path.{◌≡◌, refl, sym}
 use mathlib.Core.Bool.{Bool, true, false}
 use mathlib.Core.List.{List, [], ◌∷◌}
 use mathlib.Core.Logic.{◌↔◌}
@@ -30,6 +31,15 @@ module _ (test : ℕ → Bool) where
   -- each octet passes
   pub each_means : (xs : List ℕ) → (each test xs ≡ true) ↔ ((i : ℕ) → i < length xs → test (get_or xs i 0) ≡ true)
   each_means xs = (each_at xs, each_of xs)
+
+  -- a truth that says so is the test of each
+  pub each_decides : (xs : List ℕ) (b : Bool) → IsTrue b ↔ EachIndex xs (λ i. test (slice_index xs i) ≡ true) → b ≡ each test xs
+  each_decides xs true h = sym (each_of xs (h.0 refl))
+  each_decides xs false h = by (each test xs) refl
+    where
+      by : (t : Bool) → each test xs ≡ t → false ≡ t
+      by true e = h.1 (each_at xs e)
+      by false e = refl
 
   -- a loop has passed the first i octets: the rest decides
   module _ (xs : List ℕ) (i : ℕ) where

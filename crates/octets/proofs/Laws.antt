@@ -1,16 +1,18 @@
 -- Arrays that are filled in order, and lent buffers.
 -- Assumes nothing.
+use Rattle.std.specs.Prelude.{Ok, Err}
 use Prim.Native.Nat.{ℕ, zero, suc, ◌+◌, ◌-◌, ◌<◌, ◌≤◌}
 use mathlib.Core.Path.{◌≡◌, refl, sym, ap, ◌∙◌}
-use mathlib.Core.List.{List, [], ◌∷◌, ◌++◌, append-nil}
+use mathlib.Core.List.{List, [], ◌∷◌, ◌++◌, append-nil, append_assoc}
 use native.Mathlib.Omega.{arith}
 use native.Mathlib.Nat.{add-zero, zero-add, sub-zero, zero-sub, suc-sub-suc, add-suc, suc-add}
 use borrow.Author.Tests.{le-leb, lt-leb, leb-true, leb-false}
 use mathlib.Core.Bool.{Bool, true, false}
 use lib.Dec.{leb}
+use borrow.Rule.Slice.PartMut.{put_mid}
 use lib.ListN.{length, take, drop, set, replicate, length-append, length-replicate, length-drop, drop_of_length-le}
-use lib.Seq.{sets, sets-eq, length-sets, length-take-le, take_at, take_all, set-set}
-use Rattle.octets.specs.Answers.{Said, gives, refuses}
+use lib.Seq.{drop-drop, sets, sets-eq, length-sets, length-take-le, take_at, take_all, set-set}
+use Rattle.octets.specs.Answers.{Said}
 use Rattle.octets.specs.declared.Refusal.{Refusal}
 use Rattle.octets.specs.declared.Refusal.TheVariants.{OutputTooShort}
 use Rattle.octets.specs.Arrays.{pad, cleared_array}
@@ -138,20 +140,24 @@ chain_step c w = record { is = wrote_then c.is w; place = w.place ∙ rw c.place
 
 -- ---- the three ways in which a writer ends
 
-module _ {A : Type 0} (blank : Refusal → A) {m : Making A} (l : List ℕ) where
-  pub lent_refused : (r : Refusal) → m ≡ refused r → ◌≡◌ {A = A × List ℕ} (blank r, l) (lend blank m l)
+module _ {A : Type 0} {m : Making A} (l : List ℕ) where
+  pub lent_refused : (r : Refusal) → m ≡ refused r → ◌≡◌ {A = Said A × List ℕ} (Err r, l) (lend m l)
   unfolding lend
   lent_refused r e = rw e
 
-  module _ {xs : List ℕ} {a : A} (e : m ≡ made xs a) where
-    pub lent_short : length l < length xs → ◌≡◌ {A = A × List ℕ} (blank OutputTooShort, l) (lend blank m l)
+  module _ {xs : List ℕ} {told : A} (e : m ≡ made xs told) where
+    pub lent_short : length l < length xs → ◌≡◌ {A = Said A × List ℕ} (Err OutputTooShort, l) (lend m l)
     unfolding lend
     lent_short h = rw (e, lt-leb (length xs) (length l) h)
 
-    pub lent_done : {l' : List ℕ} → length xs ≤ length l → l' ≡ sets l 0 xs → ◌≡◌ {A = A × List ℕ} (a, l') (lend blank m l)
+    pub lent_done : {l' : List ℕ} → length xs ≤ length l → l' ≡ sets l 0 xs → ◌≡◌ {A = Said A × List ℕ} (Ok told, l') (lend m l)
     unfolding lend
     lent_done h p = rw (e, le-leb (length xs) (length l) h, p, sets_start xs l h)
 
+-- octets copied to a part of a list are set there
+pub set_part : (at : ℕ) (l xs : List ℕ) → at + length xs ≤ length l → put_mid at (length xs) l xs ≡ sets l at xs
+set_part at l xs h = rw (sets-eq xs l at h, drop-drop (length xs) at l, append_assoc)
+
 -- the octets that a part of a writer stored
-pub lent_written : {m : Making (Said ℕ)} {n : ℕ} {xs l' : List ℕ} (l : List ℕ) → m ≡ made xs (gives (length xs)) → length xs ≤ length l → Wrote 0 xs l n l' → ◌≡◌ {A = Said ℕ × List ℕ} (gives n, l') (lend refuses m l)
-lent_written l e h w = rw (w.place, zero-add) (lent_done refuses l e h w.list)
+pub lent_written : {m : Making ℕ} {n : ℕ} {xs l' : List ℕ} (l : List ℕ) → m ≡ made xs (length xs) → length xs ≤ length l → Wrote 0 xs l n l' → ◌≡◌ {A = Said ℕ × List ℕ} (Ok n, l') (lend m l)
+lent_written l e h w = rw (w.place, zero-add) (lent_done l e h w.list)

@@ -1,6 +1,6 @@
 -- A writer's checks, in the order of document 01.
-use Rattle.std.specs.Prelude.{◌≡◌, refl, Bool, true, false, ◌&&◌, List, [], ◌∷◌, ℕ, leb, length, if◌then◌else◌}
-use Rattle.octets.specs.Answers.{Said, gives, refuses, fine}
+use Rattle.std.specs.Prelude.{◌≡◌, refl, Bool, true, false, ◌&&◌, List, [], ◌∷◌, ℕ, leb, length, if◌then◌else◌, Ok, Err}
+use Rattle.octets.specs.Answers.{Said, fine}
 use Rattle.octets.specs.Lent.{Making, refused, made}
 use Rattle.octets.specs.declared.Refusal.{Refusal}
 
@@ -12,17 +12,17 @@ pub data Check : Type 0 where
 -- the first check whose test fails
 abbrev pub found : List Check → Said Unit
 found [] = fine
-found ((why unless holds) ∷ checks) = if holds then found checks else refuses why
+found ((why unless holds) ∷ checks) = if holds then found checks else Err why
 
 -- the first check whose test fails refuses; where all hold the octets are written
-unfoldable pub checked : List Check → List ℕ → Making (Said ℕ)
-checked [] octets = made octets (gives (length octets))
+unfoldable pub checked : List Check → List ℕ → Making ℕ
+checked [] octets = made octets (length octets)
 checked ((why unless holds) ∷ checks) octets = if holds then checked checks octets else refused why
 
 -- what follows an answer of a check
-abbrev pub after_checked : Said Unit → Making (Said ℕ) → Making (Said ℕ)
-after_checked (gives x) next = next
-after_checked (refuses why) next = refused why
+abbrev pub after_checked : Said Unit → Making ℕ → Making ℕ
+after_checked (Ok x) next = next
+after_checked (Err why) next = refused why
 
 -- lengths, each with the size of its array: they all fit (refusal 1)
 abbrev pub all_fit : List (ℕ × ℕ) → Bool

@@ -2,16 +2,17 @@
 -- Assumes nothing.
 use Prim.Native.Nat.{ℕ, ◌+◌, ◌*◌, ◌/◌, ◌<◌}
 use Prim.Native.Char.{code}
-use mathlib.Core.Path.{◌≡◌, refl}
+use mathlib.Core.Path.{◌≡◌, refl, sym}
 use mathlib.Core.Bool.{Bool, true, false, ◌&&◌}
-use native.Mathlib.Omega.{arith}
+use Rattle.std.specs.Prelude.{Some, is_some, List, IsTrue, EachIndex, slice_index, ◌↔◌}
+use Rattle.octets.specs.Each.{each}
+use Rattle.octets.proofs.Each.{each_means}
 use borrow.Author.Tests.{eqb-true}
 use lib.Dec.{eqb}
 use Rattle.octets.specs.Texts.{codes}
 use Rattle.octets.proofs.Choice.{and_true}
 use Rattle.octets.proofs.Table.{below}
 use Rattle.time.specs.Time.{is_hex, hex_value}
-use Rattle.time.proofs.Hex.{hex_value_lem}
 use Rattle.output.specs.Hexadecimal.{lower_digit, digit_value}
 
 -- the lower-case digit of a value below 16 stands at its place after 0, 39 further for a letter, is a digit, and has that value
@@ -29,26 +30,25 @@ lower_digit_lem v h =
     let s = and_true _ _ t.0 in
     (eqb-true _ _ s.0, s.1, eqb-true _ _ t.1)
 
--- a digit's value is below 16
-pub value_of : (c : ℕ) → is_hex c ≡ true → (digit_value c ≡ hex_value c) × (digit_value c < 16)
+-- a digit has its value
+pub value_of : (c : ℕ) → is_hex c ≡ true → digit_value c ≡ Some (hex_value c)
 unfolding digit_value
-value_of c e = (rw e, rw e (hex_value_lem c e).0)
+value_of c e = rw e
 
--- and 16 says that there is no digit
-pub no_value : (c : ℕ) → is_hex c ≡ false → digit_value c ≡ 16
+-- the digits are the characters that have one
+has_value : (c : ℕ) → is_some (digit_value c) ≡ is_hex c
 unfolding digit_value
-no_value c e = rw e
-
-pub no_digit : (c : ℕ) → digit_value c ≡ 16 → is_hex c ≡ false
-no_digit c v = by (is_hex c) refl
+has_value c = by (is_hex c) refl
   where
-    by : (b : Bool) → is_hex c ≡ b → b ≡ false
-    by true e = let s = (value_of c e).1 in absurd (omega arith)
+    by : (b : Bool) → is_hex c ≡ b → is_some (digit_value c) ≡ is_hex c
+    by true e = rw e refl
+    by false e = rw e refl
+
+-- a test of each character of a text
+pub all_digits : (cs : List ℕ) (b : Bool) → IsTrue b ↔ EachIndex cs (λ i. is_some (digit_value (slice_index cs i)) ≡ true) → b ≡ each is_hex cs
+all_digits cs true h = sym ((each_means is_hex cs).1 (λ i l. rw (← has_value (slice_index cs i)) (h.0 refl i l)))
+all_digits cs false h = by (each is_hex cs) refl
+  where
+    by : (t : Bool) → each is_hex cs ≡ t → false ≡ t
+    by true e = h.1 (λ i l. rw has_value ((each_means is_hex cs).0 e i l))
     by false e = refl
-
-pub a_digit : (c : ℕ) → (digit_value c ≡ 16 → ⊥) → is_hex c ≡ true
-a_digit c v = by (is_hex c) refl
-  where
-    by : (b : Bool) → is_hex c ≡ b → b ≡ true
-    by true e = refl
-    by false e = absurd (v (no_value c e))

@@ -10,8 +10,8 @@ use native.Mathlib.Numerals.{add-one}
 use native.Mathlib.Omega.{arith}
 use borrow.Author.Tests.{le-leb, lt-leb, eq-eqb, ne_eqb, eqb-true, lt-ltb, ltb-false}
 use lib.Dec.{ltb}
-use lib.ListN.{length, drop, set, get_or, length-set, drop_of_length-le}
-use lib.Seq.{sets-eq, drop-cons, drop-set-lt, get_or-set_same}
+use lib.ListN.{length, take, drop, set, get_or, length-set, length-append, drop_of_length-le}
+use lib.Seq.{sets-eq, length-take-le, take_at, drop-cons, drop-set-lt, get_or-set_same}
 use Rattle.octets.specs.Each.{Octets, each}
 use Rattle.octets.specs.Lent.{Wrote}
 use Rattle.octets.proofs.Choice.{and_means}
@@ -19,22 +19,28 @@ use Rattle.octets.proofs.Each.{each_means}
 use Rattle.octets.proofs.Laws.{sets_start}
 use Rattle.time.specs.Time.{is_hex, hex_value}
 use Rattle.octets.specs.Decimal.{significant}
-use Rattle.output.specs.declared.hexadecimal.HexRead.{HexRead}
+use Rattle.output.specs.declared.hexadecimal.HexError.{HexError}
+use Rattle.std.specs.Prelude.{Result, Ok, Err}
 use Rattle.output.specs.Output.{appended}
 use Rattle.output.specs.Hexadecimal.{lower_digit, hex_text, is_hex_text, octets_of, read_into}
 use Rattle.output.proofs.Digits.{lower_digit_lem}
 
 -- ---- appending
 
-module _ (at : ℕ) (octets output : List ℕ) where
-  pub fits : {next : ℕ} {after : List ℕ} → at + length octets ≤ length output → Wrote at octets output next after
-      → ◌≡◌ {A = ℕ × List ℕ} (next, after) (appended at octets output)
+module _ (size : ℕ) (octets output : List ℕ) where
+  pub fits : length output + length octets ≤ size → appended size octets output ≡ output ++ octets
   unfolding appended
-  fits h wrote = rw (le-leb (at + length octets) (length output) h, wrote.place, wrote.list, sets-eq octets output at h)
+  fits h = rw (le-leb (length output + length octets) size h)
 
-  pub left_out : length output < at + length octets → ◌≡◌ {A = ℕ × List ℕ} (at, output) (appended at octets output)
+  pub left_out : size < length output + length octets → appended size octets output ≡ output
   unfolding appended
-  left_out h = rw (lt-leb (at + length octets) (length output) h)
+  left_out h = rw (lt-leb (length output + length octets) size h)
+
+-- octets stored after those that count
+pub stored : (at : ℕ) (octets before : List ℕ) {next : ℕ} {after : List ℕ} → at + length octets ≤ length before → Wrote at octets before next after → take next after ≡ take at before ++ octets
+stored at octets before h wrote =
+    let size : length (take at before ++ octets) ≡ at + length octets = simp (length-append, length-take-le at before (omega arith)) refl in
+    rw (wrote.place, wrote.list, sets-eq octets before at h) (take_at (take at before ++ octets) _ _ size)
 
 -- ---- hexadecimal
 
@@ -53,6 +59,20 @@ length_octets (a ∷ b ∷ ds) = omega (arith, length_octets ds)
 pub hex_text_means : (ds : List ℕ) → (is_hex_text ds ≡ true) ↔ ((length ds % 2 ≡ 0) × ((i : ℕ) → i < length ds → is_hex (get_or ds i 0) ≡ true))
 unfolding is_hex_text
 hex_text_means ds = and_means _ _ (eqb-true (length ds % 2) 0, eq-eqb (length ds % 2) 0) (each_means is_hex ds)
+
+-- one octet more
+pub hex_more : (i : ℕ) (os : List ℕ) → i < length os → hex_text (take (i + 1) os) ≡ hex_text (take i os) ++ lower_digit (get_or os i 0 / 16) ∷ lower_digit (get_or os i 0 % 16) ∷ []
+unfolding hex_text
+hex_more i [] h = absurd (omega arith)
+hex_more zero (o ∷ os) h = refl
+hex_more (suc i) (o ∷ os) h = let e : suc i + 1 ≡ suc (i + 1) = omega arith in rw (e, hex_more i os (omega arith)) refl
+
+-- a loop has appended the first i octets: with the next
+pub hex_appended : (size i : ℕ) (held os : List ℕ) → length held + 2 * length os ≤ size → i < length os
+    → appended size (lower_digit (get_or os i 0 / 16) ∷ lower_digit (get_or os i 0 % 16) ∷ []) (held ++ hex_text (take i os)) ≡ held ++ hex_text (take (i + 1) os)
+hex_appended size i held os n h =
+    let e : length (held ++ hex_text (take i os)) ≡ length held + 2 * i = simp (length-append, length_hex, length-take-le i os (omega arith)) refl in
+    rw (fits size (lower_digit (get_or os i 0 / 16) ∷ lower_digit (get_or os i 0 % 16) ∷ []) (held ++ hex_text (take i os)) (omega (arith, e)), hex_more i os h) (append_assoc held _ _)
 
 -- octets → digits → octets
 pub octets_back : (os : List ℕ) → Octets os → octets_of (hex_text os) ≡ os
@@ -74,7 +94,7 @@ unfolding is_hex_text
 hex_is_hex os h = let e : length (hex_text os) % 2 ≡ 0 = omega (arith, length_hex os) in rw (e, digits_hex os h)
 
 -- reading gives back what was written as hexadecimal
-pub read_back : (os buffer : List ℕ) → Octets os → length os ≤ length buffer → read_into (hex_text os) buffer ≡ (HexRead.Octets (length os), os ++ drop (length os) buffer)
+pub read_back : (os buffer : List ℕ) → Octets os → length os ≤ length buffer → read_into (hex_text os) buffer ≡ (Ok (length os), os ++ drop (length os) buffer)
 unfolding read_into
 read_back os buffer h n = rw (hex_is_hex os h, octets_back os h, le-leb (length os) (length buffer) n)
 
@@ -82,27 +102,19 @@ read_back os buffer h n = rw (hex_is_hex os h, octets_back os h, le-leb (length 
 
 module _ (text buffer : List ℕ) (e : is_hex_text text ≡ true) where
   pub octets_fit : {next : ℕ} {after : List ℕ} → length (octets_of text) ≤ length buffer → Wrote 0 (octets_of text) buffer next after
-      → ◌≡◌ {A = HexRead × List ℕ} (HexRead.Octets next, after) (read_into text buffer)
+      → ◌≡◌ {A = Result ℕ HexError × List ℕ} (Ok next, after) (read_into text buffer)
   unfolding read_into
   octets_fit h wrote =
       let n : 0 + length (octets_of text) ≡ length (octets_of text) = omega arith in
       rw (e, le-leb (length (octets_of text)) (length buffer) h, wrote.place, wrote.list, n, sets_start (octets_of text) buffer h)
 
-  pub octets_too_long : length buffer < length (octets_of text) → ◌≡◌ {A = HexRead × List ℕ} (HexRead.TooLong, buffer) (read_into text buffer)
+  pub octets_too_long : length buffer < length (octets_of text) → ◌≡◌ {A = Result ℕ HexError × List ℕ} (Err HexError.TooLong, buffer) (read_into text buffer)
   unfolding read_into
   octets_too_long h = rw (e, lt-leb (length (octets_of text)) (length buffer) h)
 
 -- ---- what a loop has left: one more octet, and none at the end
 
 module _ (i : ℕ) where
-  pub hex_next : (os : List ℕ) → i < length os → hex_text (drop i os) ≡ lower_digit (get_or os i 0 / 16) ∷ lower_digit (get_or os i 0 % 16) ∷ hex_text (drop (i + 1) os)
-  unfolding hex_text
-  hex_next os h = rw (add-one, drop-cons os i 0 h)
-
-  pub hex_end : (os : List ℕ) → length os ≤ i → hex_text (drop i os) ≡ []
-  unfolding hex_text
-  hex_end os h = rw (drop_of_length-le os h)
-
   pub octets_next : (ds : List ℕ) → 2 * i + 1 < length ds → octets_of (drop (2 * i) ds) ≡ (16 * hex_value (get_or ds (2 * i) 0) + hex_value (get_or ds (2 * i + 1) 0)) ∷ octets_of (drop (2 * (i + 1)) ds)
   unfolding octets_of
   octets_next ds h =

@@ -4,12 +4,11 @@ ghost use Rattle.octets.specs.Lent.{Wrote};
 ghost use Rattle.output.specs.Output.{appended};
 ghost use Rattle.output.specs.Hexadecimal.{lower_digit, hex_text, digit_value, is_hex_text, octets_of, read_into};
 
-use crate::Output;
+use crate::{Output, SIZE};
 
-// What reading gives: the number of octets, or why there are none.
+// Why a text gives no octets.
 #[derive(Clone, Copy)]
-pub enum HexRead {
-    Octets(usize),
+pub enum HexError {
     NotHex,
     TooLong,
 }
@@ -24,69 +23,46 @@ fn lower_digit(value: u8) -> u8
     b'0' + value + 39 * (value / 10)
 }
 
-// Stores octets as hexadecimal in any buffer.
-fn append_hex(out: &mut [u8], at: usize, octets: &[u8]) -> usize
-    ensures { (result, out.new) ≡ appended at (hex_text octets.now) out.old }
-{
-    if out.len() < at {
-        return at;
+impl Output {
+    // Octets as hexadecimal.
+    pub fn put_hex(&mut self, octets: &[u8])
+        ensures { self.new ≡ appended 65536 (hex_text octets.now) self.old }
+    {
+        if octets.len() <= (SIZE - self.length) / 2 {
+            for &octet in octets {
+                self.put(&[lower_digit(octet / 16), lower_digit(octet % 16)]);
+            }
+        }
     }
-    if (out.len() - at) / 2 < octets.len() {
-        return at;
-    }
-    let mut next = at;
-    let mut i = 0;
-    while i < octets.len() {
-        let octet = octets[i];
-        out[next] = lower_digit(octet / 16);
-        out[next + 1] = lower_digit(octet % 16);
-        next += 2;
-        i += 1;
-    }
-    next
-}
 
-// Octets as hexadecimal in the output.
-pub fn put_hex(out: &mut Output, at: usize, octets: &[u8]) -> usize
-    ensures { (result, out.new) ≡ appended at (hex_text octets.now) out.old }
-{
-    append_hex(out, at, octets)
-}
-
-// One octet as two digits.
-pub fn put_hex_octet(out: &mut Output, at: usize, octet: u8) -> usize
-    ensures { (result, out.new) ≡ appended at (hex_text (octet ∷ [])) out.old }
-{
-    put_hex(out, at, &[octet])
+    // One octet as two digits.
+    pub fn put_hex_octet(&mut self, octet: u8)
+        ensures { self.new ≡ appended 65536 (hex_text (octet ∷ [])) self.old }
+    {
+        self.put_hex(&[octet]);
+    }
 }
 
 // ---- reading
 
-// The value of a digit; 16 for another character.
-pub fn digit_value(c: u8) -> u8
+// The value of a digit; none of another character.
+#[tactic(auto, unfolding(crate::specs::Hexadecimal::digit_value, time::specs::Time::is_hex, time::specs::Time::hex_value, octets::specs::Choice::within))]
+pub fn digit_value(c: u8) -> Option<u8>
     ensures { result ≡ digit_value c }
 {
-    let is_digit = ((b'0' <= c) & (c <= b'9'))
-        | ((b'A' <= c) & (c <= b'F'))
-        | ((b'a' <= c) & (c <= b'f'));
-    if is_digit { c % 16 + 9 * (c / 64) } else { 16 }
+    match c {
+        b'0'..=b'9' => Some(c - b'0'),
+        b'A'..=b'F' => Some(c - b'A' + 10),
+        b'a'..=b'f' => Some(c - b'a' + 10),
+        _ => None,
+    }
 }
 
 // Whether a text is an even number of digits.
 pub fn is_hex_text(text: &[u8]) -> bool
     ensures { result ≡ is_hex_text text.now }
 {
-    if text.len() % 2 != 0 {
-        return false;
-    }
-    let mut i = 0;
-    while i < text.len() {
-        if digit_value(text[i]) == 16 {
-            return false;
-        }
-        i += 1;
-    }
-    true
+    text.len() % 2 == 0 && text.iter().all(|c| digit_value(*c).is_some())
 }
 
 // Stores the octets of an even number of digits from the start of a lent buffer on; their number.
@@ -95,25 +71,23 @@ fn put_octets_of(text: &[u8], out: &mut [u8]) -> usize
     ensures { Wrote 0 (octets_of text.now) out.old result out.new }
 {
     let n = text.len() / 2;
-    let mut i = 0;
-    while i < n {
-        let first = digit_value(text[2 * i]);
-        let second = digit_value(text[2 * i + 1]);
+    for i in 0..n {
+        let first = digit_value(text[2 * i]).unwrap();
+        let second = digit_value(text[2 * i + 1]).unwrap();
         out[i] = 16 * first + second;
-        i += 1;
     }
     n
 }
 
-// Reads digits, and stores their octets from the start of a lent buffer on; a refusal leaves it as it was.
-pub fn read_hex(text: &[u8], out: &mut [u8]) -> HexRead
+// Reads digits, and stores their octets from the start of a lent buffer on, and how many; an error leaves it as it was.
+pub fn read_hex(text: &[u8], out: &mut [u8]) -> Result<usize, HexError>
     ensures { (result, out.new) ≡ read_into text.now out.old }
 {
     if !is_hex_text(text) {
-        return HexRead::NotHex;
+        return Err(HexError::NotHex);
     }
     if out.len() < text.len() / 2 {
-        return HexRead::TooLong;
+        return Err(HexError::TooLong);
     }
-    HexRead::Octets(put_octets_of(text, out))
+    Ok(put_octets_of(text, out))
 }

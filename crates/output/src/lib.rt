@@ -1,48 +1,95 @@
-// The output: a buffer that octets and numbers are appended to. A function takes the place to write at, and gives the
-// place after what it wrote.
+// The output: octets and numbers that are appended, and held until they are written out.
 #![tactic(auto)]
 
 pub mod hexadecimal;
 
-ghost use Rattle.std.specs.Prelude.{◌≡◌};
+ghost use Rattle.std.specs.Prelude.{◌≡◌, ℕ, ◌≤◌, List, [], length, take};
 ghost use Rattle.octets.specs.Decimal.{decimal_text};
 ghost use Rattle.output.specs.Output.{appended};
 
+use std::marker::Model;
+
+// How many octets an output holds at most.
+pub const SIZE: usize = 65536;
+
 // What a program has answered and not yet written out.
-pub type Output = [u8; 65536];
-
-// Stores octets in any buffer. Octets that do not fit are left out, all of them.
-pub fn append(out: &mut [u8], at: usize, octets: &[u8]) -> usize
-    ensures { (result, out.new) ≡ appended at octets.now out.old }
-{
-    if out.len() < at {
-        return at;
-    }
-    if out.len() - at < octets.len() {
-        return at;
-    }
-    octets::put_octets(out, at, octets)
+#[derive(Drop)]
+pub struct Output {
+    octets: [u8; SIZE],
+    length: usize,
 }
 
-// The same in the output.
-pub fn put(out: &mut Output, at: usize, octets: &[u8]) -> usize
-    ensures { (result, out.new) ≡ appended at octets.now out.old }
-{
-    append(out, at, octets)
+impl Model for Output {
+    ghost Value = { List ℕ };
+
+    ghost view = { λ o. take o.length o.octets };
+
+    ghost invariant = { λ o. o.length ≤ 65536 };
 }
 
-// A number in decimal.
-pub fn put_decimal(out: &mut Output, at: usize, n: u64) -> usize
-    ensures { (result, out.new) ≡ appended at (decimal_text n) out.old }
-{
-    let mut text = [0u8; 20];
-    let mut first = 19;
-    let mut rest = n / 10;
-    text[19] = b'0' + (n % 10) as u8;
-    while (0 < first) & (0 < rest) {
-        first -= 1;
-        text[first] = b'0' + (rest % 10) as u8;
-        rest /= 10;
+impl Output {
+    pub fn new() -> Self
+        ensures { result ≡ [] }
+    {
+        Output {
+            octets: [0; SIZE],
+            length: 0,
+        }
     }
-    put(out, at, &text[first..])
+
+    pub fn len(&self) -> usize
+        ensures { result ≡ length self.now }
+    {
+        self.length
+    }
+
+    pub fn as_slice(&self) -> &[u8]
+        ensures { result.now ≡ self.now }
+    {
+        &self.octets[..self.length]
+    }
+
+    pub fn clear(&mut self)
+        ensures { self.new ≡ [] }
+    {
+        self.length = 0;
+    }
+
+    // Takes back what was appended after so many octets.
+    pub fn truncate(&mut self, length: usize)
+        ensures { self.new ≡ take length self.old }
+    {
+        self.length = self.length.min(length);
+    }
+
+    // Appends octets. Those that do not fit are left out, all of them.
+    pub fn put(&mut self, octets: &[u8])
+        ensures { self.new ≡ appended 65536 octets.now self.old }
+    {
+        if octets.len() <= SIZE - self.length {
+            self.length = octets::put_octets(&mut self.octets, self.length, octets);
+        }
+    }
+
+    pub fn put_text(&mut self, text: &str)
+        ensures { self.new ≡ appended 65536 text.now self.old }
+    {
+        self.put(text.as_bytes());
+    }
+
+    // A number in decimal.
+    pub fn put_decimal(&mut self, n: u64)
+        ensures { self.new ≡ appended 65536 (decimal_text n) self.old }
+    {
+        let mut text = [0u8; 20];
+        let mut first = 19;
+        let mut rest = n / 10;
+        text[19] = b'0' + (n % 10) as u8;
+        while (0 < first) & (0 < rest) {
+            first -= 1;
+            text[first] = b'0' + (rest % 10) as u8;
+            rest /= 10;
+        }
+        self.put(&text[first..]);
+    }
 }

@@ -3,29 +3,13 @@
 #![tactic(auto)]
 
 use std::io;
-use tpdu::{SmsStatusReport, Time, Written};
+use tpdu::{Refusal, SmsStatusReport, Time};
 
-fn say<R: Print>(rt: &R, text: &[u8]) -> io::Result<()> {
-    rt.write_all(text)
-}
-
-fn say_number<R: Print>(rt: &R, n: usize, text: &[u8]) -> io::Result<()> {
-    rt.print(n)?;
-    say(rt, text)
-}
-
-// Says the number of octets, or the refusal; whether there is a page.
-fn say_answer<R: Print>(rt: &R, w: Written) -> io::Result<bool> {
-    match w {
-        Written::Done(n) => {
-            say_number(rt, n, b" octets\n")?;
-            Ok(true)
-        }
-        Written::Refused(why) => {
-            say(rt, b"refused ")?;
-            say_number(rt, why.number() as usize, b"\n")?;
-            Ok(false)
-        }
+// Says the number of octets, or the refusal.
+fn say_answer<R: Print>(rt: &R, answer: Result<usize, Refusal>) -> io::Result<()> {
+    match answer {
+        Ok(n) => println!(rt; "{n} octets"),
+        Err(why) => println!(rt; "refused {}", why.number()),
     }
 }
 
@@ -35,7 +19,7 @@ fn report(recipient: usize, discharge: Time, user_data: usize) -> SmsStatusRepor
         0x06, 0x29, 0x03, 0x81, 0x11, 0xF2, 0x62, 0x11, 0x61, 0x20, 0x11, 0x00, 0x40, 0x62, 0x11,
         0x61, 0x20, 0x11, 0x70, 0x40, 0x4F,
     ]);
-    let mut r = read.message;
+    let mut r = read.unwrap_or_default().message;
     r.tp_recipient_address.address_length = recipient;
     r.tp_discharge_time = discharge;
     r.tp_user_data.length = user_data;
@@ -49,30 +33,31 @@ fn time(digits: [u8; 14], length: usize) -> Time {
 // The page of two records.
 fn try_two<R: Print>(
     rt: &R,
-    what: &[u8],
+    what: &str,
     first: SmsStatusReport,
     second: SmsStatusReport,
 ) -> io::Result<()> {
-    say(rt, what)?;
+    print!(rt; "{what}")?;
     let mut reports = [first; 99];
     reports[1] = second;
     let mut lent = [b'.'; 156];
-    let w = tpdu::shift_page(reports, 2, &mut lent);
-    if say_answer(rt, w)? {
-        say(rt, &lent)?;
+    let answer = tpdu::shift_page(reports, 2, &mut lent);
+    say_answer(rt, answer)?;
+    if answer.is_ok() {
+        rt.write_all(&lent)?;
     }
     Ok(())
 }
 
 // The page of so many records in an output of 117 octets, which is shown whatever the answer.
-fn try_count<R: Print>(rt: &R, what: &[u8], r: SmsStatusReport, count: usize) -> io::Result<()> {
-    say(rt, what)?;
+fn try_count<R: Print>(rt: &R, what: &str, r: SmsStatusReport, count: usize) -> io::Result<()> {
+    print!(rt; "{what}")?;
     let mut lent = [b'.'; 117];
-    let w = tpdu::shift_page([r; 99], count, &mut lent);
-    let is_page = say_answer(rt, w)?;
-    say(rt, &lent)?;
-    if !is_page {
-        say(rt, b"\n")?;
+    let answer = tpdu::shift_page([r; 99], count, &mut lent);
+    say_answer(rt, answer)?;
+    rt.write_all(&lent)?;
+    if answer.is_err() {
+        println!(rt)?;
     }
     Ok(())
 }
@@ -84,48 +69,48 @@ fn main(rt: HostRuntime) -> io::Result<()> {
     let unprintable = report(4, right, 0);
     let no_digit = report(3, time(*b"2611160211070g", 14), 0);
     let short = report(3, time(*b"26111602110704", 13), 0);
-    try_two(&rt, b"small letters: ", good, small)?;
+    try_two(&rt, "small letters: ", good, small)?;
     try_two(
         &rt,
-        b"a recipient of 291 octets: ",
+        "a recipient of 291 octets: ",
         report(291, right, 0),
         good,
     )?;
     try_two(
         &rt,
-        b"user data of 256 octets: ",
+        "user data of 256 octets: ",
         good,
         report(3, right, 256),
     )?;
     try_two(
         &rt,
-        b"a time of 15 digits: ",
+        "a time of 15 digits: ",
         good,
         report(3, time(*b"26111602110704", 15), 0),
     )?;
-    try_two(&rt, b"1 before 34: ", report(4, right, 256), good)?;
-    try_two(&rt, b"a time of 13 digits: ", good, short)?;
-    try_two(&rt, b"a time with a g: ", good, no_digit)?;
+    try_two(&rt, "1 before 34: ", report(4, right, 256), good)?;
+    try_two(&rt, "a time of 13 digits: ", good, short)?;
+    try_two(&rt, "a time with a g: ", good, no_digit)?;
     try_two(
         &rt,
-        b"34 before 12: ",
+        "34 before 12: ",
         report(4, time(*b"2611160211070g", 14), 0),
         good,
     )?;
     try_two(
         &rt,
-        b"12 of the first before 34 of the second: ",
+        "12 of the first before 34 of the second: ",
         short,
         unprintable,
     )?;
     try_two(
         &rt,
-        b"34 of the first before 1 of the second: ",
+        "34 of the first before 1 of the second: ",
         unprintable,
         report(291, right, 0),
     )?;
-    try_count(&rt, b"one record in 117 octets: ", good, 1)?;
-    try_count(&rt, b"two in 117: ", good, 2)?;
-    try_count(&rt, b"12 before 23: ", short, 2)?;
-    try_count(&rt, b"33 before 1: ", report(291, right, 0), 100)
+    try_count(&rt, "one record in 117 octets: ", good, 1)?;
+    try_count(&rt, "two in 117: ", good, 2)?;
+    try_count(&rt, "12 before 23: ", short, 2)?;
+    try_count(&rt, "33 before 1: ", report(291, right, 0), 100)
 }

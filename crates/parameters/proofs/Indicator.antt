@@ -1,5 +1,6 @@
 -- The size of an indicator, from octet to octet, and what reading it finds.
 -- Assumes nothing.
+use Rattle.std.specs.Prelude.{Ok, Err}
 use Prim.Native.Nat.{ℕ, suc, ◌+◌, ◌≤◌, ◌<◌}
 use mathlib.Core.Path.{◌≡◌, sym, ap, ◌∙◌}
 use mathlib.Core.List.{List, ◌∷◌}
@@ -8,7 +9,6 @@ use native.Mathlib.Omega.{arith}
 use borrow.Author.Tests.{le-leb, lt-leb, eq-eqb, ne_eqb}
 use lib.ListN.{length, get_or, drop, length-drop}
 use lib.Seq.{drop-cons}
-use Rattle.octets.specs.Answers.{gives, refuses}
 use Rattle.octets.specs.Places.{octet_at, span_at}
 use Rattle.octets.specs.declared.Place.{Place}
 use Rattle.octets.specs.declared.Refusal.TheVariants.{OctetsEnd}
@@ -38,15 +38,15 @@ module _ (s : List ℕ) (at : ℕ) where
 
 module _ (s : List ℕ) (p : Place) where
   -- from its first octet on
-  pub size_whole : {b : ℕ} {q : Place} → octet_at s p ≡ gives (b, q) → (indicator_size (drop p.at s) ≡ indicator_size (b ∷ drop q.at s)) × (q.at ≡ p.at + 1)
+  pub size_whole : {b : ℕ} {q : Place} → octet_at s p ≡ Ok (b, q) → (indicator_size (drop p.at s) ≡ indicator_size (b ∷ drop q.at s)) × (q.at ≡ p.at + 1)
   size_whole e = let (there, is, next) = octet_read s p e in (size_start s p.at there ∙ rw (is, next), next)
 
-  pub indicator_not : length s < p.at + indicator_size (drop p.at s) → refuses OctetsEnd ≡ indicator_at s p
+  pub indicator_not : length s < p.at + indicator_size (drop p.at s) → Err OctetsEnd ≡ indicator_at s p
   unfolding indicator_at span_at
   indicator_not h = rw (lt-leb (indicator_size (drop p.at s)) (length (drop p.at s)) (omega (arith, length-drop p.at s, indicator_positive (drop p.at s))))
 
-  pub indicator_is : (at : ℕ) → p.at + indicator_size (drop p.at s) ≡ at → at ≤ length s → gives (get_or s p.at 0, record { at = at }) ≡ indicator_at s p
+  pub indicator_is : (at : ℕ) → p.at + indicator_size (drop p.at s) ≡ at → at ≤ length s → Ok (get_or s p.at 0, record { at = at }) ≡ indicator_at s p
   unfolding indicator_at span_at
   indicator_is at e h =
       rw (le-leb (indicator_size (drop p.at s)) (length (drop p.at s)) (omega (arith, length-drop p.at s)))
-      (ap (λ (q : ℕ). gives (get_or s p.at 0, record { at = q })) (sym e))
+      (ap (λ (q : ℕ). Ok (get_or s p.at 0, record { at = q })) (sym e))

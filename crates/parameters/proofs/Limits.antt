@@ -1,24 +1,24 @@
 -- Writers that differ in the limit of user data alone.
 -- Assumes nothing.
+use Rattle.std.specs.Prelude.{Ok, Option}
 use Prim.Native.Nat.{ℕ, ◌≤◌}
 use mathlib.Core.Path.{◌≡◌, sym, ◌∙◌}
 use mathlib.Core.List.{List, ◌++◌}
-use Rattle.octets.specs.Answers.{Said, gives, fine}
+use Rattle.octets.specs.Answers.{Said, fine}
 use Rattle.octets.specs.Checks.{Check, found, checked}
 use Rattle.octets.specs.Lent.{Making, made}
 use Rattle.octets.proofs.Checks.{both_hold, passed, all_passed, made_told}
 use Rattle.parameters.specs.Checking.{data_within}
 use Rattle.parameters.specs.Limits.{Limits}
-use Rattle.parameters.specs.declared.OptionalOctet.{OptionalOctet}
 use Rattle.parameters.proofs.Checking.{data_few, data_moves}
 
 -- it is enough that user data that pass keep within the limit, and pass within every other that they keep within
-module _ {R : Type 0} (within : ℕ → R → Making (Said ℕ)) (count : R → ℕ) where
+module _ {R : Type 0} (within : ℕ → R → Making ℕ) (count : R → ℕ) where
   abbrev Keeps : R → Type 0
-  Keeps r = (limit : ℕ) (octets : List ℕ) (answer : Said ℕ) → within limit r ≡ made octets answer → count r ≤ limit
+  Keeps r = (limit : ℕ) (octets : List ℕ) (answer : ℕ) → within limit r ≡ made octets answer → count r ≤ limit
 
   abbrev Moves : R → Type 0
-  Moves r = (limit other : ℕ) (octets : List ℕ) (answer : Said ℕ) → within limit r ≡ made octets answer → count r ≤ other → within other r ≡ made octets answer
+  Moves r = (limit other : ℕ) (octets : List ℕ) (answer : ℕ) → within limit r ≡ made octets answer → count r ≤ other → within other r ≡ made octets answer
 
   pub limits : ((r : R) → Keeps r × Moves r) → Limits within count
   limits of = record {
@@ -29,14 +29,14 @@ module _ {R : Type 0} (within : ℕ → R → Making (Said ℕ)) (count : R → 
   }
 
 -- the checks of user data stand last
-module _ (front : List Check) (dcs udl : OptionalOctet) (n : ℕ) (xs : List ℕ) where
+module _ (front : List Check) (dcs udl : Option ℕ) (n : ℕ) (xs : List ℕ) where
   abbrev last : ℕ → List Check
   last limit = data_within limit dcs udl n
 
-  abbrev pub writing : ℕ → Making (Said ℕ)
+  abbrev pub writing : ℕ → Making ℕ
   writing limit = checked (front ++ last limit) xs
 
-  module _ (limit : ℕ) (octets : List ℕ) (answer : Said ℕ) (e : writing limit ≡ made octets answer) where
+  module _ (limit : ℕ) (octets : List ℕ) (answer : ℕ) (e : writing limit ≡ made octets answer) where
     each_passes : (found front ≡ fine) × (found (last limit) ≡ fine)
     each_passes = both_hold front (last limit) (made_told _ xs e).0
 
@@ -46,5 +46,5 @@ module _ (front : List Check) (dcs udl : OptionalOctet) (n : ℕ) (xs : List ℕ
     pub moves : (other : ℕ) → n ≤ other → writing other ≡ made octets answer
     moves other h =
         let (f, d) = each_passes in
-        let here : checked (front ++ last limit) xs ≡ made xs (gives _) = all_passed xs (front ++ last limit) (passed (last limit) front f ∙ d) in
+        let here : checked (front ++ last limit) xs ≡ made xs _ = all_passed xs (front ++ last limit) (passed (last limit) front f ∙ d) in
         all_passed xs (front ++ last other) (passed (last other) front f ∙ data_moves limit other dcs udl n d h) ∙ sym here ∙ e

@@ -1,5 +1,6 @@
 -- What holds of each parameters that a format makes, and of their canonical fields.
 -- Assumes nothing.
+use Rattle.std.specs.Prelude.{Some, None, Option}
 use Prim.Native.Nat.{ℕ, ◌+◌, ◌*◌, ◌/◌, ◌%◌, ◌≤◌, ◌<◌}
 use mathlib.Core.Path.{◌≡◌, refl, sym}
 use mathlib.Core.Bool.{Bool, true, false, ◌||◌, or_assoc, or-false}
@@ -15,8 +16,6 @@ use Rattle.layout.specs.Layout.{bit, is_set, Field, joined, past_limit, any_past
 use Rattle.layout.proofs.Makes.{Makes, makes_then}
 use Rattle.parameters.specs.Optional.{octets_held, held, or_zero}
 use Rattle.parameters.specs.Parameters.{Parameters, parameters_octets}
-use Rattle.parameters.specs.declared.OptionalOctet.{OptionalOctet}
-use Rattle.parameters.specs.declared.OptionalOctet.TheVariants.{Absent, Present}
 use Rattle.parameters.proofs.Agreeing.{data_count, Agreeing}
 use Rattle.parameters.specs.Layout.{announced, data_for, parameters}
 
@@ -30,14 +29,14 @@ past_append [] b = refl
 past_append (f ∷ a) b = rw (past_append a b) (sym (or_assoc (past_limit f.kind f.stands) (any_past_limit a) (any_past_limit b)))
 
 -- an octet that bit b of the indicator announces
-pub record Announced (b pi : ℕ) (o : OptionalOctet) (cs : List Field) : Type 0 where
+pub record Announced (b pi : ℕ) (o : Option ℕ) (cs : List Field) : Type 0 where
   pub octets : octets_held o ≡ joined cs
   pub within : any_past_limit cs ≡ false
   pub holds : held o ≡ bit b pi
   pub low : or_zero o < 256
 
 -- the user data's octets
-pub record DataHeld (dcs udl : OptionalOctet) (ud : List ℕ) (cs : List Field) : Type 0 where
+pub record DataHeld (dcs udl : Option ℕ) (ud : List ℕ) (cs : List Field) : Type 0 where
   pub octets : ud ≡ joined cs
   pub limit : any_past_limit cs ≡ ltb 140 (length ud)
   pub counted : length ud ≡ data_count dcs udl
@@ -50,9 +49,9 @@ announced_makes b pi = by (is_set b pi) refl
     by true e = λ x l. record { octets = refl; within = refl; holds = sym (eqb-true (bit b pi) 1 e); low = l }
     by false e = record { octets = refl; within = refl; holds = omega (arith, eqb-false (bit b pi) 1 e); low = omega arith }
 
-data_makes : (dcs udl : OptionalOctet) → or_zero udl < 256 → Makes (DataHeld dcs udl) (data_for dcs udl)
-data_makes dcs Absent l = record { octets = refl; limit = refl; counted = refl; few = omega arith }
-data_makes dcs (Present udl) l = λ f o w. record {
+data_makes : (dcs udl : Option ℕ) → or_zero udl < 256 → Makes (DataHeld dcs udl) (data_for dcs udl)
+data_makes dcs None l = record { octets = refl; limit = refl; counted = refl; few = omega arith }
+data_makes dcs (Some udl) l = λ f o w. record {
   octets = sym (append-nil f);
   limit = or-false (ltb 140 (length f));
   counted = sym w;
@@ -74,7 +73,7 @@ pub record Held (pi : ℕ) (p : Parameters) (cs : List Field) : Type 0 where
   pub agrees : Agreeing pi p
   pub few : length p.ud ≤ 255
 
-module _ (pi : ℕ) {pid dcs udl : OptionalOctet} {ud : List ℕ} {c1 c2 c3 c4 : List Field} (a1 : Announced 0 pi pid c1) (a2 : Announced 1 pi dcs c2) (a3 : Announced 2 pi udl c3) (a4 : DataHeld dcs udl ud c4) where
+module _ (pi : ℕ) {pid dcs udl : Option ℕ} {ud : List ℕ} {c1 c2 c3 c4 : List Field} (a1 : Announced 0 pi pid c1) (a2 : Announced 1 pi dcs c2) (a3 : Announced 2 pi udl c3) (a4 : DataHeld dcs udl ud c4) where
   all_held : Held pi (record { pid = pid; dcs = dcs; udl = udl; ud = ud }) (c1 ++ (c2 ++ (c3 ++ (c4 ++ []))))
   all_held = record {
     octets = simp (joined_append, append_assoc, append-nil) (cc (a1.octets, a2.octets, a3.octets, a4.octets));

@@ -1,31 +1,16 @@
 -- What functions of the codec say to each other of parameters: nobody has to believe anything here.
-use Rattle.std.specs.Prelude.{ℕ, length}
-use Rattle.octets.specs.Answers.{Said, gives, refuses}
+use Rattle.std.specs.Prelude.{ℕ, length, Ok, Err}
+use Rattle.octets.specs.Answers.{Said}
 use Rattle.octets.specs.declared.Place.{Place}
-use Rattle.octets.specs.declared.Refusal.TheVariants.{OctetsEnd}
 use Rattle.parameters.specs.Parameters.{Parameters}
-use Rattle.parameters.specs.declared.OptionalOctet.{OptionalOctet}
-use Rattle.parameters.specs.declared.reading.OptionalRead.{OptionalRead}
+use Rattle.parameters.specs.declared.ParameterOctets.{ParameterOctets}
 use Rattle.parameters.specs.declared.reading.ParametersRead.{ParametersRead}
 
--- an octet that is held or not, and the place after it; the octets end: 2
-abbrev pub optional_says : OptionalRead → Said (OptionalOctet × Place)
-optional_says (OptionalRead.Read o next) = gives (o, next)
-optional_says OptionalRead.Ended = refuses OctetsEnd
+-- the octets of PID, DCS and UDL
+abbrev pub octets_of : Parameters → ParameterOctets
+octets_of p = record { pid = p.pid; dcs = p.dcs; udl = p.udl }
 
--- PID, DCS, UDL, how many octets the data have, and the place after them; the octets end: 2
-pub record Counted : Type 0 where
-  pub pid : OptionalOctet
-  pub dcs : OptionalOctet
-  pub udl : OptionalOctet
-  pub octets : ℕ
-  pub next : Place
-
-abbrev pub parameters_says : ParametersRead → Said Counted
-parameters_says (ParametersRead.Read pid dcs udl n next) = gives (record { pid = pid; dcs = dcs; udl = udl; octets = n; next = next })
-parameters_says ParametersRead.Ended = refuses OctetsEnd
-
--- so of parameters that were read
-abbrev pub counted : Said (Parameters × Place) → Said Counted
-counted (gives read) = let p = read.0 in gives (record { pid = p.pid; dcs = p.dcs; udl = p.udl; octets = length p.ud; next = read.1 })
-counted (refuses why) = refuses why
+-- of parameters that were read: these, how many octets the data have, and the place after them
+abbrev pub counted : Said (Parameters × Place) → Said ParametersRead
+counted (Ok read) = Ok (record { parameters = octets_of read.0; octets = length read.0.ud; next = read.1 })
+counted (Err why) = Err why

@@ -1,9 +1,7 @@
 -- The outcome that carries a report: an RP-ACK, or an RP-ERROR, which alone has a TP-Failure-Cause (TS 23.040 §9.2.2.1a, §9.2.2.2a).
-use Rattle.std.specs.Prelude.{ℕ, ◌≡◌, Bool, true, false, List, ◌↔◌}
+use Rattle.std.specs.Prelude.{ℕ, ◌≡◌, Bool, true, false, List, ◌↔◌, Some, None, Option}
 use Rattle.octets.specs.Each.{Octets}
 use Rattle.layout.specs.Layout.{Layout, reached, read}
-use Rattle.parameters.specs.declared.OptionalOctet.{OptionalOctet}
-use Rattle.parameters.specs.declared.OptionalOctet.TheVariants.{Absent, Present}
 use Rattle.parameters.specs.declared.RpOutcome.{RpOutcome}
 use Rattle.parameters.specs.declared.RpOutcome.TheVariants.{RpAck, RpError}
 
@@ -13,11 +11,11 @@ has_cause RpAck = false
 has_cause RpError = true
 
 -- the outcome and the cause held agree (refusal 29): RP-ERROR with a cause, RP-ACK without one
-abbrev pub outcome_agrees : RpOutcome → OptionalOctet → Bool
-outcome_agrees RpAck Absent = true
-outcome_agrees RpAck (Present cause) = false
-outcome_agrees RpError Absent = false
-outcome_agrees RpError (Present cause) = true
+abbrev pub outcome_agrees : RpOutcome → Option ℕ → Bool
+outcome_agrees RpAck None = true
+outcome_agrees RpAck (Some cause) = false
+outcome_agrees RpError None = false
+outcome_agrees RpError (Some cause) = true
 
 -- the outcome is that of the entry point used, so the records of one reader are as equal or different as they are without it. `outcomeOf` is a record's outcome, `with_outcome` the record with another
 pub record OneOutcome {R : Type 0} (cleared : R → R) (outcomeOf : R → RpOutcome) (with_outcome : RpOutcome → R → R) (l : Layout R) (outcome : RpOutcome) : Type 0 where

@@ -3,121 +3,101 @@
 
 ghost use Rattle.std.specs.Prelude.{◌≡◌, ◌≤◌, length};
 ghost use Rattle.header_elements.specs.Elements.{element, elements_of};
-ghost use Rattle.part_number.specs.Numbering.{numbering_of, or_else, in_range, by_elements, numbering_in, number_says};
-ghost use Rattle.part_number.specs.Internal.{seen_as};
+ghost use Rattle.part_number.specs.Numbering.{numbering_of, in_range, by_elements, numbering_in};
 
 use octets::Refusal;
 
 // The reference of a concatenated message, with its width.
-#[derive(Clone, Copy)]
+#[derive(Clone, Copy, Debug, PartialEq, Eq)]
 pub enum Reference {
     Eight(u8),
     Sixteen(u16),
 }
 
-// What user data say of the part that they are: reference, total and number; or why they are none.
-#[derive(Clone, Copy)]
-pub enum PartNumber {
-    Numbered(Reference, u8, u8),
-    Unnumbered(Refusal),
+// What numbers a part: the reference of its message, how many parts that has, and which of them this is.
+#[derive(Clone, Copy, Debug, PartialEq, Eq)]
+pub struct PartNumber {
+    pub reference: Reference,
+    pub total: u8,
+    pub number: u8,
 }
 
-// What the elements so far say: width 0 where none numbers a part.
-#[derive(Clone, Copy)]
-struct Seen {
-    width: u8,
-    reference: u16,
-    total: u8,
-    number: u8,
-}
-
-// What an element says, or what those before it said.
-fn see(identifier: u8, value: &[u8], before: Seen) -> Seen
-    ensures { seen_as result ≡ or_else (numbering_of (element identifier value.now)) (seen_as before) }
+// What an element says; none where it numbers no part.
+#[tactic(auto, unfolding(crate::specs::Numbering::numbering_of))]
+fn numbering_of(identifier: u8, value: &[u8]) -> Option<PartNumber>
+    ensures { result ≡ numbering_of (element identifier value.now) }
 {
     let n = value.len();
     if (identifier == 0x00) & (n == 3) {
-        return Seen {
-            width: 8,
-            reference: value[0] as u16,
+        return Some(PartNumber {
+            reference: Reference::Eight(value[0]),
             total: value[1],
             number: value[2],
-        };
+        });
     }
     if (identifier == 0x08) & (n == 4) {
-        return Seen {
-            width: 16,
-            reference: (value[0] as u16) * 256 + value[1] as u16,
+        return Some(PartNumber {
+            reference: Reference::Sixteen(u16::from_be_bytes([value[0], value[1]])),
             total: value[2],
             number: value[3],
-        };
+        });
     }
-    before
+    None
 }
 
-// The numbers, if they are in range.
-fn in_range(seen: Seen) -> PartNumber
-    ensures { number_says result ≡ in_range (seen_as seen) }
+// The numbers that were found, if they are in range.
+#[tactic(auto, unfolding(crate::specs::Numbering::in_range))]
+fn in_range(found: Option<PartNumber>) -> Result<PartNumber, Refusal>
+    ensures { result ≡ in_range found }
 {
-    let width = seen.width;
-    let total = seen.total;
-    let number = seen.number;
-    if width == 0 {
-        return PartNumber::Unnumbered(Refusal::NotAPart);
-    }
+    let Some(part) = found else {
+        return Err(Refusal::NotAPart);
+    };
+    let total = part.total;
+    let number = part.number;
     if ((1 <= total) & (total <= 8)) & ((1 <= number) & (number <= total)) {
-        if width == 8 {
-            return PartNumber::Numbered(
-                Reference::Eight((seen.reference % 256) as u8),
-                total,
-                number,
-            );
-        }
-        return PartNumber::Numbered(Reference::Sixteen(seen.reference), total, number);
+        return Ok(part);
     }
-    PartNumber::Unnumbered(Refusal::NotAPart)
+    Err(Refusal::NotAPart)
 }
 
 // What the octets of a header after its first say of the part.
-fn number_in(body: &[u8]) -> PartNumber
+fn number_in(body: &[u8]) -> Result<PartNumber, Refusal>
     requires { length body.now ≤ 255 }
-    ensures { number_says result ≡ by_elements (elements_of body.now) }
+    ensures { result ≡ by_elements (elements_of body.now) }
 {
-    let mut seen = Seen {
-        width: 0,
-        reference: 0,
-        total: 0,
-        number: 0,
-    };
+    let mut found = None;
     let mut at = 0;
+    // A `while`: an element says itself how many octets it has.
     while at + 1 < body.len() {
         let start = at + 2;
         let next = start + body[at + 1] as usize;
         if body.len() < next {
-            return PartNumber::Unnumbered(Refusal::ElementPassesHeader);
+            return Err(Refusal::ElementPassesHeader);
         }
-        seen = see(body[at], &body[start..next], seen);
+        found = numbering_of(body[at], &body[start..next]).or(found);
         at = next;
     }
     if at < body.len() {
-        return PartNumber::Unnumbered(Refusal::ElementPassesHeader);
+        return Err(Refusal::ElementPassesHeader);
     }
-    in_range(seen)
+    in_range(found)
 }
 
 // What user data say of the part that they are.
-pub fn number_part(udhi: bool, dcs: u8, udl: u8, data: &[u8]) -> PartNumber
-    ensures { number_says result ≡ numbering_in udhi dcs udl «data».now }
+#[tactic(auto, unfolding(crate::specs::Numbering::numbering_in))]
+pub fn number_part(udhi: bool, dcs: u8, udl: u8, data: &[u8]) -> Result<PartNumber, Refusal>
+    ensures { result ≡ numbering_in udhi dcs udl «data».now }
 {
     if !udhi {
-        return PartNumber::Unnumbered(Refusal::NotAPart);
+        return Err(Refusal::NotAPart);
     }
     let end = user_data_header::header_octets(data);
     if data.len() < end {
-        return PartNumber::Unnumbered(Refusal::HeaderNotWhole);
+        return Err(Refusal::HeaderNotWhole);
     }
     if !user_data_header::in_count(coding::user_data_coding(dcs), udl, end) {
-        return PartNumber::Unnumbered(Refusal::HeaderPassesCount);
+        return Err(Refusal::HeaderPassesCount);
     }
     number_in(&data[1..end])
 }

@@ -3,37 +3,19 @@
 #![tactic(auto)]
 
 use std::io;
-use tpdu::Outcome;
-
-fn say<R: Print>(rt: &R, text: &[u8]) -> io::Result<()> {
-    rt.write_all(text)
-}
-
-fn say_number<R: Print>(rt: &R, n: usize, text: &[u8]) -> io::Result<()> {
-    rt.print(n)?;
-    say(rt, text)
-}
 
 // Sends a text, and says the answer: the numbers of messages and of octets, or a refusal.
 fn send<R: Print>(rt: &R, text: &[u8], out: &mut [u8]) -> io::Result<()> {
-    say_number(rt, text.len(), b" letters, ")?;
-    say_number(rt, out.len(), b" octets lent: ")?;
-    let sent = tpdu::pack_gsm7_concatenated(text, 0x2A, out);
-    let outcome = sent.outcome;
-    if let Outcome::Refused(why) = outcome {
-        say(rt, b"refused ")?;
-        return say_number(rt, why.number() as usize, b"\n");
+    print!(rt; "{} letters, {} octets lent: ", text.len(), out.len())?;
+    match tpdu::pack_gsm7_concatenated(text, 0x2A, out) {
+        Ok(sent) => println!(rt; "{} messages, {} octets", sent.messages, sent.octets),
+        Err(why) => println!(rt; "refused {}", why.number()),
     }
-    say_number(rt, sent.messages, b" messages, ")?;
-    say_number(rt, sent.octets, b" octets\n")
 }
 
 // Says the number of a part, the total and TP-UDL.
 fn say_part<R: Print>(rt: &R, number: u8, total: u8, udl: u8) -> io::Result<()> {
-    say(rt, b"part ")?;
-    say_number(rt, number as usize, b" of ")?;
-    say_number(rt, total as usize, b", TP-UDL ")?;
-    say_number(rt, udl as usize, b"\n")
+    println!(rt; "part {number} of {total}, TP-UDL {udl}")
 }
 
 fn main(rt: HostRuntime) -> io::Result<()> {

@@ -1,15 +1,15 @@
--- What accepting a part comes to, by the fields that the reader finds and what user data say; and the zeros of an empty store.
+-- What accepting a part comes to, by the fields that the reader finds and what user data say.
 -- Assumes nothing.
-use Prim.Native.Nat.{ℕ, zero, suc, ◌+◌, ◌-◌, ◌/◌, ◌%◌, ◌≤◌, ◌<◌}
+use Rattle.reassembly.specs.declared.PartAccepted.{PartAccepted}
+use Rattle.std.specs.Prelude.{Ok, Err}
+use Prim.Native.Nat.{ℕ, ◌+◌, ◌-◌, ◌/◌, ◌%◌, ◌≤◌}
 use mathlib.Core.Path.{◌≡◌, refl, sym, ap, ◌∙◌}
 use mathlib.Core.Bool.{true, false}
-use mathlib.Core.List.{List, ◌∷◌, ◌++◌}
-use native.Mathlib.Numerals.{add-one}
+use mathlib.Core.List.{List}
 use native.Mathlib.Omega.{arith}
 use lib.Dec.{eqb}
-use lib.ListN.{length, set, take, drop, replicate, length-replicate}
-use lib.Seq.{drop-cons, set_at}
-use Rattle.octets.specs.Answers.{Said, gives, refuses}
+use lib.ListN.{length, take, drop}
+use Rattle.octets.specs.Answers.{Said}
 use Rattle.octets.specs.Each.{Octets}
 use Rattle.octets.specs.declared.Refusal.{Refusal}
 use Rattle.octets.specs.declared.Refusal.TheVariants.{LengthTooLarge}
@@ -27,41 +27,41 @@ use Rattle.deliver.specs.Internal.{fields_at, found_says}
 use Rattle.deliver.specs.Deliver.{delivered, format, deliver}
 use Rattle.deliver.specs.declared.SmsDeliver.{SmsDeliver}
 use Rattle.deliver.specs.declared.reading.DeliverFields.{DeliverFields}
-use Rattle.deliver.specs.declared.reading.DeliverFound.{DeliverFound}
-use Rattle.part_number.specs.Numbering.{Numbering, numbered, numbering_in}
+use Rattle.part_number.specs.declared.PartNumber.{PartNumber}
+use Rattle.part_number.specs.Numbering.{numbered, numbering_in}
 use Rattle.part_number.specs.declared.Reference.{Reference}
 use Rattle.part_number.proofs.Range.{numbered_in_range}
 use Rattle.message_store.specs.Part.{key_of, arrival_of}
 use Rattle.message_store.specs.Store.{key_octets, fits}
-use Rattle.reassembly.specs.Calls.{SaidPart, unaccepted, placing_as, arriving, accepting}
+use Rattle.reassembly.specs.Calls.{placing_as, arriving, accepting}
 use Rattle.reassembly.proofs.Arrival.{Fits, read_fits}
 
 -- ---- by what user data say
 
-abbrev pub says_of : SmsDeliver → Said Numbering
+abbrev pub says_of : SmsDeliver → Said PartNumber
 says_of m = numbering_in m.tp_udhi m.tp_dcs m.tp_user_data_length (data_of m.tp_user_data)
 
 module _ (m : SmsDeliver) (store : List ℕ) where
-  pub arrives_not : (why : Refusal) → says_of m ≡ refuses why → ◌≡◌ {A = SaidPart × List ℕ} (unaccepted why, store) (arriving (arrival_of m) store)
+  pub arrives_not : (why : Refusal) → says_of m ≡ Err why → ◌≡◌ {A = Said PartAccepted × List ℕ} (Err why, store) (arriving (arrival_of m) store)
   unfolding arrival_of
   arrives_not why e = rw e
 
-  module _ (r : Reference) (t n : ℕ) (e : says_of m ≡ gives (numbered r t n)) where
+  module _ (r : Reference) (t n : ℕ) (e : says_of m ≡ Ok (numbered r t n)) where
     pub numbers_few : (t ≤ 8) × (n ≤ 8)
     numbers_few = let (a, b, c, d) = numbered_in_range m.tp_udhi m.tp_dcs m.tp_user_data_length (data_of m.tp_user_data) e in (b, omega arith)
 
-    pub arrives : (key : List ℕ) → key ≡ key_octets (key_of m.tp_originating_address r t) → (x : SaidPart × List ℕ)
+    pub arrives : (key : List ℕ) → key ≡ key_octets (key_of m.tp_originating_address r t) → (x : Said PartAccepted × List ℕ)
         → x ≡ placing_as key r t n m.tp_dcs (record { udl = m.tp_user_data_length; octets = data_of m.tp_user_data }) store → x ≡ arriving (arrival_of m) store
     unfolding arrival_of
     arrives key is x p = p ∙ rw (is, e)
 
 -- ---- by the fields that the reader finds
 
-pub fields_refused : (s : List ℕ) (why : Refusal) → found_says s (DeliverFound.Refused why) ≡ read_from fields s 0 → (store : List ℕ) → ◌≡◌ {A = SaidPart × List ℕ} (unaccepted why, store) (accepting s store)
+pub fields_refused : (s : List ℕ) (why : Refusal) → found_says s (Err why) ≡ read_from fields s 0 → (store : List ℕ) → ◌≡◌ {A = Said PartAccepted × List ℕ} (Err why, store) (accepting s store)
 unfolding accepting read format
 fields_refused s why e store = rw (then_ends s fields 0 (sym e) (λ x. done (delivered x)))
 
-module _ (s : List ℕ) (f : DeliverFields) (found : found_says s (DeliverFound.Whole f) ≡ read_from fields s 0) where
+module _ (s : List ℕ) (f : DeliverFields) (found : found_says s (Ok f) ≡ read_from fields s 0) where
   abbrev pub message : SmsDeliver
   message = delivered (fields_at s f)
 
@@ -73,7 +73,7 @@ module _ (s : List ℕ) (f : DeliverFields) (found : found_says s (DeliverFound.
   message_fits o = read_fits s o message _ reads
 
   module _ (store : List ℕ) where
-    pub accepts_unfit : fits store ≡ false → ◌≡◌ {A = SaidPart × List ℕ} (unaccepted LengthTooLarge, store) (accepting s store)
+    pub accepts_unfit : fits store ≡ false → ◌≡◌ {A = Said PartAccepted × List ℕ} (Err LengthTooLarge, store) (accepting s store)
     unfolding accepting
     accepts_unfit e = rw (reads, e)
 
@@ -97,18 +97,7 @@ module _ (s : List ℕ) (f : DeliverFields) (found : found_says s (DeliverFound.
   unfolding delivered fields_at
   says_is = rw data_is (rw (kept_bit bits refl 6 refl f.first) refl)
 
-  pub fields_arrive : (store : List ℕ) (r : Reference) (t n : ℕ) → says_of message ≡ gives (numbered r t n) → (a : SMSAddress) → a ≡ message.tp_originating_address → (key : List ℕ) → key ≡ key_octets (key_of a r t) → (x : SaidPart × List ℕ)
+  pub fields_arrive : (store : List ℕ) (r : Reference) (t n : ℕ) → says_of message ≡ Ok (numbered r t n) → (a : SMSAddress) → a ≡ message.tp_originating_address → (key : List ℕ) → key ≡ key_octets (key_of a r t) → (x : Said PartAccepted × List ℕ)
       → x ≡ placing_as key r t n f.dcs (record { udl = f.udl; octets = data_cut }) store → x ≡ arriving (arrival_of message) store
   unfolding delivered fields_at
   fields_arrive store r t n e a is key k x p = arrives message store r t n e key (k ∙ ap (λ (b : SMSAddress). key_octets (key_of b r t)) is) x (p ∙ ap (λ (d : List ℕ). placing_as key r t n f.dcs (record { udl = f.udl; octets = d }) store) data_is)
-
--- ---- zeros, one by one
-
-zeros_then : (i : ℕ) (xs : List ℕ) → replicate i 0 ++ 0 ∷ xs ≡ 0 ∷ (replicate i 0 ++ xs)
-zeros_then zero xs = refl
-zeros_then (suc i) xs = ap (λ (r : List ℕ). 0 ∷ r) (zeros_then i xs)
-
-pub zeros_more : (i : ℕ) (s : List ℕ) → i < length s → set (replicate i 0 ++ drop i s) i 0 ≡ replicate (i + 1) 0 ++ drop (i + 1) s
-zeros_more i s h =
-    ap (λ (r : List ℕ). set (replicate i 0 ++ r) i 0) (drop-cons s i 0 h) ∙ set_at (replicate i 0) _ (drop (suc i) s) 0 i (length-replicate i (zero)) ∙ zeros_then i (drop (suc i) s)
-    ∙ rw add-one refl

@@ -1,5 +1,8 @@
 -- What joining a message and placing a part come to, case by case.
 -- Assumes nothing.
+use Rattle.std.specs.Prelude.{Err}
+use Rattle.octets.specs.Answers.{Said}
+use Rattle.reassembly.specs.declared.PartAccepted.{PartAccepted}
 use Prim.Native.Nat.{ℕ, ◌+◌, ◌-◌, ◌*◌, ◌≤◌, ◌<◌}
 use mathlib.Core.Path.{◌≡◌, sym, ap, ◌∙◌}
 use mathlib.Core.Bool.{true, false}
@@ -13,11 +16,11 @@ use Rattle.octets.specs.declared.Refusal.TheVariants.{StoreFull, NotAPart}
 use Rattle.part_number.specs.declared.Reference.{Reference}
 use Rattle.message_store.specs.Part.{Part}
 use Rattle.message_store.specs.Store.{begins, coding_in, part_at, block, slot_with, free_slot, opened_with, message_in}
-use Rattle.reassembly.specs.Calls.{SaidPart, in_slot, told, unaccepted, storing, joining, placing_as}
+use Rattle.reassembly.specs.Calls.{in_slot, told, storing, joining, placing_as}
 use Rattle.message_store.proofs.Slots.{cut_is, slot_bounds, free_bounds}
 
 module _ (r : Reference) (t n dcs : ℕ) (p : Part) (slot : List ℕ) where
-  pub joins_coding : (coding_in slot ≡ dcs → ⊥) → (unaccepted NotAPart, slot) ≡ joining r t n dcs p slot
+  pub joins_coding : (coding_in slot ≡ dcs → ⊥) → (Err NotAPart, slot) ≡ joining r t n dcs p slot
   unfolding joining
   joins_coding ne = rw (ne_eqb _ _ ne)
 
@@ -30,7 +33,7 @@ module _ (r : Reference) (t n dcs : ℕ) (p : Part) (slot : List ℕ) where
       block_is : block n slot ≡ get_or slot (part_at n) 0 ∷ take 255 (drop (part_at n + 1) slot)
       block_is = rw add-one (ap (take 256) (drop-cons slot (part_at n) 0 (omega arith)))
 
-      pub joins_udl : (get_or slot (part_at n) 0 ≡ p.udl → ⊥) → (unaccepted NotAPart, slot) ≡ joining r t n dcs p slot
+      pub joins_udl : (get_or slot (part_at n) 0 ≡ p.udl → ⊥) → (Err NotAPart, slot) ≡ joining r t n dcs p slot
       unfolding joining begins
       joins_udl ne = rw (eq-eqb _ _ coding, ne_eqb _ _ held, block_is, ne_eqb p.udl (get_or slot (part_at n) 0) (λ e. ne (sym e)))
 
@@ -42,7 +45,7 @@ module _ (r : Reference) (t n dcs : ℕ) (p : Part) (slot : List ℕ) where
         data_cut : take 255 (drop (part_at n + 1) slot) ≡ cut
         data_cut = let e : part_at n + 256 - (part_at n + 1) ≡ 255 = omega arith in rw e
 
-        pub joins_other : begins p.octets cut ≡ false → (unaccepted NotAPart, slot) ≡ joining r t n dcs p slot
+        pub joins_other : begins p.octets cut ≡ false → (Err NotAPart, slot) ≡ joining r t n dcs p slot
         unfolding joining begins
         joins_other e = rw (eq-eqb _ _ coding, ne_eqb _ _ held, block_is, data_cut, e, eq-eqb p.udl (get_or slot (part_at n) 0) (sym udl))
 
@@ -58,8 +61,8 @@ module _ (key : List ℕ) (r : Reference) (t n dcs : ℕ) (p : Part) (store : Li
   put_in : {A : Type 0} (k : ℕ) (x y : A × List ℕ) → x ≡ y → ◌≡◌ {A = A × List ℕ} (x.0, take (k * 2356) store ++ (x.1 ++ drop (k * 2356 + 2356 - k * 2356) (drop (k * 2356) store))) (in_slot k y store)
   put_in {A} k x y e = let size : k * 2356 + 2356 - k * 2356 ≡ 2356 = omega arith in rw size (ap (λ (z : A × List ℕ). in_slot k z store) e)
 
-  pub places_open : (k : ℕ) → k ≡ slot_with key store → k < 16 → (x : SaidPart × List ℕ) → x ≡ joining r t n dcs p (slot_cut k)
-      → ◌≡◌ {A = SaidPart × List ℕ} (x.0, take (k * 2356) store ++ (x.1 ++ drop (k * 2356 + 2356 - k * 2356) (drop (k * 2356) store))) (placing_as key r t n dcs p store)
+  pub places_open : (k : ℕ) → k ≡ slot_with key store → k < 16 → (x : Said PartAccepted × List ℕ) → x ≡ joining r t n dcs p (slot_cut k)
+      → ◌≡◌ {A = Said PartAccepted × List ℕ} (x.0, take (k * 2356) store ++ (x.1 ++ drop (k * 2356 + 2356 - k * 2356) (drop (k * 2356) store))) (placing_as key r t n dcs p store)
   unfolding placing_as
   places_open k is h x e = put_in k x _ (e ∙ ap (joining r t n dcs p) (cut_is store k)) ∙ rw (← is, ne_eqb k 16 (λ q. omega arith))
 
@@ -67,11 +70,11 @@ module _ (key : List ℕ) (r : Reference) (t n dcs : ℕ) (p : Part) (store : Li
     new : slot_with key store ≡ 16
     new = let b = slot_bounds key store in omega arith
 
-    pub places_new : (k : ℕ) → k ≡ free_slot store → k < 16 → (x : SaidPart × List ℕ) → x ≡ storing r t n p (opened_with key dcs (slot_cut k))
-        → ◌≡◌ {A = SaidPart × List ℕ} (x.0, take (k * 2356) store ++ (x.1 ++ drop (k * 2356 + 2356 - k * 2356) (drop (k * 2356) store))) (placing_as key r t n dcs p store)
+    pub places_new : (k : ℕ) → k ≡ free_slot store → k < 16 → (x : Said PartAccepted × List ℕ) → x ≡ storing r t n p (opened_with key dcs (slot_cut k))
+        → ◌≡◌ {A = Said PartAccepted × List ℕ} (x.0, take (k * 2356) store ++ (x.1 ++ drop (k * 2356 + 2356 - k * 2356) (drop (k * 2356) store))) (placing_as key r t n dcs p store)
     unfolding placing_as
     places_new k is h x e = put_in k x _ (e ∙ ap (λ (s : List ℕ). storing r t n p (opened_with key dcs s)) (cut_is store k)) ∙ rw (eq-eqb _ _ new, ← is, ne_eqb k 16 (λ q. omega arith))
 
-    pub places_full : (k : ℕ) → k ≡ free_slot store → 16 ≤ k → ◌≡◌ {A = SaidPart × List ℕ} (unaccepted StoreFull, store) (placing_as key r t n dcs p store)
+    pub places_full : (k : ℕ) → k ≡ free_slot store → 16 ≤ k → ◌≡◌ {A = Said PartAccepted × List ℕ} (Err StoreFull, store) (placing_as key r t n dcs p store)
     unfolding placing_as
     places_full k is h = let b = free_bounds store in let full : free_slot store ≡ 16 = omega arith in rw (eq-eqb _ _ new, eq-eqb _ _ full)

@@ -1,18 +1,21 @@
 -- What taking and dropping a message come to, case by case.
 -- Assumes nothing.
+use Rattle.reassembly.specs.declared.MessageDropped.{MessageDropped}
+use Rattle.reassembly.specs.declared.MessageTaken.{MessageTaken}
+use Rattle.std.specs.Prelude.{Ok, Err, Some, None, Option as Maybe, if◌then◌else◌}
 use Prim.Native.Nat.{ℕ, suc, ◌+◌, ◌-◌, ◌*◌, ◌≤◌, ◌<◌}
 use mathlib.Core.Path.{◌≡◌, refl, sym, ap, ◌∙◌}
-use mathlib.Core.Bool.{true, false, ◌&&◌}
+use mathlib.Core.Bool.{Bool, true, false, ◌&&◌}
 use mathlib.Core.List.{List, [], ◌∷◌, ◌++◌}
 use native.Mathlib.Nat.{add-zero, zero-add}
 use native.Mathlib.Omega.{arith}
-use borrow.Author.Tests.{ne_eqb, lt-ltb, le-ltb, le-leb, lt-leb, leb-true}
+use borrow.Author.Tests.{ltb-true, ltb-false, ne_eqb, lt-ltb, le-ltb, le-leb, lt-leb, leb-true}
 use borrow.Rule.Slice.PartMut.{set_mid_at}
 use lib.Dec.{leb, ltb}
 use lib.ListN.{length, get_or, set, take, drop, replicate}
 use lib.Seq.{sets, get_or-drop, get_or-take}
 use mathlib.Core.Logic.{⊎_elim}
-use Rattle.octets.specs.Answers.{Said, gives, refuses}
+use Rattle.octets.specs.Answers.{Said}
 use Rattle.octets.specs.Lent.{Wrote, lend}
 use Rattle.octets.specs.declared.Refusal.{Refusal}
 use Rattle.octets.specs.declared.Refusal.TheVariants.{LengthTooLarge, OutputTooShort}
@@ -24,10 +27,11 @@ use Rattle.address.specs.declared.SMSAddress.{SMSAddress}
 use Rattle.part_number.specs.declared.Reference.{Reference}
 use Rattle.message_store.specs.Part.{key_of}
 use Rattle.message_store.specs.Store.{begins, is_open, has_key, key_octets, slot_fits, closed, slot_at, with_slot, slot_with, fits, Message, message_in, missing_of, shown_of}
-use Rattle.reassembly.specs.Calls.{Taken, whole, not_open, not_whole, Dropping, dropped, was_not_open, message_making, handing, finding, finding_by, taking_by, dropping_by}
+use Rattle.reassembly.specs.Internal.{slot_found}
+use Rattle.reassembly.specs.Calls.{message_making, handing, finding, finding_by, taking_by, dropping_by}
 use Rattle.message_store.proofs.AtStart.{begins_is}
 use Rattle.message_store.proofs.Keys.{written_cut}
-use Rattle.message_store.proofs.Slots.{Room, slot_size, cut_is, slot_bounds, found_has, fits_room, fits_slot}
+use Rattle.message_store.proofs.Slots.{slot_found as slot_is, slot_past, Room, slot_size, cut_is, slot_bounds, found_has, fits_room, fits_slot}
 
 no_length : (xs : List ℕ) → length xs ≡ 0 → xs ≡ []
 no_length [] e = refl
@@ -40,10 +44,10 @@ module _ (total : ℕ) (slot out : List ℕ) where
   m = message_in total slot
 
   abbrev Handed : Type 0
-  Handed = Said Taken × List ℕ × List ℕ
+  Handed = Said MessageTaken × List ℕ × List ℕ
 
   module _ (count : ℕ) (is : count ≡ length (missing_of m)) where
-    pub hands_not : (count ≡ 0 → ⊥) → ◌≡◌ {A = Handed} (gives not_whole, slot, out) (handing total slot out)
+    pub hands_not : (count ≡ 0 → ⊥) → ◌≡◌ {A = Handed} (Ok MessageTaken.NotWhole, slot, out) (handing total slot out)
     unfolding handing
     hands_not ne = rw (← is, ne_eqb count 0 ne)
 
@@ -58,11 +62,11 @@ module _ (total : ℕ) (slot out : List ℕ) where
         pub shown_cut : (n ≤ length shown) × (take n shown ≡ shown_of m)
         shown_cut = let c = written_cut 4080 (shown_of m) shown n (omega (arith, size)) w in (c.0, c.1)
 
-        pub hands_short : length out < n → ◌≡◌ {A = Handed} (refuses OutputTooShort, slot, out) (handing total slot out)
+        pub hands_short : length out < n → ◌≡◌ {A = Handed} (Err OutputTooShort, slot, out) (handing total slot out)
         unfolding handing message_making lend
         hands_short h = rw (← is, none, ← size, lt-leb n (length out) h)
 
-        pub hands_done : n ≤ length out → (later : List ℕ) → later ≡ sets out 0 (take n shown) → ◌≡◌ {A = Handed} (gives (whole (get_or slot 1 0) n), set slot 0 0, later) (handing total slot out)
+        pub hands_done : n ≤ length out → (later : List ℕ) → later ≡ sets out 0 (take n shown) → ◌≡◌ {A = Handed} (Ok (MessageTaken.Whole (get_or slot 1 0) n), set slot 0 0, later) (handing total slot out)
         unfolding handing message_making lend message_in
         hands_done h later e =
             let l : later ≡ shown_of m ++ drop (length (shown_of m)) out = e ∙ ap (sets out 0) shown_cut.1 ∙ sets_start (shown_of m) out (omega (arith, size)) in
@@ -88,21 +92,21 @@ module _ (a : SMSAddress) (r : Reference) (t : ℕ) (store : List ℕ) where
   abbrev key : List ℕ
   key = key_octets (key_of a r t)
 
-  pub finds_long : 290 < a.address_length → refuses LengthTooLarge ≡ finding_by a r t store
+  pub finds_long : 290 < a.address_length → Err LengthTooLarge ≡ finding_by a r t store
   unfolding finding_by
   finds_long h = rw (lt-ltb _ _ h)
 
   module _ (short : a.address_length ≤ 290) where
-    pub finds_unfit : fits store ≡ false → refuses LengthTooLarge ≡ finding_by a r t store
+    pub finds_unfit : fits store ≡ false → Err LengthTooLarge ≡ finding_by a r t store
     unfolding finding_by finding
     finds_unfit f = rw (le-ltb _ _ short, f)
 
-    pub finds : fits store ≡ true → (name : List ℕ) → name ≡ key → gives (slot_with name store) ≡ finding_by a r t store
+    pub finds : fits store ≡ true → (name : List ℕ) → name ≡ key → Ok (slot_with name store) ≡ finding_by a r t store
     unfolding finding_by finding
     finds f name is = rw (le-ltb _ _ short, f, is)
 
   -- what was found
-  module _ (k : ℕ) (found : gives k ≡ finding_by a r t store) where
+  module _ (k : ℕ) (found : Ok k ≡ finding_by a r t store) where
     pub found_is : (fits store ≡ true) × (k ≡ slot_with key store)
     unfolding finding_by finding
     found_is =
@@ -123,23 +127,23 @@ module _ (a : SMSAddress) (r : Reference) (t : ℕ) (store : List ℕ) where
 
     -- ---- taking and dropping
 
-    pub takes_none : (out : List ℕ) → 16 ≤ k → ◌≡◌ {A = Said Taken × List ℕ × List ℕ} (gives not_open, store, out) (taking_by a r t store out)
+    pub takes_none : (out : List ℕ) → 16 ≤ k → ◌≡◌ {A = Said MessageTaken × List ℕ × List ℕ} (Ok MessageTaken.NotOpen, store, out) (taking_by a r t store out)
     unfolding taking_by
     takes_none out h = rw (← found, none_open h)
 
-    pub takes_open : (out : List ℕ) → k < 16 → (x : Said Taken × List ℕ × List ℕ) → x ≡ handing t (take (k * 2356 + 2356 - k * 2356) (drop (k * 2356) store)) out
-        → ◌≡◌ {A = Said Taken × List ℕ × List ℕ} (x.0, take (k * 2356) store ++ (x.1 ++ drop (k * 2356 + 2356 - k * 2356) (drop (k * 2356) store)), x.2) (taking_by a r t store out)
+    pub takes_open : (out : List ℕ) → k < 16 → (x : Said MessageTaken × List ℕ × List ℕ) → x ≡ handing t (take (k * 2356 + 2356 - k * 2356) (drop (k * 2356) store)) out
+        → ◌≡◌ {A = Said MessageTaken × List ℕ × List ℕ} (x.0, take (k * 2356) store ++ (x.1 ++ drop (k * 2356 + 2356 - k * 2356) (drop (k * 2356) store)), x.2) (taking_by a r t store out)
     unfolding taking_by
     takes_open out h x e =
         let size : k * 2356 + 2356 - k * 2356 ≡ 2356 = omega arith in
         let y : x ≡ handing t (slot_at k store) out = e ∙ ap (λ (s : List ℕ). handing t s out) (cut_is store k) in
-        rw (← found, ne_eqb k 16 (λ q. omega arith), size) (ap (λ (z : Said Taken × List ℕ × List ℕ). (z.0, with_slot k z.1 store, z.2)) y)
+        rw (← found, ne_eqb k 16 (λ q. omega arith), size) (ap (λ (z : Said MessageTaken × List ℕ × List ℕ). (z.0, with_slot k z.1 store, z.2)) y)
 
-    pub drops_none : 16 ≤ k → ◌≡◌ {A = Said Dropping × List ℕ} (gives was_not_open, store) (dropping_by a r t store)
+    pub drops_none : 16 ≤ k → ◌≡◌ {A = Said MessageDropped × List ℕ} (Ok MessageDropped.NotOpen, store) (dropping_by a r t store)
     unfolding dropping_by
     drops_none h = rw (← found, none_open h)
 
-    pub drops_open : k < 16 → ◌≡◌ {A = Said Dropping × List ℕ} (gives dropped, set store (k * 2356) 0) (dropping_by a r t store)
+    pub drops_open : k < 16 → ◌≡◌ {A = Said MessageDropped × List ℕ} (Ok MessageDropped.Done, set store (k * 2356) 0) (dropping_by a r t store)
     unfolding dropping_by
     drops_open h =
         let at : set store (k * 2356) 0 ≡ with_slot k (closed (slot_at k store)) store =
@@ -147,11 +151,25 @@ module _ (a : SMSAddress) (r : Reference) (t : ℕ) (store : List ℕ) where
         rw (← found, ne_eqb k 16 (λ q. omega arith), at)
 
   -- a refusal changes nothing
-  module _ (why : Refusal) (found : refuses why ≡ finding_by a r t store) where
-    pub takes_refused : (out : List ℕ) → ◌≡◌ {A = Said Taken × List ℕ × List ℕ} (refuses why, store, out) (taking_by a r t store out)
+  module _ (why : Refusal) (found : Err why ≡ finding_by a r t store) where
+    pub takes_refused : (out : List ℕ) → ◌≡◌ {A = Said MessageTaken × List ℕ × List ℕ} (Err why, store, out) (taking_by a r t store out)
     unfolding taking_by
     takes_refused out = rw (← found)
 
-    pub drops_refused : ◌≡◌ {A = Said Dropping × List ℕ} (refuses why, store) (dropping_by a r t store)
+    pub drops_refused : ◌≡◌ {A = Said MessageDropped × List ℕ} (Err why, store) (dropping_by a r t store)
     unfolding dropping_by
     drops_refused = rw (← found)
+
+-- ---- the slot that was found
+
+pub found_there : (r : Said ℕ) {j : ℕ} → Ok (Some j) ≡ slot_found r → (Ok j ≡ r) × (j < 16)
+found_there (Ok k) e = let (same, h) = slot_is k (given e) in (ap Ok same, h)
+found_there (Err why) e = absurd (never e)
+
+pub found_none : (r : Said ℕ) → Ok None ≡ slot_found r → (k : ℕ) × (Ok k ≡ r) × (16 ≤ k)
+found_none (Ok k) e = (k, refl, slot_past k (given e))
+found_none (Err why) e = absurd (never e)
+
+pub found_refused : (r : Said ℕ) {why : Refusal} → Err why ≡ slot_found r → Err why ≡ r
+found_refused (Ok k) e = absurd (never (sym e))
+found_refused (Err w) e = cc

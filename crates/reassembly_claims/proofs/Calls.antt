@@ -11,8 +11,8 @@ use borrow.Author.Tests.{eqb-true, eqb-false, le-leb, le-ltb}
 use lib.Dec.{eqb, leb}
 use lib.ListN.{length, get_or, take, drop, replicate, length-append, length-replicate, length-take, get_or-replicate, get_or-append}
 use lib.Seq.{get_or-take, get_or-drop}
-use Rattle.octets.specs.Answers.{Said, gives, refuses, fine}
-use Rattle.std.specs.Prelude.{if◌then◌else◌}
+use Rattle.octets.specs.Answers.{Said, fine}
+use Rattle.std.specs.Prelude.{if◌then◌else◌, Ok, Err}
 use Rattle.octets.specs.Each.{Octets}
 use Rattle.octets.specs.Lent.{lend}
 use Rattle.octets.specs.declared.Refusal.{Refusal}
@@ -24,12 +24,16 @@ use Rattle.address.specs.declared.SMSAddress.{SMSAddress}
 use Rattle.layout.specs.Layout.{Reached, reached, halted, read}
 use Rattle.deliver.specs.Deliver.{deliver}
 use Rattle.deliver.specs.declared.SmsDeliver.{SmsDeliver}
-use Rattle.part_number.specs.Numbering.{Numbering, numbering_in}
+use Rattle.part_number.specs.Numbering.{numbering_in}
+use Rattle.part_number.specs.declared.PartNumber.{PartNumber}
 use Rattle.part_number.specs.declared.Reference.{Reference}
 use Rattle.part_number.proofs.Range.{numbered_in_range, numbered_header}
 use Rattle.message_store.specs.Part.{Key, Named, Arrived, key_of, arrived_as, arrival_of}
 use Rattle.message_store.specs.Store.{is_open, belongs, slot_fits, closed, store_octets, slot_at, with_slot, slot_with, slot_of, Message, message_in, missing_of, shown_of, held_of}
-use Rattle.reassembly.specs.Calls.{SaidPart, Taken, whole, not_open, not_whole, Dropping, dropped, was_not_open, emptied, unaccepted, arriving, gathering, accepting, message_making, closed_by, handing, finding, finding_by, taking, taking_by, dropping, dropping_by}
+use Rattle.reassembly.specs.declared.MessageDropped.{MessageDropped}
+use Rattle.reassembly.specs.declared.MessageTaken.{MessageTaken}
+use Rattle.reassembly.specs.declared.PartAccepted.{PartAccepted}
+use Rattle.reassembly.specs.Calls.{emptied, arriving, gathering, accepting, message_making, closed_by, handing, finding, finding_by, taking, taking_by, dropping, dropping_by}
 use Rattle.reassembly.proofs.Arrival.{Fits, read_fits}
 use Rattle.message_store.proofs.First.{true_false, first_none}
 use Rattle.message_store.proofs.Slots.{Room, slot_size, put_back}
@@ -44,16 +48,16 @@ take_short : (n : ℕ) (l : List ℕ) → length (take n l) ≤ n
 take_short n l = let e = length-take n l in omega arith
 
 module _ (m : SmsDeliver) (fit : Fits m) where
-  abbrev says : Said Numbering
+  abbrev says : Said PartNumber
   says = numbering_in m.tp_udhi m.tp_dcs m.tp_user_data_length (data_of m.tp_user_data)
 
-  valid_of : (a : Arrived) → arrival_of m ≡ gives a → Valid a
+  valid_of : (a : Arrived) → arrival_of m ≡ Ok a → Valid a
   unfolding arrival_of
   valid_of a e = by_number says refl e
     where
-      by_number : (x : Said Numbering) → says ≡ x → arrived_as m.tp_originating_address m.tp_dcs m.tp_user_data_length (data_of m.tp_user_data) x ≡ gives a → Valid a
-      by_number (refuses why) p q = absurd (never (sym q))
-      by_number (gives n) p q =
+      by_number : (x : Said PartNumber) → says ≡ x → arrived_as m.tp_originating_address m.tp_dcs m.tp_user_data_length (data_of m.tp_user_data) x ≡ Ok a → Valid a
+      by_number (Err why) p q = absurd (never (sym q))
+      by_number (Ok n) p q =
           let (b, c, d, f) = numbered_in_range m.tp_udhi m.tp_dcs m.tp_user_data_length (data_of m.tp_user_data) p in
           let header = numbered_header m.tp_udhi m.tp_dcs m.tp_user_data_length (data_of m.tp_user_data) p in
           let text = take_short m.tp_originating_address.address_length m.tp_originating_address.address in
@@ -61,28 +65,28 @@ module _ (m : SmsDeliver) (fit : Fits m) where
           let it_is : Valid it = record { named = omega (arith, text, fit.address_fits); total_high = c; number_low = d; number_high = f; own = fit.own; few = fit.few; small = (header, fit.udl_few, fit.few) } in
           subst Valid (given q) it_is
 
-pub valid_arrival : (s : List ℕ) → Octets s → (a : Arrived) → arrival_in s ≡ gives a → Valid a
+pub valid_arrival : (s : List ℕ) → Octets s → (a : Arrived) → arrival_in s ≡ Ok a → Valid a
 valid_arrival s o a e = by_reached (read deliver s) refl e
   where
-    by_reached : (x : Reached SmsDeliver) → read deliver s ≡ x → part_read x ≡ gives a → Valid a
+    by_reached : (x : Reached SmsDeliver) → read deliver s ≡ x → part_read x ≡ Ok a → Valid a
     by_reached (halted why) p q = absurd (never (sym q))
     by_reached (reached m n) p q = valid_of m (read_fits s o m n p) a q
 
 -- ---- a part comes
 
 -- it is refused by the reader or as no part; or it is a part, and what becomes of it
-abbrev pub Comes : List ℕ → List ℕ → SaidPart × List ℕ → Type 0
+abbrev pub Comes : List ℕ → List ℕ → Said PartAccepted × List ℕ → Type 0
 Comes octets store r =
-    ((why : Refusal) × (arrival_in octets ≡ refuses why) × (r ≡ (unaccepted why, store)))
-    ⊎ ((a : Arrived) × (arrival_in octets ≡ gives a) × ((Joined a store r.0 r.1 × Sound r.1) ⊎ Turned a store r.0 r.1))
+    ((why : Refusal) × (arrival_in octets ≡ Err why) × (r ≡ (Err why, store)))
+    ⊎ ((a : Arrived) × (arrival_in octets ≡ Ok a) × ((Joined a store r.0 r.1 × Sound r.1) ⊎ Turned a store r.0 r.1))
 
 pub accepting_does : (octets : List ℕ) → Octets octets → (store : List ℕ) → Sound store → Comes octets store (accepting octets store)
 unfolding accepting
 accepting_does octets o store s = by_reached (read deliver octets) refl
   where
     by_arrival : (x : Said Arrived) → arrival_in octets ≡ x → Comes octets store (arriving x store)
-    by_arrival (refuses why) e = inl (why, e, refl)
-    by_arrival (gives a) e = inr (a, e, placing_does a (valid_arrival octets o a e) store s)
+    by_arrival (Err why) e = inl (why, e, refl)
+    by_arrival (Ok a) e = inr (a, e, placing_does a (valid_arrival octets o a e) store s)
 
     by_reached : (x : Reached SmsDeliver) → read deliver octets ≡ x → Comes octets store (gathering x store)
     by_reached (halted why) e = inl (why, ap part_read e, refl)
@@ -135,8 +139,8 @@ pub dropping_does : (key : Key) → Named key → (store : List ℕ) → Sound s
 unfolding dropping finding
 dropping_does key named store s = rw (sound_fits store s) (by_slot (eqb (slot_of key store) 16) refl)
   where
-    answers : Bool → Said Dropping × List ℕ
-    answers t = if t then (gives was_not_open, store) else (gives dropped, with_slot (slot_of key store) (closed (slot_at (slot_of key store) store)) store)
+    answers : Bool → Said MessageDropped × List ℕ
+    answers t = if t then (Ok MessageDropped.NotOpen, store) else (Ok MessageDropped.Done, with_slot (slot_of key store) (closed (slot_at (slot_of key store) store)) store)
 
     by_slot : (t : Bool) → eqb (slot_of key store) 16 ≡ t → Dropped key store (answers t).0 (answers t).1 × Sound (answers t).1
     by_slot true e =
@@ -150,7 +154,7 @@ dropping_does key named store s = rw (sound_fits store s) (by_slot (eqb (slot_of
 -- ---- a message is taken
 
 module _ (key : Key) (named : Named key) (store : List ℕ) (s : Sound store) (out : List ℕ) where
-  abbrev TakesAs : Said Taken × List ℕ × List ℕ → Type 0
+  abbrev TakesAs : Said MessageTaken × List ℕ × List ℕ → Type 0
   TakesAs r = Took key store out r.0 r.1 r.2 × Sound r.1
 
   abbrev its : ℕ
@@ -159,7 +163,7 @@ module _ (key : Key) (named : Named key) (store : List ℕ) (s : Sound store) (o
   abbrev m : Message
   m = message_in key.total (slot_at its store)
 
-  abbrev put : Said Taken × List ℕ × List ℕ → Said Taken × List ℕ × List ℕ
+  abbrev put : Said MessageTaken × List ℕ × List ℕ → Said MessageTaken × List ℕ × List ℕ
   put r = (r.0, with_slot its r.1 store, r.2)
 
   -- one that is open
@@ -170,11 +174,11 @@ module _ (key : Key) (named : Named key) (store : List ℕ) (s : Sound store) (o
       held : held_of key store ≡ some m
       held = held_there key store ne
 
-      lent : Bool → Said Taken × List ℕ
-      lent t = if t then (gives (whole m.dcs (length (shown_of m))), shown_of m ++ drop (length (shown_of m)) out) else (refuses OutputTooShort, out)
+      lent : Bool → Said MessageTaken × List ℕ
+      lent t = if t then (Ok (MessageTaken.Whole m.dcs (length (shown_of m))), shown_of m ++ drop (length (shown_of m)) out) else (Err OutputTooShort, out)
 
-      answers : Bool → Bool → Said Taken × List ℕ × List ℕ
-      answers w t = if w then ((lent t).0, closed_by (lent t).0 (slot_at its store), (lent t).1) else (gives not_whole, slot_at its store, out)
+      answers : Bool → Bool → Said MessageTaken × List ℕ × List ℕ
+      answers w t = if w then ((lent t).0, closed_by (lent t).0 (slot_at its store), (lent t).1) else (Ok MessageTaken.NotWhole, slot_at its store, out)
 
       by_missing : (w : Bool) → eqb (length (missing_of m)) 0 ≡ w → (t : Bool) → leb (length (shown_of m)) (length out) ≡ t → TakesAs (put (answers w t))
       by_missing false e t p = rw (put_back its store) (record { answers = rw (held, e); its_message = refl; others = λ other n d. refl; unchanged = λ h. (refl, refl) }, s)
@@ -188,7 +192,7 @@ module _ (key : Key) (named : Named key) (store : List ℕ) (s : Sound store) (o
   unfolding taking finding taken_of
   taking_does = rw (sound_fits store s) (by_slot (eqb its 16) refl)
     where
-      by_slot : (t : Bool) → eqb its 16 ≡ t → TakesAs (if t then (gives not_open, store, out) else put (handing key.total (slot_at its store) out))
+      by_slot : (t : Bool) → eqb its 16 ≡ t → TakesAs (if t then (Ok MessageTaken.NotOpen, store, out) else put (handing key.total (slot_at its store) out))
       by_slot true e = let n = held_none key store (eqb-true its 16 e) in (record { answers = rw n; its_message = refl; others = λ other h d. refl; unchanged = λ h. (refl, refl) }, s)
       by_slot false e = handing_does (eqb-false its 16 e)
 

@@ -11,9 +11,9 @@ use borrow.Author.Tests.{ltb-true, ltb-false}
 use lib.Dec.{ltb}
 use lib.ListN.{length, get_or, take, drop, length-take}
 use lib.Seq.{get_or-take, get_or-drop}
-use Rattle.octets.specs.Answers.{Said, gives, refuses, fine}
+use Rattle.octets.specs.Answers.{Said}
 use Rattle.octets.specs.Arrays.{pad}
-use Rattle.std.specs.Prelude.{if◌then◌else◌}
+use Rattle.std.specs.Prelude.{if◌then◌else◌, Ok, Err, IsOk}
 use Rattle.octets.specs.Each.{Octets}
 use Rattle.octets.specs.declared.Refusal.{Refusal}
 use Rattle.octets.specs.declared.Refusal.TheVariants.{StoreFull, NotAPart}
@@ -25,7 +25,9 @@ use Rattle.address.specs.declared.SMSAddress.{SMSAddress}
 use Rattle.part_number.specs.declared.Reference.{Reference}
 use Rattle.message_store.specs.Part.{Key, Named, Part, Arrived, key_of, shown_in}
 use Rattle.message_store.specs.Store.{is_held, coding_in, part_at, block, key_octets, part_of, holding, holdings, slot_at, slot_of, Message, message_in, missing_from, missing_of, held_of}
-use Rattle.reassembly.specs.Calls.{SaidPart, Taken, whole, told, unaccepted, accepting, finding_by, taking, taking_by, dropping}
+use Rattle.reassembly.specs.declared.MessageTaken.{MessageTaken}
+use Rattle.reassembly.specs.declared.PartAccepted.{PartAccepted}
+use Rattle.reassembly.specs.Calls.{told, accepting, finding_by, taking, taking_by, dropping}
 use Rattle.message_store.proofs.Shown.{length_holdings, shown_short}
 use Rattle.message_store.proofs.Slots.{slot_bounds, found_has}
 use Rattle.reassembly.proofs.Taking.{total_few, found_is}
@@ -40,35 +42,35 @@ use Rattle.reassembly_claims.proofs.Sizes.{shown_few, small_shown, whole_is}
 
 -- ---- a part comes
 
-abbrev pub Becomes : Arrived → List ℕ → SaidPart × List ℕ → Type 0
+abbrev pub Becomes : Arrived → List ℕ → Said PartAccepted × List ℕ → Type 0
 Becomes a store r = Joined a store r.0 r.1 ⊎ Turned a store r.0 r.1
 
 module _ (store : List ℕ) (w : OnlyCalls store) (octets : List ℕ) (o : Octets octets) where
-  by_comes : {a : Arrived} → arrival_in octets ≡ gives a → Comes octets store (accepting octets store) → Becomes a store (accepting octets store)
+  by_comes : {a : Arrived} → arrival_in octets ≡ Ok a → Comes octets store (accepting octets store) → Becomes a store (accepting octets store)
   by_comes is (inl (why, e, r)) = absurd (never (sym is ∙ e))
   by_comes {a} is (inr (b, e, inl (j, t))) = subst (λ (x : Arrived). Becomes x store (accepting octets store)) (given (sym e ∙ is)) (inl j)
   by_comes {a} is (inr (b, e, inr t)) = subst (λ (x : Arrived). Becomes x store (accepting octets store)) (given (sym e ∙ is)) (inr t)
 
   -- octets that are a part: it is accepted or turned down
-  pub becomes : (a : Arrived) → arrival_in octets ≡ gives a → Becomes a store (accepting octets store)
+  pub becomes : (a : Arrived) → arrival_in octets ≡ Ok a → Becomes a store (accepting octets store)
   becomes a is = by_comes is (accepting_does octets o store (only_sound store w))
 
   -- octets that are none, by the reader, 17, 18, 24 or 28: nothing changes
-  pub no_part : (why : Refusal) → arrival_in octets ≡ refuses why → accepting octets store ≡ (unaccepted why, store)
+  pub no_part : (why : Refusal) → arrival_in octets ≡ Err why → accepting octets store ≡ (Err why, store)
   no_part why is = by_refused (accepting_does octets o store (only_sound store w))
     where
-      by_refused : Comes octets store (accepting octets store) → accepting octets store ≡ (unaccepted why, store)
+      by_refused : Comes octets store (accepting octets store) → accepting octets store ≡ (Err why, store)
       by_refused (inl (v, e, r)) = let same : v ≡ why = refusal (sym e ∙ is) in r ∙ rw same
         where
-          refusal : {x y : Refusal} → ◌≡◌ {A = Said Arrived} (refuses x) (refuses y) → x ≡ y
+          refusal : {x y : Refusal} → ◌≡◌ {A = Said Arrived} (Err x) (Err y) → x ≡ y
           refusal q = cc
       by_refused (inr (a, e, r)) = absurd (never (sym e ∙ is))
 
 -- never both, whatever the answers
-pub never_both : {a : Arrived} {store later later' : List ℕ} {answer answer' : SaidPart} → Joined a store answer later → Turned a store answer' later' → ⊥
+pub never_both : {a : Arrived} {store later later' : List ℕ} {answer answer' : Said PartAccepted} → Joined a store answer later → Turned a store answer' later' → ⊥
 never_both {a} {store} {later} {later'} {answer} {answer'} j t = by_why t.why
   where
-    by_why : ((answer' ≡ unaccepted NotAPart) × (GoesWith a (held_of a.key store) → ⊥)) ⊎ ((answer' ≡ unaccepted StoreFull) × (held_of a.key store ≡ none) × SixteenOpen store) → ⊥
+    by_why : ((answer' ≡ Err NotAPart) × (GoesWith a (held_of a.key store) → ⊥)) ⊎ ((answer' ≡ Err StoreFull) × (held_of a.key store ≡ none) × SixteenOpen store) → ⊥
     by_why (inl (q, g)) = g j.goes
     by_why (inr (q, h, f)) = j.not_full h f
 
@@ -95,7 +97,7 @@ module _ (key : Key) (named : Named key) (store₁ store₂ : List ℕ) (w₁ : 
 
   -- and so is the message taken: answer and lent output
   pub same_taken : (out : List ℕ)
-      → ◌≡◌ {A = Said Taken × List ℕ} ((taking key (after_all cs₁ store₁) out).0, (taking key (after_all cs₁ store₁) out).2) ((taking key (after_all cs₂ store₂) out).0, (taking key (after_all cs₂ store₂) out).2)
+      → ◌≡◌ {A = Said MessageTaken × List ℕ} ((taking key (after_all cs₁ store₁) out).0, (taking key (after_all cs₁ store₁) out).2) ((taking key (after_all cs₂ store₂) out).0, (taking key (after_all cs₂ store₂) out).2)
   same_taken out =
       let one = (taking_does key named (after_all cs₁ store₁) (sound_calls cs₁ store₁ (only_sound store₁ w₁)) out).0.answers in
       let two = (taking_does key named (after_all cs₂ store₂) (sound_calls cs₂ store₂ (only_sound store₂ w₂)) out).0.answers in
@@ -140,7 +142,7 @@ accepted_number_lem a (c ∷ cs) store (inl q) = by_call c q
 
 -- of a message that was not open, after any calls that don't take it whole or drop it: a part is accepted, and the numbers told are those from 1 to the total of which no part was accepted since
 module _ (key : Key) (named : Named key) (store : List ℕ) (w : OnlyCalls store) (new : held_of key store ≡ none) (cs : List Call) (left : LeaveAll key cs store)
-    (octets : List ℕ) (o : Octets octets) (a : Arrived) (is : arrival_in octets ≡ gives a) (own : a.key ≡ key) (accepted : (accepting octets (after_all cs store)).0.0 ≡ fine) where
+    (octets : List ℕ) (o : Octets octets) (a : Arrived) (is : arrival_in octets ≡ Ok a) (own : a.key ≡ key) (accepted : IsOk (accepting octets (after_all cs store)).0) where
   abbrev later : List ℕ
   later = after_all cs store
 
@@ -188,7 +190,7 @@ module _ (key : Key) (named : Named key) (store : List ℕ) (w : OnlyCalls store
               absurd (nobody b k (omega arith) q)
 
   pub missing_told : (missing : List ℕ)
-      × ◌≡◌ {A = SaidPart} (accepting octets later).0 (fine, key.reference, key.total, a.number, pad 8 missing, length missing)
+      × ◌≡◌ {A = Said PartAccepted} (accepting octets later).0 (Ok (record { reference = key.reference; total = key.total; number = a.number; missing = pad 8 missing; missing_count = length missing }))
       × ((n : ℕ) → Among n missing ↔ ((1 ≤ n) × (n ≤ key.total) × Never n))
   unfolding told
   missing_told = (missing_of m, joins.tells ∙ rw own, missing_when)
@@ -219,18 +221,18 @@ held_named store s key ne =
     let (owner, named, b) = s.owned k inside (belongs_open key (slot_at k store) its).0 in
     subst Named (belongs_one (slot_at k store) owner key b its) named
 
-module _ (store : List ℕ) (w : OnlyCalls store) (key : Key) (named : Named key) (out : List ℕ) (dcs n : ℕ) (gone : (taking key store out).0 ≡ gives (whole dcs n)) where
+module _ (store : List ℕ) (w : OnlyCalls store) (key : Key) (named : Named key) (out : List ℕ) (dcs n : ℕ) (gone : (taking key store out).0 ≡ Ok (MessageTaken.Whole dcs n)) where
   abbrev then_store : List ℕ
   then_store = (taking key store out).1
 
   -- nothing is held of it
   pub taken_gone : held_of key then_store ≡ none
-  taken_gone = (took store w key named out).its_message ∙ ap (λ (x : Said Taken). left_by x (held_of key store)) gone
+  taken_gone = (took store w key named out).its_message ∙ ap (λ (x : Said MessageTaken). left_by x (held_of key store)) gone
 
   -- it was open
   was_held : held_of key store ≡ none → ⊥
   unfolding taken_of
-  was_held e = let q : gives (whole dcs n) ≡ gives Taken.not_open = sym gone ∙ ap (λ (x : Said Taken × List ℕ). x.0) ((took store w key named out).answers ∙ ap (λ (h : Option Message). taken_of h out) e) in let z : ◌≡◌ {A = ℕ} 0 1 = cc in omega arith
+  was_held e = let q : Ok (MessageTaken.Whole dcs n) ≡ Ok MessageTaken.NotOpen = sym gone ∙ ap (λ (x : Said MessageTaken × List ℕ). x.0) ((took store w key named out).answers ∙ ap (λ (h : Option Message). taken_of h out) e) in let z : ◌≡◌ {A = ℕ} 0 1 = cc in omega arith
 
   -- and 16 others were not
   not_full : SixteenOpen then_store → ⊥
@@ -266,7 +268,7 @@ module _ (store : List ℕ) (w : OnlyCalls store) (key : Key) (named : Named key
           by_test false p u q e = let z = ltb-false i 16 p in omega arith
 
   -- so a part of it, also one that it held, is accepted as the first of a new message
-  pub late_copy : (octets : List ℕ) → Octets octets → (a : Arrived) → arrival_in octets ≡ gives a → a.key ≡ key → Joined a then_store (accepting octets then_store).0 (accepting octets then_store).1
+  pub late_copy : (octets : List ℕ) → Octets octets → (a : Arrived) → arrival_in octets ≡ Ok a → a.key ≡ key → Joined a then_store (accepting octets then_store).0 (accepting octets then_store).1
   late_copy octets o a is own = by_comes (accepting_does octets o then_store (taking_does key named store (only_sound store w) out).1)
     where
       free : held_of a.key then_store ≡ none
@@ -275,10 +277,10 @@ module _ (store : List ℕ) (w : OnlyCalls store) (key : Key) (named : Named key
       goes : GoesWith a (held_of a.key then_store)
       goes = subst (GoesWith a) (sym free) (tt, inl (none_at a.key.total (a.number - 1)))
 
-      not_turned : {answer : SaidPart} {late : List ℕ} → Turned a then_store answer late → ⊥
+      not_turned : {answer : Said PartAccepted} {late : List ℕ} → Turned a then_store answer late → ⊥
       not_turned {answer} {late} t = by_why t.why
         where
-          by_why : ((answer ≡ unaccepted NotAPart) × (GoesWith a (held_of a.key then_store) → ⊥)) ⊎ ((answer ≡ unaccepted StoreFull) × (held_of a.key then_store ≡ none) × SixteenOpen then_store) → ⊥
+          by_why : ((answer ≡ Err NotAPart) × (GoesWith a (held_of a.key then_store) → ⊥)) ⊎ ((answer ≡ Err StoreFull) × (held_of a.key then_store ≡ none) × SixteenOpen then_store) → ⊥
           by_why (inl (q, g)) = g goes
           by_why (inr (q, h, f)) = not_full f
 
@@ -322,9 +324,9 @@ holding_few store o k n h p e = by_test (is_held n slot) e
         rw (← is) (small, short)
     by_test false q = some_none (sym q)
 
-module _ (a : SMSAddress) (r : Reference) (t : ℕ) (store out : List ℕ) (dcs n : ℕ) (taken : (taking_by a r t store out).0 ≡ gives (whole dcs n)) where
+module _ (a : SMSAddress) (r : Reference) (t : ℕ) (store out : List ℕ) (dcs n : ℕ) (taken : (taking_by a r t store out).0 ≡ Ok (MessageTaken.Whole dcs n)) where
   -- at most b of each part, and at most 8 parts
-  taken_few : (b : ℕ) → ((k : ℕ) → k < 16 → gives k ≡ finding_by a r t store → (i : ℕ) → i < 8 → (p : Part) → holding (1 + i) (slot_at k store) ≡ some p → length (shown_in (coding_of (coding_in (slot_at k store))) p) ≤ b)
+  taken_few : (b : ℕ) → ((k : ℕ) → k < 16 → Ok k ≡ finding_by a r t store → (i : ℕ) → i < 8 → (p : Part) → holding (1 + i) (slot_at k store) ≡ some p → length (shown_in (coding_of (coding_in (slot_at k store))) p) ≤ b)
       → (m : ℕ) × (m ≤ 8) × (n ≤ m * b)
   unfolding taking_by message_in
   taken_few b each =
@@ -335,7 +337,7 @@ module _ (a : SMSAddress) (r : Reference) (t : ℕ) (store out : List ℕ) (dcs 
       let all = shown_few (coding_in slot) b (holdings 1 t slot) (λ i p e. by_place k below found parts i p e (ltb i t) refl) in
       (length (holdings 1 t slot), omega (arith, length_holdings 1 t slot, parts), subst (λ (x : ℕ). x ≤ length (holdings 1 t slot) * b) (sym size) all)
     where
-      by_place : (k : ℕ) → k < 16 → gives k ≡ finding_by a r t store → t ≤ 8 → (i : ℕ) (p : Part) → get_or (holdings 1 t (slot_at k store)) i none ≡ some p → (u : Bool) → ltb i t ≡ u → length (shown_in (coding_of (coding_in (slot_at k store))) p) ≤ b
+      by_place : (k : ℕ) → k < 16 → Ok k ≡ finding_by a r t store → t ≤ 8 → (i : ℕ) (p : Part) → get_or (holdings 1 t (slot_at k store)) i none ≡ some p → (u : Bool) → ltb i t ≡ u → length (shown_in (coding_of (coding_in (slot_at k store))) p) ≤ b
       by_place k below found parts i p e true q = let h = ltb-true i t q in each k below found i (omega arith) p (sym (holding_at 1 t (slot_at k store) i h) ∙ e)
       by_place k below found parts i p e false q = let h = ltb-false i t q in some_none (sym e ∙ get_d_past (holdings 1 t (slot_at k store)) i (rw length_holdings h))
 

@@ -1,19 +1,20 @@
 -- Known rows of the store: a message of two parts in 8-bit coding, the second of which comes first.
 -- Assumes nothing.
+use Rattle.std.specs.Prelude.{Ok}
 use Prim.Native.Nat.{ℕ}
 use mathlib.Core.Path.{◌≡◌, refl}
 use mathlib.Core.Bool.{true}
 use mathlib.Core.List.{List, [], ◌∷◌}
 use mathlib.Core.Option.{some}
 use lib.ListN.{replicate}
-use Rattle.octets.specs.Answers.{gives, fine}
 use Rattle.octets.specs.Arrays.{pad}
 use Rattle.octets.specs.Lent.{lend}
 use Rattle.coding.specs.Coding.{coding_of, character_set, data_octets}
 use Rattle.part_number.specs.declared.Reference.{Reference}
 use Rattle.message_store.specs.Part.{Key, Arrived, shown_in}
 use Rattle.message_store.specs.Store.{begins, first, has_key, belongs, slot_fits, part_of, holding, holdings, key_octets, opened_with, opened_for, with_part, slot_with, free_slot, fits, message_in, missing_from, shown_parts}
-use Rattle.reassembly.specs.Calls.{whole, placing_as, placing, joining, told, message_making, handing, finding, taking}
+use Rattle.reassembly.specs.declared.MessageTaken.{MessageTaken}
+use Rattle.reassembly.specs.Calls.{placing_as, placing, joining, told, message_making, handing, finding, taking}
 
 key : Key
 key = record { ton = 1; npi = 1; text = 0x31 ∷ 0x32 ∷ []; reference = Reference.Eight 7; total = 2 }
@@ -36,7 +37,7 @@ empty : List ℕ
 empty = replicate 37696 0
 
 -- number 1 is missing
-first_comes : (placing second empty).0 ≡ (fine, Reference.Eight 7, 2, 2, 1 ∷ 0 ∷ 0 ∷ 0 ∷ 0 ∷ 0 ∷ 0 ∷ 0 ∷ [], 1)
+first_comes : (placing second empty).0 ≡ Ok (record { reference = Reference.Eight 7; total = 2; number = 2; missing = 1 ∷ 0 ∷ 0 ∷ 0 ∷ 0 ∷ 0 ∷ 0 ∷ 0 ∷ []; missing_count = 1 })
 unfolding empty key second placing_as told first slot_with free_slot has_key holding holdings message_in missing_from with_part opened_with key_octets begins part_of coding_of character_set data_octets pad
 first_comes = refl
 
@@ -44,7 +45,7 @@ first_comes = refl
 both : List ℕ
 both = (placing one (placing second empty).1).1
 
-both_come : (taking key both (9 ∷ 9 ∷ 9 ∷ 9 ∷ [])).0 ≡ gives (whole 4 3)
+both_come : (taking key both (9 ∷ 9 ∷ 9 ∷ 9 ∷ [])).0 ≡ Ok (MessageTaken.Whole 4 3)
 unfolding empty key second one both placing_as joining told first slot_with free_slot fits slot_fits has_key holding holdings message_in missing_from with_part opened_with key_octets begins part_of coding_of character_set data_octets pad taking finding handing message_making lend shown_parts shown_in
 both_come = refl
 

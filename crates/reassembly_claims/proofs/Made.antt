@@ -2,7 +2,7 @@
 -- Assumes nothing.
 use Prim.Native.Nat.{ℕ, ◌-◌, ◌<◌}
 use mathlib.Core.Path.{◌≡◌, refl, sym, ap, ◌∙◌, subst}
-use mathlib.Core.Bool.{Bool, true, false}
+use mathlib.Core.Bool.{Bool, true, false, false≢true}
 use mathlib.Core.List.{List, [], ◌∷◌, append-nil}
 use mathlib.Core.Logic.{◌⊎◌, inl, inr, ◌↔◌}
 use mathlib.Core.Option.{Option, none, some}
@@ -11,16 +11,14 @@ use borrow.Author.Tests.{eqb-true, eqb-false}
 use lib.Dec.{eqb}
 use lib.ListN.{length, get_or, set, replicate, length-set, length-replicate}
 use lib.Seq.{get_or-set_same, get_or-set_other, ext_get_or}
-use Rattle.octets.specs.Answers.{Said, gives, fine}
-use Rattle.std.specs.Prelude.{if◌then◌else◌}
-use Rattle.octets.specs.declared.Refusal.{Refusal}
+use Rattle.octets.specs.Answers.{Said}
+use Rattle.std.specs.Prelude.{if◌then◌else◌, Ok, Err, IsOk}
 use Rattle.octets.specs.declared.Refusal.TheVariants.{StoreFull, NotAPart}
-use Rattle.octets.proofs.Checks.{never}
 use Rattle.octets.proofs.Places.{given}
-use Rattle.part_number.specs.declared.Reference.{Reference}
 use Rattle.message_store.specs.Part.{Key, Named, Part, Arrived}
 use Rattle.message_store.specs.Store.{begins, key_octets, slot_at, slot_of, Message, message_in, held_of}
-use Rattle.reassembly.specs.Calls.{SaidPart, told, unaccepted, emptied, accepting, taking, dropping}
+use Rattle.reassembly.specs.declared.PartAccepted.{PartAccepted}
+use Rattle.reassembly.specs.Calls.{told, emptied, accepting, taking, dropping}
 use Rattle.message_store.proofs.AtStart.{begins_itself}
 use Rattle.message_store.proofs.First.{true_false}
 use Rattle.message_store.proofs.Keys.{one_key}
@@ -178,23 +176,16 @@ pub only_sound : (store : List ℕ) → OnlyCalls store → Sound store
 only_sound store w = rw w.is (sound_calls w.calls (emptied w.lent).1 (begun_sound w.lent w.room))
 
 -- answers tell whether a part was accepted
-told_done : (r : Reference) (t n : ℕ) (m : Message) → (told r t n m).0 ≡ fine
+pub joined_done : {a : Arrived} {store later : List ℕ} {answer : Said PartAccepted} → Joined a store answer later → IsOk answer
 unfolding told
-told_done r t n m = refl
+joined_done j = rw j.tells refl
 
-unaccepted_not : (why : Refusal) → (unaccepted why).0 ≡ fine → ⊥
-unfolding unaccepted
-unaccepted_not why e = never (sym e)
-
-pub joined_done : {a : Arrived} {store later : List ℕ} {answer : SaidPart} → Joined a store answer later → answer.0 ≡ fine
-joined_done j = ap (λ (x : SaidPart). x.0) j.tells ∙ told_done _ _ _ _
-
-pub turned_not : {a : Arrived} {store later : List ℕ} {answer : SaidPart} → Turned a store answer later → answer.0 ≡ fine → ⊥
+pub turned_not : {a : Arrived} {store later : List ℕ} {answer : Said PartAccepted} → Turned a store answer later → IsOk answer → ⊥
 turned_not {a} {store} {later} {answer} t e = by_why t.why
   where
-    by_why : ((answer ≡ unaccepted NotAPart) × (GoesWith a (held_of a.key store) → ⊥)) ⊎ ((answer ≡ unaccepted StoreFull) × (held_of a.key store ≡ none) × SixteenOpen store) → ⊥
-    by_why (inl (q, g)) = unaccepted_not NotAPart (sym (ap (λ (x : SaidPart). x.0) q) ∙ e)
-    by_why (inr (q, h, f)) = unaccepted_not StoreFull (sym (ap (λ (x : SaidPart). x.0) q) ∙ e)
+    by_why : ((answer ≡ Err NotAPart) × (GoesWith a (held_of a.key store) → ⊥)) ⊎ ((answer ≡ Err StoreFull) × (held_of a.key store ≡ none) × SixteenOpen store) → ⊥
+    by_why (inl (q, g)) = false≢true (rw q at e)
+    by_why (inr (q, h, f)) = false≢true (rw q at e)
 
 -- what a call that leaves a message alone does to it: nothing; or it accepts one part of it
 module _ (key : Key) (named : Named key) where
@@ -224,7 +215,7 @@ module _ (key : Key) (named : Named key) where
       does : Dropped other store (dropping other store).0 (dropping other store).1
       does = (dropping_does other n store s).0
 
-      by_held : other ≡ key → (h : Option Message) → held_of other store ≡ h → (dropping other store).0 ≡ gives (dropped_of h) → held_of key (dropping other store).1 ≡ held_of key store
+      by_held : other ≡ key → (h : Option Message) → held_of other store ≡ h → (dropping other store).0 ≡ Ok (dropped_of h) → held_of key (dropping other store).1 ≡ held_of key store
       by_held same none e says = ap (held_of key) (does.unchanged e)
       by_held same (some m) e says = absurd (l same says)
 
@@ -232,19 +223,19 @@ module _ (key : Key) (named : Named key) where
       by_key (inl same) = by_held same (held_of other store) refl does.says
       by_key (inr ne) = does.others key named (λ q. ne (sym q))
 
-  one_arrival : {x : Said Arrived} {a b : Arrived} → x ≡ gives a → x ≡ gives b → b ≡ a
+  one_arrival : {x : Said Arrived} {a b : Arrived} → x ≡ Ok a → x ≡ Ok b → b ≡ a
   one_arrival p q = given (sym q ∙ p)
 
   effect : (c : Call) (store : List ℕ) → Sound store → Leaves key c store → Effect c store
   effect (accept octets o) store s l = by_comes (accepting_does octets o store s)
     where
       by_comes : Comes octets store (accepting octets store) → Effect (accept octets o) store
-      by_comes (inl (why, e, r)) = inl (ap (λ (x : SaidPart × List ℕ). held_of key x.1) r, λ a k q. unaccepted_not why (sym (ap (λ (x : SaidPart × List ℕ). x.0.0) r) ∙ q.1))
+      by_comes (inl (why, e, r)) = inl (ap (λ (x : Said PartAccepted × List ℕ). held_of key x.1) r, λ a k q. false≢true (rw r at q.1))
       by_comes (inr (a, e, inr t)) = inl (ap (held_of key) t.same, λ b k q. turned_not t q.1)
       by_comes (inr (a, e, inl (j, t))) = by_key (same_or_not a.key key)
         where
           only : (b : Arrived) → Accepts b (accept octets o) store ↔ (b ≡ a)
-          only b = (λ q. one_arrival e q.0, λ q. (e ∙ ap gives (sym q), joined_done j))
+          only b = (λ q. one_arrival e q.0, λ q. (e ∙ ap Ok (sym q), joined_done j))
 
           by_key : (a.key ≡ key) ⊎ (a.key ≡ key → ⊥) → Effect (accept octets o) store
           by_key (inl same) = inr (a, record { valid = valid_arrival octets o a e; own = same; goes = j.goes; now = j.its_message; only = only })

@@ -1,5 +1,6 @@
 -- What becomes of a part that comes.
 -- Assumes nothing.
+use Rattle.octets.specs.Answers.{Said}
 use Prim.Native.Nat.{ℕ, zero, suc, ◌+◌, ◌-◌, ◌≤◌, ◌<◌}
 use mathlib.Core.Path.{◌≡◌, refl, sym, ap, ◌∙◌, subst}
 use mathlib.Core.Bool.{Bool, true, false, not}
@@ -11,13 +12,14 @@ use borrow.Author.Tests.{eqb-true, eqb-false, eq-eqb, ne_eqb, ltb-true, ltb-fals
 use lib.Dec.{eqb, ltb}
 use lib.ListN.{length, get_or, set, drop, replicate, length-drop}
 use lib.Seq.{length-take-le, set-get_or}
-use Rattle.std.specs.Prelude.{if◌then◌else◌}
+use Rattle.std.specs.Prelude.{if◌then◌else◌, Err}
 use Rattle.octets.specs.declared.Refusal.TheVariants.{StoreFull, NotAPart}
 use Rattle.coding.specs.Coding.{coding_of, data_octets}
 use Rattle.part_number.specs.declared.Reference.TheVariants.{Eight}
 use Rattle.message_store.specs.Part.{Key, Named, Part, Arrived}
 use Rattle.message_store.specs.Store.{begins, is_open, is_held, coding_in, part_at, block, belongs, holding, opened_for, with_part, slot_at, with_slot, slot_with, slot_of, free_slot, Message, message_in, held_of}
-use Rattle.reassembly.specs.Calls.{SaidPart, in_slot, told, unaccepted, storing, joining, placing_as, placing}
+use Rattle.reassembly.specs.declared.PartAccepted.{PartAccepted}
+use Rattle.reassembly.specs.Calls.{in_slot, told, storing, joining, placing_as, placing}
 use Rattle.message_store.proofs.First.{true_false, first_bounds, first_passes, first_before}
 use Rattle.message_store.proofs.Slots.{slot_size, put_back}
 use Rattle.reassembly_claims.specs.Claims.{held_with, adding, GoesWith, Joined, SixteenOpen, Turned}
@@ -166,10 +168,10 @@ module _ (a : Arrived) (v : Valid a) (store : List ℕ) (s : Sound store) where
   abbrev key : Key
   key = a.key
 
-  abbrev tell : Message → SaidPart
+  abbrev tell : Message → Said PartAccepted
   tell = told key.reference key.total a.number
 
-  abbrev Becomes : SaidPart × List ℕ → Type 0
+  abbrev Becomes : Said PartAccepted × List ℕ → Type 0
   Becomes r = (Joined a store r.0 r.1 × Sound r.1) ⊎ Turned a store r.0 r.1
 
   -- ---- the message is open in slot k
@@ -188,7 +190,7 @@ module _ (a : Arrived) (v : Valid a) (store : List ℕ) (s : Sound store) where
     at_number = let n : 1 + (a.number - 1) ≡ a.number = omega (arith, v.number_low) in holding_at 1 key.total slot (a.number - 1) (omega (arith, v.number_low, v.number_high)) ∙ ap (λ (n : ℕ). holding n slot) n
 
     -- another coding scheme
-    other_coding : (coding_in slot ≡ a.dcs → ⊥) → Turned a store (unaccepted NotAPart) store
+    other_coding : (coding_in slot ≡ a.dcs → ⊥) → Turned a store (Err NotAPart) store
     unfolding message_in
     other_coding ne = record { same = refl; why = inl (refl, λ g. ne (subst (GoesWith a) held g).0) }
 
@@ -277,7 +279,7 @@ module _ (a : Arrived) (v : Valid a) (store : List ℕ) (s : Sound store) where
             (record { goes = subst (GoesWith a) (sym held) (coding, inr there); not_full = λ z w. some_none (sym held ∙ z); copy = λ z. refl; its_message = held ∙ ap some (sym as_was); others = λ other n ne. refl; tells = ap tell (sym as_was) }, s)
 
         -- another part
-        not_same : begins (a.part.udl ∷ a.part.octets) (block a.number slot) ≡ false → Turned a store (unaccepted NotAPart) store
+        not_same : begins (a.part.udl ∷ a.part.octets) (block a.number slot) ≡ false → Turned a store (Err NotAPart) store
         unfolding message_in
         not_same e = record { same = refl; why = inl (refl, λ g. against (subst (GoesWith a) held g)) }
           where
@@ -293,12 +295,12 @@ module _ (a : Arrived) (v : Valid a) (store : List ℕ) (s : Sound store) where
         back : with_slot k slot store ≡ store
         back = put_back k store
 
-        answers : Bool → Bool → Bool → SaidPart × List ℕ
+        answers : Bool → Bool → Bool → Said PartAccepted × List ℕ
         answers c h b =
-            if not c then (unaccepted NotAPart, slot)
+            if not c then (Err NotAPart, slot)
             else if not h then storing key.reference key.total a.number a.part slot
             else if b then (tell (message_in key.total slot), slot)
-            else (unaccepted NotAPart, slot)
+            else (Err NotAPart, slot)
 
         by_coding : (c : Bool) → eqb (coding_in slot) a.dcs ≡ c → (h : Bool) → is_held a.number slot ≡ h
             → (b : Bool) → begins (a.part.udl ∷ a.part.octets) (block a.number slot) ≡ b → Becomes (in_slot k (answers c h b) store)
@@ -379,11 +381,11 @@ module _ (a : Arrived) (v : Valid a) (store : List ℕ) (s : Sound store) where
   unfolding placing_as
   placing_does = by_slot (eqb (slot_of key store) 16) refl (eqb (free_slot store) 16) refl
     where
-      answers : Bool → Bool → SaidPart × List ℕ
+      answers : Bool → Bool → Said PartAccepted × List ℕ
       answers c f =
           if not c then in_slot (slot_of key store) (joining key.reference key.total a.number a.dcs a.part (slot_at (slot_of key store) store)) store
           else if not f then in_slot (free_slot store) (storing key.reference key.total a.number a.part (opened_for key a.dcs (slot_at (free_slot store) store))) store
-          else (unaccepted StoreFull, store)
+          else (Err StoreFull, store)
 
       by_slot : (c : Bool) → eqb (slot_of key store) 16 ≡ c → (f : Bool) → eqb (free_slot store) 16 ≡ f → Becomes (answers c f)
       by_slot false p f q =

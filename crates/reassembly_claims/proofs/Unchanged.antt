@@ -6,8 +6,8 @@ use mathlib.Core.Bool.{Bool, true, false, not}
 use mathlib.Core.List.{List, ◌∷◌, ◌++◌}
 use lib.Dec.{eqb, leb}
 use lib.ListN.{length, drop}
-use Rattle.octets.specs.Answers.{Said, gives, refuses}
-use Rattle.std.specs.Prelude.{if◌then◌else◌}
+use Rattle.octets.specs.Answers.{Said}
+use Rattle.std.specs.Prelude.{if◌then◌else◌, Ok, Err}
 use Rattle.octets.specs.Lent.{lend}
 use Rattle.octets.specs.declared.Refusal.{Refusal}
 use Rattle.octets.specs.declared.Refusal.TheVariants.{LengthTooLarge, OutputTooShort, StoreFull, NotAPart}
@@ -18,15 +18,18 @@ use Rattle.deliver.specs.declared.SmsDeliver.{SmsDeliver}
 use Rattle.part_number.specs.declared.Reference.{Reference}
 use Rattle.message_store.specs.Part.{Part, Arrived, arrival_of}
 use Rattle.message_store.specs.Store.{begins, coding_in, is_held, block, key_octets, opened_with, with_part, closed, slot_at, with_slot, slot_with, free_slot, fits, Message, message_in, missing_of, shown_of}
-use Rattle.reassembly.specs.Calls.{SaidPart, Taken, whole, not_open, not_whole, Dropping, dropped, was_not_open, in_slot, told, unaccepted, storing, joining, placing_as, arriving, gathering, accepting, message_making, closed_by, handing, taking_from, dropping_from}
+use Rattle.reassembly.specs.declared.MessageDropped.{MessageDropped}
+use Rattle.reassembly.specs.declared.MessageTaken.{MessageTaken}
+use Rattle.reassembly.specs.declared.PartAccepted.{PartAccepted}
+use Rattle.reassembly.specs.Calls.{in_slot, told, storing, joining, placing_as, arriving, gathering, accepting, message_making, closed_by, handing, taking_from, dropping_from}
 use Rattle.message_store.proofs.Slots.{put_back}
 
 -- ---- accepting: where the answer is a refusal the list is as it was
 
-abbrev pub Unchanged : List ℕ → SaidPart × List ℕ → Type 0
-Unchanged was r = (why : Refusal) → r.0.0 ≡ refuses why → r.1 ≡ was
+abbrev pub Unchanged : List ℕ → Said PartAccepted × List ℕ → Type 0
+Unchanged was r = (why : Refusal) → r.0 ≡ Err why → r.1 ≡ was
 
-told_not : (r : Reference) (t n : ℕ) (m : Message) (why : Refusal) → (told r t n m).0 ≡ refuses why → ⊥
+told_not : (r : Reference) (t n : ℕ) (m : Message) (why : Refusal) → told r t n m ≡ Err why → ⊥
 unfolding told
 told_not r t n m why e = never e
 
@@ -34,8 +37,8 @@ joining_unchanged : (r : Reference) (t n dcs : ℕ) (p : Part) (slot : List ℕ)
 unfolding joining
 joining_unchanged r t n dcs p slot = by_tests (eqb (coding_in slot) dcs) (is_held n slot) (begins (p.udl ∷ p.octets) (block n slot))
   where
-    answers : Bool → Bool → Bool → SaidPart × List ℕ
-    answers a b c = if not a then (unaccepted NotAPart, slot) else if not b then storing r t n p slot else if c then (told r t n (message_in t slot), slot) else (unaccepted NotAPart, slot)
+    answers : Bool → Bool → Bool → Said PartAccepted × List ℕ
+    answers a b c = if not a then (Err NotAPart, slot) else if not b then storing r t n p slot else if c then (told r t n (message_in t slot), slot) else (Err NotAPart, slot)
 
     by_tests : (a b c : Bool) → Unchanged slot (answers a b c)
     by_tests false b c why e = refl
@@ -47,11 +50,11 @@ placing_unchanged : (key : List ℕ) (r : Reference) (t n dcs : ℕ) (p : Part) 
 unfolding placing_as
 placing_unchanged key r t n dcs p store = by_tests (eqb (slot_with key store) 16) (eqb (free_slot store) 16)
   where
-    answers : Bool → Bool → SaidPart × List ℕ
+    answers : Bool → Bool → Said PartAccepted × List ℕ
     answers a b =
         if not a then in_slot (slot_with key store) (joining r t n dcs p (slot_at (slot_with key store) store)) store
         else if not b then in_slot (free_slot store) (storing r t n p (opened_with key dcs (slot_at (free_slot store) store))) store
-        else (unaccepted StoreFull, store)
+        else (Err StoreFull, store)
 
     by_tests : (a b : Bool) → Unchanged store (answers a b)
     by_tests false b why e = ap (λ (s : List ℕ). with_slot (slot_with key store) s store) (joining_unchanged r t n dcs p (slot_at (slot_with key store) store) why e) ∙ put_back (slot_with key store) store
@@ -63,10 +66,10 @@ unfolding accepting
 accepting_unchanged octets store = by_reached (read deliver octets)
   where
     by_arrival : (x : Said Arrived) → Unchanged store (arriving x store)
-    by_arrival (refuses why) w e = refl
-    by_arrival (gives a) w e = placing_unchanged (key_octets a.key) a.key.reference a.key.total a.number a.dcs a.part store w e
+    by_arrival (Err why) w e = refl
+    by_arrival (Ok a) w e = placing_unchanged (key_octets a.key) a.key.reference a.key.total a.number a.dcs a.part store w e
 
-    by_fit : (m : SmsDeliver) (t : Bool) → Unchanged store (if t then arriving (arrival_of m) store else (unaccepted LengthTooLarge, store))
+    by_fit : (m : SmsDeliver) (t : Bool) → Unchanged store (if t then arriving (arrival_of m) store else (Err LengthTooLarge, store))
     by_fit m true w e = by_arrival (arrival_of m) w e
     by_fit m false w e = refl
 
@@ -76,8 +79,8 @@ accepting_unchanged octets store = by_reached (read deliver octets)
 
 -- ---- taking: nothing changes but where the message is given whole, whatever slot was found
 
-abbrev pub Left : List ℕ → List ℕ → Said Taken × List ℕ × List ℕ → Type 0
-Left store out r = ((dcs n : ℕ) → r.0 ≡ gives (whole dcs n) → ⊥) → (r.1 ≡ store) × (r.2 ≡ out)
+abbrev pub Left : List ℕ → List ℕ → Said MessageTaken × List ℕ × List ℕ → Type 0
+Left store out r = ((dcs n : ℕ) → r.0 ≡ Ok (MessageTaken.Whole dcs n) → ⊥) → (r.1 ≡ store) × (r.2 ≡ out)
 
 handing_unchanged : (total : ℕ) (slot out : List ℕ) → Left slot out (handing total slot out)
 unfolding handing message_making lend
@@ -86,22 +89,22 @@ handing_unchanged total slot out = by_tests (eqb (length (missing_of m)) 0) (leb
     m : Message
     m = message_in total slot
 
-    lent : Bool → Said Taken × List ℕ
-    lent t = if t then (gives (whole m.dcs (length (shown_of m))), shown_of m ++ drop (length (shown_of m)) out) else (refuses OutputTooShort, out)
+    lent : Bool → Said MessageTaken × List ℕ
+    lent t = if t then (Ok (MessageTaken.Whole m.dcs (length (shown_of m))), shown_of m ++ drop (length (shown_of m)) out) else (Err OutputTooShort, out)
 
-    by_tests : (a b : Bool) → Left slot out (if a then ((lent b).0, closed_by (lent b).0 slot, (lent b).1) else (gives not_whole, slot, out))
+    by_tests : (a b : Bool) → Left slot out (if a then ((lent b).0, closed_by (lent b).0 slot, (lent b).1) else (Ok MessageTaken.NotWhole, slot, out))
     by_tests false b h = (refl, refl)
     by_tests true true h = absurd (h m.dcs (length (shown_of m)) refl)
     by_tests true false h = (refl, refl)
 
 pub taking_unchanged : (found : Said ℕ) (total : ℕ) (store out : List ℕ) → Left store out (taking_from found total store out)
-taking_unchanged (refuses why) total store out h = (refl, refl)
-taking_unchanged (gives k) total store out h = by_test (eqb k 16) h
+taking_unchanged (Err why) total store out h = (refl, refl)
+taking_unchanged (Ok k) total store out h = by_test (eqb k 16) h
   where
-    handed : Said Taken × List ℕ × List ℕ
+    handed : Said MessageTaken × List ℕ × List ℕ
     handed = handing total (slot_at k store) out
 
-    by_test : (t : Bool) → Left store out (if t then (gives not_open, store, out) else (handed.0, with_slot k handed.1 store, handed.2))
+    by_test : (t : Bool) → Left store out (if t then (Ok MessageTaken.NotOpen, store, out) else (handed.0, with_slot k handed.1 store, handed.2))
     by_test true h = (refl, refl)
     by_test false h =
         let (s, o) = handing_unchanged total (slot_at k store) out h in
@@ -109,13 +112,13 @@ taking_unchanged (gives k) total store out h = by_test (eqb k 16) h
 
 -- ---- dropping: nothing changes but where the message is dropped
 
-pub dropping_unchanged : (found : Said ℕ) (store : List ℕ) → ((dropping_from found store).0 ≡ gives dropped → ⊥) → (dropping_from found store).1 ≡ store
-dropping_unchanged (refuses why) store h = refl
-dropping_unchanged (gives k) store h = by_test (eqb k 16) h
+pub dropping_unchanged : (found : Said ℕ) (store : List ℕ) → ((dropping_from found store).0 ≡ Ok MessageDropped.Done → ⊥) → (dropping_from found store).1 ≡ store
+dropping_unchanged (Err why) store h = refl
+dropping_unchanged (Ok k) store h = by_test (eqb k 16) h
   where
-    answers : Bool → Said Dropping × List ℕ
-    answers t = if t then (gives was_not_open, store) else (gives dropped, with_slot k (closed (slot_at k store)) store)
+    answers : Bool → Said MessageDropped × List ℕ
+    answers t = if t then (Ok MessageDropped.NotOpen, store) else (Ok MessageDropped.Done, with_slot k (closed (slot_at k store)) store)
 
-    by_test : (t : Bool) → ((answers t).0 ≡ gives dropped → ⊥) → (answers t).1 ≡ store
+    by_test : (t : Bool) → ((answers t).0 ≡ Ok MessageDropped.Done → ⊥) → (answers t).1 ≡ store
     by_test true h = refl
     by_test false h = absurd (h refl)

@@ -1,7 +1,7 @@
 -- What is claimed of a store that began empty and that only the calls wrote (document 02, Ask 6).
-use Rattle.std.specs.Prelude.{ℕ, ◌-◌, ◌≤◌, ◌<◌, ◌≡◌, List, [], ◌∷◌, ◌⊎◌, eqb, length, get_or, set, replicate, if◌then◌else◌}
+use Rattle.std.specs.Prelude.{ℕ, ◌-◌, ◌≤◌, ◌<◌, ◌≡◌, List, [], ◌∷◌, ◌⊎◌, eqb, length, get_or, set, replicate, if◌then◌else◌, Ok, Err, IsOk}
 use Rattle.std.proofs.Math.Option.{Option, none, some}
-use Rattle.octets.specs.Answers.{Said, gives, refuses, fine}
+use Rattle.octets.specs.Answers.{Said}
 use Rattle.octets.specs.Each.{Octets}
 use Rattle.octets.specs.Lent.{lend}
 use Rattle.octets.specs.declared.Refusal.TheVariants.{StoreFull, NotAPart}
@@ -10,7 +10,10 @@ use Rattle.deliver.specs.Deliver.{deliver}
 use Rattle.deliver.specs.declared.SmsDeliver.{SmsDeliver}
 use Rattle.message_store.specs.Part.{Key, Named, Part, Arrived, arrival_of}
 use Rattle.message_store.specs.Store.{store_octets, Message, missing_of, held_of}
-use Rattle.reassembly.specs.Calls.{SaidPart, Taken, whole, not_open, not_whole, Dropping, dropped, was_not_open, told, unaccepted, emptied, accepting, message_making, taking, dropping}
+use Rattle.reassembly.specs.declared.MessageDropped.{MessageDropped}
+use Rattle.reassembly.specs.declared.MessageTaken.{MessageTaken}
+use Rattle.reassembly.specs.declared.PartAccepted.{PartAccepted}
+use Rattle.reassembly.specs.Calls.{told, emptied, accepting, message_making, taking, dropping}
 
 -- ---- calls, one after the other
 
@@ -41,7 +44,7 @@ pub record OnlyCalls (store : List ℕ) : Type 0 where
 
 -- the part that octets are: the reader's refusals, then those of a part
 abbrev pub part_read : Reached SmsDeliver → Said Arrived
-part_read (halted why) = refuses why
+part_read (halted why) = Err why
 part_read (reached m n) = arrival_of m
 
 abbrev pub arrival_in : List ℕ → Said Arrived
@@ -49,7 +52,7 @@ arrival_in octets = part_read (read deliver octets)
 
 -- the call accepts the part a
 abbrev pub Accepts : Arrived → Call → List ℕ → Type 0
-Accepts a (accept octets o) store = (arrival_in octets ≡ gives a) × ((accepting octets store).0.0 ≡ fine)
+Accepts a (accept octets o) store = (arrival_in octets ≡ Ok a) × IsOk (accepting octets store).0
 Accepts a (take key n out) store = ⊥
 Accepts a (drop key n) store = ⊥
 
@@ -61,8 +64,8 @@ Accepted a (c ∷ cs) store = Accepts a c store ⊎ Accepted a cs (after c store
 -- the call doesn't take the message whole, nor drop it (it may try)
 abbrev pub Leaves : Key → Call → List ℕ → Type 0
 Leaves key (accept octets o) store = Unit
-Leaves key (take other n out) store = other ≡ key → (dcs octets : ℕ) → (taking other store out).0 ≡ gives (whole dcs octets) → ⊥
-Leaves key (drop other n) store = other ≡ key → (dropping other store).0 ≡ gives dropped → ⊥
+Leaves key (take other n out) store = other ≡ key → (dcs octets : ℕ) → (taking other store out).0 ≡ Ok (MessageTaken.Whole dcs octets) → ⊥
+Leaves key (drop other n) store = other ≡ key → (dropping other store).0 ≡ Ok MessageDropped.Done → ⊥
 
 abbrev pub LeaveAll : Key → List Call → List ℕ → Type 0
 LeaveAll key [] store = Unit
@@ -103,7 +106,7 @@ OthersStay key store later = (other : Key) → Named other → (other ≡ key �
 -- ---- what becomes of a part: exactly one of these (`becomes`, `never_both`)
 
 -- it is accepted: it goes with what is held, and a new message finds fewer than 16 open; its message is as before but for the part, and every other as before; a copy of a part that is held leaves every octet of the store as it was
-pub record Joined (a : Arrived) (store : List ℕ) (answer : SaidPart) (later : List ℕ) : Type 0 where
+pub record Joined (a : Arrived) (store : List ℕ) (answer : Said PartAccepted) (later : List ℕ) : Type 0 where
   pub goes : GoesWith a (held_of a.key store)
   pub not_full : held_of a.key store ≡ none → SixteenOpen store → ⊥
   pub its_message : held_of a.key later ≡ some (adding a (held_of a.key store))
@@ -112,38 +115,38 @@ pub record Joined (a : Arrived) (store : List ℕ) (answer : SaidPart) (later : 
   pub tells : answer ≡ told a.key.reference a.key.total a.number (adding a (held_of a.key store))
 
 -- it is refused, and nothing changes. 28: it doesn't go with what is held; 27: its message is new, and 16 are open
-pub record Turned (a : Arrived) (store : List ℕ) (answer : SaidPart) (later : List ℕ) : Type 0 where
+pub record Turned (a : Arrived) (store : List ℕ) (answer : Said PartAccepted) (later : List ℕ) : Type 0 where
   pub same : later ≡ store
-  pub why : ((answer ≡ unaccepted NotAPart) × (GoesWith a (held_of a.key store) → ⊥))
-      ⊎ ((answer ≡ unaccepted StoreFull) × (held_of a.key store ≡ none) × SixteenOpen store)
+  pub why : ((answer ≡ Err NotAPart) × (GoesWith a (held_of a.key store) → ⊥))
+      ⊎ ((answer ≡ Err StoreFull) × (held_of a.key store ≡ none) × SixteenOpen store)
 
 -- ---- what becomes of a message that is to be taken or dropped
 
 -- the answer and the lent output afterwards, by what is held: not open; not whole; else coding scheme and what is shown, lent (23 where it doesn't fit)
-unfoldable pub taken_of : Option Message → List ℕ → Said Taken × List ℕ
-taken_of none out = (gives not_open, out)
-taken_of (some m) out = if eqb (length (missing_of m)) 0 then lend refuses (message_making m) out else (gives not_whole, out)
+unfoldable pub taken_of : Option Message → List ℕ → Said MessageTaken × List ℕ
+taken_of none out = (Ok MessageTaken.NotOpen, out)
+taken_of (some m) out = if eqb (length (missing_of m)) 0 then lend (message_making m) out else (Ok MessageTaken.NotWhole, out)
 
 -- a message that was taken whole leaves the store
-abbrev pub left_by : Said Taken → Option Message → Option Message
-left_by (gives (whole dcs n)) held = none
-left_by (gives not_open) held = held
-left_by (gives not_whole) held = held
-left_by (refuses why) held = held
+abbrev pub left_by : Said MessageTaken → Option Message → Option Message
+left_by (Ok (MessageTaken.Whole dcs n)) held = none
+left_by (Ok MessageTaken.NotOpen) held = held
+left_by (Ok MessageTaken.NotWhole) held = held
+left_by (Err why) held = held
 
-pub record Took (key : Key) (store out : List ℕ) (answer : Said Taken) (later outLater : List ℕ) : Type 0 where
+pub record Took (key : Key) (store out : List ℕ) (answer : Said MessageTaken) (later outLater : List ℕ) : Type 0 where
   pub answers : (answer, outLater) ≡ taken_of (held_of key store) out
   pub its_message : held_of key later ≡ left_by answer (held_of key store)
   pub others : OthersStay key store later
   -- nothing changes but by taking it whole
-  pub unchanged : ((dcs n : ℕ) → answer ≡ gives (whole dcs n) → ⊥) → (later ≡ store) × (outLater ≡ out)
+  pub unchanged : ((dcs n : ℕ) → answer ≡ Ok (MessageTaken.Whole dcs n) → ⊥) → (later ≡ store) × (outLater ≡ out)
 
-abbrev pub dropped_of : Option Message → Dropping
-dropped_of none = was_not_open
-dropped_of (some m) = dropped
+abbrev pub dropped_of : Option Message → MessageDropped
+dropped_of none = MessageDropped.NotOpen
+dropped_of (some m) = MessageDropped.Done
 
-pub record Dropped (key : Key) (store : List ℕ) (answer : Said Dropping) (later : List ℕ) : Type 0 where
-  pub says : answer ≡ gives (dropped_of (held_of key store))
+pub record Dropped (key : Key) (store : List ℕ) (answer : Said MessageDropped) (later : List ℕ) : Type 0 where
+  pub says : answer ≡ Ok (dropped_of (held_of key store))
   pub its_message : held_of key later ≡ none
   pub others : OthersStay key store later
   -- nothing changes where it wasn't open

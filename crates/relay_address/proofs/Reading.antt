@@ -1,15 +1,14 @@
 -- What the reader answers, field by field.
 -- Assumes nothing.
+use Rattle.std.specs.Prelude.{Some, None, Ok, Err}
 use Prim.Native.Nat.{ℕ, zero, suc, ◌+◌, ◌*◌, ◌-◌, ◌<◌, ◌≤◌}
 use mathlib.Core.Path.{◌≡◌, sym, ap, ◌∙◌}
-use mathlib.Core.Bool.{true}
 use mathlib.Core.List.{List, [], ◌∷◌, map}
 use native.Mathlib.Omega.{arith}
 use native.Mathlib.Nat.{zero-add}
 use borrow.Author.Tests.{le-leb, lt-leb}
 use lib.ListN.{length, get_or, take, drop, replicate, length-drop, length-map}
 use lib.Seq.{take_all, length-take-le}
-use Rattle.octets.specs.Answers.{Said, gives, refuses, fine}
 use Rattle.octets.specs.Arrays.{pad}
 use Rattle.octets.specs.Each.{Octets}
 use Rattle.octets.specs.Lent.{Wrote}
@@ -23,24 +22,16 @@ use Rattle.octets.proofs.Places.{start, octet_read, octet_ended, span_there, spa
 use Rattle.octets.proofs.SemiOctets.{length_semi, semi_small}
 use Rattle.address.specs.Address.{digit_character, without_f, type_of_number, plan_of}
 use Rattle.address.proofs.DigitTexts.{without_digits}
-use Rattle.relay_address.specs.declared.RelayAddress.{RelayAddress}
-use Rattle.relay_address.specs.Relay.{relay_with, no_relay, counted, digits_in, relay_of, relay_read}
+use Rattle.relay_address.specs.Relay.{relay_with, counted, digits_in, relay_of, read_as, relay_read}
 
 -- ---- the two cases of an answer
 
-abbrev pub Read : Type 0
-Read = Said Unit × RelayAddress × ℕ
-
--- an octet is missing
-abbrev pub ended : Read
-ended = (refuses OctetsEnd, no_relay, 0)
-
 module _ (s : List ℕ) where
-  pub read_ends : length s < 1 + get_or s 0 0 → relay_read s ≡ ended
+  pub read_ends : length s < 1 + get_or s 0 0 → relay_read s ≡ Err OctetsEnd
   unfolding relay_read
   read_ends h = rw (lt-leb (1 + get_or s 0 0) (length s) h)
 
-  pub read_whole : 1 + get_or s 0 0 ≤ length s → relay_read s ≡ (fine, relay_of (counted s), 1 + get_or s 0 0)
+  pub read_whole : 1 + get_or s 0 0 ≤ length s → relay_read s ≡ read_as (relay_of (counted s)) (1 + get_or s 0 0)
   unfolding relay_read
   read_whole h = rw (le-leb (1 + get_or s 0 0) (length s) h)
 
@@ -64,12 +55,12 @@ counted_is (x ∷ y ∷ s) (suc k) some long = let e : suc k - 1 ≡ k = omega a
 
 module _ (s : List ℕ) where
   -- the length octet is missing
-  pub none_there : octet_at s start ≡ refuses OctetsEnd → ended ≡ relay_read s
+  pub none_there : octet_at s start ≡ Err OctetsEnd → Err OctetsEnd ≡ relay_read s
   none_there e = sym (read_ends s (omega (arith, octet_ended s start e)))
 
-  module _ {l : ℕ} {p : Place} (first : octet_at s start ≡ gives (l, p)) where
+  module _ {l : ℕ} {p : Place} (first : octet_at s start ≡ Ok (l, p)) where
     -- it counts none
-    pub absent : l ≡ 0 → (fine, no_relay, 1) ≡ relay_read s
+    pub absent : l ≡ 0 → read_as None 1 ≡ relay_read s
     unfolding relay_of
     absent e =
         let (there, is, next) = octet_read s start first in
@@ -78,19 +69,19 @@ module _ (s : List ℕ) where
 
     module _ (some : l ≡ 0 → ⊥) where
       -- the type octet is missing
-      pub type_missing : octet_at s p ≡ refuses OctetsEnd → ended ≡ relay_read s
+      pub type_missing : octet_at s p ≡ Err OctetsEnd → Err OctetsEnd ≡ relay_read s
       type_missing e = let (there, is, next) = octet_read s start first in sym (read_ends s (omega (arith, octet_ended s p e)))
 
-      module _ {t : ℕ} {q : Place} (second : octet_at s p ≡ gives (t, q)) where
+      module _ {t : ℕ} {q : Place} (second : octet_at s p ≡ Ok (t, q)) where
         -- the value is not whole
-        pub value_missing : span_at s q (l - 1) ≡ refuses OctetsEnd → ended ≡ relay_read s
+        pub value_missing : span_at s q (l - 1) ≡ Err OctetsEnd → Err OctetsEnd ≡ relay_read s
         value_missing e =
             let (there, is, next) = octet_read s start first in
             let (there2, is2, next2) = octet_read s p second in
             sym (read_ends s (omega (arith, span_ended s q (l - 1) e, length-drop q.at s)))
 
         -- all is there
-        module _ {a : ℕ} {r : Place} (third : span_at s q (l - 1) ≡ gives (a, r)) where
+        module _ {a : ℕ} {r : Place} (third : span_at s q (l - 1) ≡ Ok (a, r)) where
           pub value_there : (a ≤ r.at) × (r.at ≤ length s)
           value_there =
               let (fits, from, to) = span_there s q (l - 1) third in
@@ -102,7 +93,7 @@ module _ (s : List ℕ) where
 
           pub all_there : {n : ℕ} {text : List ℕ} → Octets s → l < 256
               → Wrote 0 (map digit_character (without_f (take (2 * (l - 1)) (semi_octets (take (r.at - a) (drop a s)))))) (replicate 508 0) n text
-              → ◌≡◌ {A = Read} (fine, record { is_present = true; ton = type_of_number t; npi = plan_of t; address = text; address_length = n }, r.at) (relay_read s)
+              → read_as (Some (record { ton = type_of_number t; npi = plan_of t; address = text; address_length = n })) r.at ≡ relay_read s
           unfolding relay_of relay_with
           all_there {n} {text} o small w =
               let (there, is, next) = octet_read s start first in

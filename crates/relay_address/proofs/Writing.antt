@@ -1,19 +1,20 @@
--- What the checks find, and what is made of a record.
+-- What the checks find, and what is made of an address, or of none.
 -- Assumes nothing.
+use Rattle.std.specs.Prelude.{Some, None, Err}
 use Prim.Native.Nat.{ℕ, ◌+◌, ◌/◌, ◌<◌, ◌≤◌}
-use mathlib.Core.Path.{◌≡◌}
+use mathlib.Core.Path.{◌≡◌, refl}
 use mathlib.Core.Bool.{true, false, not, ◌&&◌}
 use mathlib.Core.List.{List, [], ◌∷◌}
 use native.Mathlib.Omega.{arith}
 use borrow.Author.Tests.{lt-leb, le-leb, leb-true, eq-eqb, ne_eqb, eqb-false, not-true}
 use lib.Dec.{eqb, leb}
 use lib.ListN.{length}
-use Rattle.octets.specs.Answers.{gives, refuses, fine}
+use Rattle.octets.specs.Answers.{fine}
 use Rattle.octets.specs.Checks.{◌unless◌, found, checked}
 use Rattle.octets.specs.Each.{each}
 use Rattle.octets.specs.Lent.{refused, made}
 use Rattle.octets.specs.declared.Refusal.TheVariants.{LengthTooLarge, NumberTypeOrPlanTooLarge, NotInAlphabet, AddressTooLong, AlphanumericRelayAddress}
-use Rattle.octets.proofs.Checks.{holds, check_holds, one_against}
+use Rattle.octets.proofs.Checks.{holds, check_holds, check_fails}
 use Rattle.octets.proofs.Choice.{and_true}
 use Rattle.address.specs.Writing.{is_digit}
 use Rattle.address.proofs.DigitCharacters.{digits_size}
@@ -27,22 +28,22 @@ module _ (ton npi : ℕ) (text : List ℕ) where
   unfolding relay_octets
   octets_size = omega (arith, digits_size text)
 
-  pub wrong_type : (leb ton 7 && leb npi 15) ≡ false → found (relay_checks ton npi text) ≡ refuses NumberTypeOrPlanTooLarge
+  pub wrong_type : (leb ton 7 && leb npi 15) ≡ false → found (relay_checks ton npi text) ≡ Err NumberTypeOrPlanTooLarge
   unfolding relay_checks
   wrong_type e = rw e
 
   module _ (t : (leb ton 7 && leb npi 15) ≡ true) where
-    pub alphanumeric : ton ≡ 5 → found (relay_checks ton npi text) ≡ refuses AlphanumericRelayAddress
+    pub alphanumeric : ton ≡ 5 → found (relay_checks ton npi text) ≡ Err AlphanumericRelayAddress
     unfolding relay_checks
     alphanumeric e = rw (t, eq-eqb ton 5 e)
 
     module _ (number : ton ≡ 5 → ⊥) where
-      pub no_digits : each is_digit text ≡ false → found (relay_checks ton npi text) ≡ refuses NotInAlphabet
+      pub no_digits : each is_digit text ≡ false → found (relay_checks ton npi text) ≡ Err NotInAlphabet
       unfolding relay_checks
       no_digits e = rw (t, ne_eqb ton 5 number, e)
 
       module _ (d : each is_digit text ≡ true) where
-        pub many_digits : 20 < length text → found (relay_checks ton npi text) ≡ refuses AddressTooLong
+        pub many_digits : 20 < length text → found (relay_checks ton npi text) ≡ Err AddressTooLong
         unfolding relay_checks
         many_digits h = rw (t, ne_eqb ton 5 number, d, lt-leb (length (value_of text)) 10 (omega (arith, digits_size text)))
 
@@ -70,18 +71,17 @@ module _ (ton npi : ℕ) (text : List ℕ) where
       let (t, p) = and_true (leb ton 7) (leb npi 15) a in
       record { type = leb-true ton 7 t; plan = leb-true npi 15 p; number = eqb-false ton 5 (not-true (eqb ton 5) b); digits = c; short = omega (arith, digits_size text, leb-true (length (value_of text)) 10 d) }
 
--- ---- what is made of a record
+-- ---- what is made of an address, or of none
+
+pub makes_none : relay_making None ≡ made (0x00 ∷ []) 1
+unfolding relay_making
+makes_none = refl
 
 module _ (a : RelayAddress) where
-  pub makes_none : a.is_present ≡ false → relay_making a ≡ made (0x00 ∷ []) (gives 1)
+  pub makes_long : 508 < a.address_length → relay_making (Some a) ≡ refused LengthTooLarge
   unfolding relay_making
-  makes_none e = rw e
+  makes_long h = check_fails (lt-leb a.address_length 508 h) LengthTooLarge (relay_checks a.ton a.npi (digits_held a)) (octets_of a)
 
-  module _ (there : a.is_present ≡ true) where
-    pub makes_long : 508 < a.address_length → relay_making a ≡ refused LengthTooLarge
-    unfolding relay_making
-    makes_long h = rw there (one_against (octets_of a) ((LengthTooLarge unless leb a.address_length 508) ∷ relay_checks a.ton a.npi (digits_held a)) (rw (lt-leb a.address_length 508 h)))
-
-    pub makes_checked : a.address_length ≤ 508 → relay_making a ≡ checked (relay_checks a.ton a.npi (digits_held a)) (octets_of a)
-    unfolding relay_making
-    makes_checked h = rw there (check_holds (le-leb a.address_length 508 h) LengthTooLarge (relay_checks a.ton a.npi (digits_held a)) (octets_of a))
+  pub makes_checked : a.address_length ≤ 508 → relay_making (Some a) ≡ checked (relay_checks a.ton a.npi (digits_held a)) (octets_of a)
+  unfolding relay_making
+  makes_checked h = check_holds (le-leb a.address_length 508 h) LengthTooLarge (relay_checks a.ton a.npi (digits_held a)) (octets_of a)

@@ -1,6 +1,6 @@
 -- Addresses of the relay layer (TS 24.011 §8.2.5): a length octet that counts the octets after it, a type octet, and the value, digits only.
-use Rattle.std.specs.Prelude.{ℕ, ◌+◌, ◌≡◌, refl, true, false, not, ◌&&◌, List, [], ◌∷◌, map, eqb, leb, length, get_or, take, drop, if◌then◌else◌}
-use Rattle.octets.specs.Answers.{Said, gives, refuses, fine, outcome_says}
+use Rattle.std.specs.Prelude.{ℕ, ◌+◌, ◌≡◌, refl, not, ◌&&◌, List, [], ◌∷◌, map, eqb, leb, length, get_or, take, drop, if◌then◌else◌, Option, Some, None, Ok, Err}
+use Rattle.octets.specs.Answers.{Said}
 use Rattle.octets.specs.Arrays.{pad, cleared_array}
 use Rattle.octets.specs.Checks.{Check, ◌unless◌, checked}
 use Rattle.octets.specs.Each.{each}
@@ -18,11 +18,7 @@ use Rattle.relay_address.specs.declared.RelayAddressRead.{RelayAddressRead}
 
 -- an address in its record
 unfoldable pub relay_with : ℕ → ℕ → List ℕ → RelayAddress
-relay_with ton npi text = record { is_present = true; ton = ton; npi = npi; address = pad 508 text; address_length = length text }
-
--- no address: the blank record
-unfoldable pub no_relay : RelayAddress
-no_relay = record { is_present = false; ton = 0; npi = 0; address = pad 508 []; address_length = 0 }
+relay_with ton npi text = record { ton = ton; npi = npi; address = pad 508 text; address_length = length text }
 
 -- the octets that the length octet counts: the type octet and the value
 abbrev pub counted : List ℕ → List ℕ
@@ -33,17 +29,17 @@ abbrev pub digits_in : List ℕ → List ℕ
 digits_in value = without_f (semi_octets value)
 
 -- the address of these octets; of none it is no address. Type of number 5 is read as digits too
-unfoldable pub relay_of : List ℕ → RelayAddress
-relay_of [] = no_relay
-relay_of (octet ∷ value) = relay_with (type_of_number octet) (plan_of octet) (map digit_character (digits_in value))
+unfoldable pub relay_of : List ℕ → Option RelayAddress
+relay_of [] = None
+relay_of (octet ∷ value) = Some (relay_with (type_of_number octet) (plan_of octet) (map digit_character (digits_in value)))
 
--- what an answer of the reader says: its outcome, the address, and how many octets were read
-abbrev pub relay_address_read_says : RelayAddressRead → Said Unit × RelayAddress × ℕ
-relay_address_read_says r = (outcome_says r.outcome, r.address, r.octets_read)
+-- an answer that is no refusal: the address, or none, and how many octets were read
+abbrev pub read_as : Option RelayAddress → ℕ → Said RelayAddressRead
+read_as a n = Ok (record { address = a; octets_read = n })
 
 -- what the reader answers: 2, where the length octet or one that it counts isn't there
-unfoldable pub relay_read : List ℕ → Said Unit × RelayAddress × ℕ
-relay_read s = if leb (1 + get_or s 0 0) (length s) then (fine, relay_of (counted s), 1 + get_or s 0 0) else (refuses OctetsEnd, no_relay, 0)
+unfoldable pub relay_read : List ℕ → Said RelayAddressRead
+relay_read s = if leb (1 + get_or s 0 0) (length s) then read_as (relay_of (counted s)) (1 + get_or s 0 0) else Err OctetsEnd
 
 -- ---- writing
 
@@ -69,26 +65,25 @@ digits_held a = take a.address_length a.address
 abbrev pub octets_of : RelayAddress → List ℕ
 octets_of a = relay_octets a.ton a.npi (digits_held a)
 
--- what writing a record makes: no address is 00; of an address 1, and then 9, 32, 10, 11
-unfoldable pub relay_making : RelayAddress → Making (Said ℕ)
-relay_making a =
-    if a.is_present then checked ((LengthTooLarge unless leb a.address_length 508) ∷ relay_checks a.ton a.npi (digits_held a)) (octets_of a)
-    else made (0x00 ∷ []) (gives 1)
+-- what writing makes: no address is 00; of an address 1, and then 9, 32, 10, 11
+unfoldable pub relay_making : Option RelayAddress → Making ℕ
+relay_making None = made (0x00 ∷ []) 1
+relay_making (Some a) = checked ((LengthTooLarge unless leb a.address_length 508) ∷ relay_checks a.ton a.npi (digits_held a)) (octets_of a)
 
 -- ---- what is no part of a record
 
--- what lies after the length, and all that belongs to an absent address, set to zero: records are equal where these are
-abbrev pub cleared_relay : RelayAddress → RelayAddress
-cleared_relay a =
-    if a.is_present then record { is_present = true; ton = a.ton; npi = a.npi; address = cleared_array 508 a.address_length a.address; address_length = a.address_length }
-    else no_relay
+-- what lies after the length set to zero: records are equal where these are
+abbrev pub cleared_relay : Option RelayAddress → Option RelayAddress
+cleared_relay None = None
+cleared_relay (Some a) = Some (record { ton = a.ton; npi = a.npi; address = cleared_array 508 a.address_length a.address; address_length = a.address_length })
 
 -- the array has the length of its type
-abbrev pub Typed : RelayAddress → Type 0
-Typed a = length a.address ≡ 508
+abbrev pub Typed : Option RelayAddress → Type 0
+Typed None = Unit
+Typed (Some a) = length a.address ≡ 508
 
 -- 04 91 21 43 F5 read, octets after it not looked at; and written
-known_number : (relay_read (0x04 ∷ 0x91 ∷ 0x21 ∷ 0x43 ∷ 0xf5 ∷ 0x77 ∷ []) ≡ (fine, relay_with 1 1 (codes "12345"), 5))
+known_number : (relay_read (0x04 ∷ 0x91 ∷ 0x21 ∷ 0x43 ∷ 0xf5 ∷ 0x77 ∷ []) ≡ read_as (Some (relay_with 1 1 (codes "12345"))) 5)
     × (relay_octets 1 1 (codes "12345") ≡ 0x04 ∷ 0x91 ∷ 0x21 ∷ 0x43 ∷ 0xf5 ∷ [])
 unfolding codes relay_read relay_of relay_octets digit_characters digit_character digit_value without_f semi_octets in_pairs index_of
 known_number = (refl, refl)

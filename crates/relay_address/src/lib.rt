@@ -2,66 +2,47 @@
 #![tactic(auto)]
 
 ghost use Rattle.std.specs.Prelude.{◌≡◌, ◌+◌, ◌/◌, ◌≤◌, length};
-ghost use Rattle.octets.specs.Answers.{refuses, outcome_says, written_says, checked_says};
 ghost use Rattle.octets.specs.Checks.{found, checked};
 ghost use Rattle.octets.specs.Lent.{Wrote, lend};
-ghost use Rattle.relay_address.specs.Relay.{no_relay, relay_address_read_says, relay_read, relay_octets, relay_checks, relay_making};
+ghost use Rattle.relay_address.specs.Relay.{relay_read, relay_octets, relay_checks, relay_making};
 
 use address::writing::TYPE_OF_NUMBER_ALPHANUMERIC;
-use octets::{Checked, Octet, Outcome, Place, Refusal, Span, Written};
+use octets::{Place, Refusal};
 
-// An address of the relay layer, or none. `address` holds digits.
-#[derive(Clone, Copy)]
+// An address of the relay layer. `address` holds digits.
+// An array with its length: there is no heap, and a length past the array is what refusal 1 is of.
+#[derive(Clone, Copy, Debug)]
 pub struct RelayAddress {
-    pub is_present: bool,
     pub ton: u8,
     pub npi: u8,
     pub address: [u8; 508],
     pub address_length: usize,
 }
 
-// What reading gives: the address, none on a refusal, and the number of octets read.
-#[derive(Clone, Copy)]
+// What reading gives: the address, if there is one, and the number of octets read.
+#[derive(Clone, Copy, Debug, Default)]
 pub struct RelayAddressRead {
-    pub outcome: Outcome,
-    pub address: RelayAddress,
+    pub address: Option<RelayAddress>,
     pub octets_read: usize,
 }
 
-// An answer with no address.
-fn no_address(outcome: Outcome, octets_read: usize) -> RelayAddressRead
-    ensures { relay_address_read_says result ≡ (outcome_says outcome, no_relay, octets_read) }
-{
-    RelayAddressRead {
-        outcome,
-        address: RelayAddress {
-            is_present: false,
-            ton: 0,
-            npi: 0,
-            address: [0u8; 508],
-            address_length: 0,
-        },
-        octets_read,
-    }
-}
-
 // Whether type, plan and digits can be written.
-fn check_digits(ton: u8, npi: u8, text: &[u8]) -> Checked
-    ensures { checked_says result ≡ found (relay_checks ton npi text.now) }
+fn check_digits(ton: u8, npi: u8, text: &[u8]) -> Result<(), Refusal>
+    ensures { result ≡ found (relay_checks ton npi text.now) }
 {
     if !((ton <= 7) & (npi <= 15)) {
-        return Checked::Against(Refusal::NumberTypeOrPlanTooLarge);
+        return Err(Refusal::NumberTypeOrPlanTooLarge);
     }
     if ton == TYPE_OF_NUMBER_ALPHANUMERIC {
-        return Checked::Against(Refusal::AlphanumericRelayAddress);
+        return Err(Refusal::AlphanumericRelayAddress);
     }
     if !address::writing::all_digits(text) {
-        return Checked::Against(Refusal::NotInAlphabet);
+        return Err(Refusal::NotInAlphabet);
     }
     if 20 < text.len() {
-        return Checked::Against(Refusal::AddressTooLong);
+        return Err(Refusal::AddressTooLong);
     }
-    Checked::Fine
+    Ok(())
 }
 
 // Writes type, plan and digits that were checked; the place after them.
@@ -75,70 +56,68 @@ fn put_address(ton: u8, npi: u8, text: &[u8], out: &mut [u8]) -> usize
 }
 
 // Writes type, plan and digits to the start of a lent output.
-fn encode_digits(ton: u8, npi: u8, text: &[u8], out: &mut [u8]) -> Written
-    ensures { (written_says result, out.new) ≡ lend refuses (checked (relay_checks ton npi text.now) (relay_octets ton npi text.now)) out.old }
+fn encode_digits(ton: u8, npi: u8, text: &[u8], out: &mut [u8]) -> Result<usize, Refusal>
+    ensures { (result, out.new) ≡ lend (checked (relay_checks ton npi text.now) (relay_octets ton npi text.now)) out.old }
 {
-    if let Checked::Against(r) = check_digits(ton, npi, text) {
-        return Written::Refused(r);
-    }
+    check_digits(ton, npi, text)?;
     if out.len() < 2 + (text.len() + 1) / 2 {
-        return Written::Refused(Refusal::OutputTooShort);
+        return Err(Refusal::OutputTooShort);
     }
-    Written::Done(put_address(ton, npi, text, out))
+    Ok(put_address(ton, npi, text, out))
 }
 
 impl RelayAddress {
     // Reads the address at the start of octets; octets after it are not looked at.
-    pub fn decode(data: &[u8]) -> RelayAddressRead
-        ensures { relay_address_read_says result ≡ relay_read «data».now }
+    pub fn decode(data: &[u8]) -> Result<RelayAddressRead, Refusal>
+        ensures { result ≡ relay_read «data».now }
     {
         let start = Place { at: 0 };
-        let Octet::Read(length, after_length) = start.octet(data) else {
-            return no_address(Outcome::Refused(Refusal::OctetsEnd), 0);
+        let Some((length, after_length)) = start.octet(data) else {
+            return Err(Refusal::OctetsEnd);
         };
         if length == 0 {
-            return no_address(Outcome::Done, 1);
+            return Ok(RelayAddressRead {
+                address: None,
+                octets_read: 1,
+            });
         }
-        let Octet::Read(type_of_address, after_type) = after_length.octet(data) else {
-            return no_address(Outcome::Refused(Refusal::OctetsEnd), 0);
+        let Some((type_of_address, after_type)) = after_length.octet(data) else {
+            return Err(Refusal::OctetsEnd);
         };
         let counted = length as usize;
         let value_octets = counted - 1;
-        let Span::There(at, next) = after_type.span(data, value_octets) else {
-            return no_address(Outcome::Refused(Refusal::OctetsEnd), 0);
+        let Some((at, next)) = after_type.span(data, value_octets) else {
+            return Err(Refusal::OctetsEnd);
         };
         let end = next.at;
         let semi_octets = 2 * value_octets;
         let mut address = [0u8; 508];
         let address_length = address::digits_text(&data[at..end], semi_octets, &mut address);
-        RelayAddressRead {
-            outcome: Outcome::Done,
-            address: RelayAddress {
-                is_present: true,
+        Ok(RelayAddressRead {
+            address: Some(RelayAddress {
                 ton: type_of_address / 16 % 8,
                 npi: type_of_address % 16,
                 address,
                 address_length,
-            },
+            }),
             octets_read: end,
-        }
+        })
     }
 
     // Writes the address to the start of a lent output; no address is 00.
-    pub fn encode(self, out: &mut [u8]) -> Written
-        ensures { (written_says result, out.new) ≡ lend refuses (relay_making self) out.old }
+    pub fn encode(address: Option<RelayAddress>, out: &mut [u8]) -> Result<usize, Refusal>
+        ensures { (result, out.new) ≡ lend (relay_making address) out.old }
     {
-        if !self.is_present {
-            if out.len() < 1 {
-                return Written::Refused(Refusal::OutputTooShort);
+        let Some(held) = address else {
+            if out.is_empty() {
+                return Err(Refusal::OutputTooShort);
             }
-            return Written::Done(octets::put_octet(out, 0, 0));
-        }
-        let n = self.address_length;
+            return Ok(octets::put_octet(out, 0, 0));
+        };
+        let n = held.address_length;
         if 508 < n {
-            return Written::Refused(Refusal::LengthTooLarge);
+            return Err(Refusal::LengthTooLarge);
         }
-        let address = self.address;
-        encode_digits(self.ton, self.npi, &address[..n], out)
+        encode_digits(held.ton, held.npi, &held.address[..n], out)
     }
 }

@@ -1,12 +1,14 @@
 -- What the writer of a report makes, check by check.
 -- Assumes nothing.
+use Rattle.std.specs.Prelude.{Err, Some, None, Option, is_some, option_copied}
+use Rattle.std.proofs.Common.{Bor}
 use Prim.Native.Nat.{ℕ, ◌+◌, ◌≤◌}
 use mathlib.Core.Path.{◌≡◌, refl, ◌∙◌}
 use mathlib.Core.Bool.{Bool, true, false}
 use mathlib.Core.List.{List, [], ◌∷◌, ◌++◌}
 use native.Mathlib.Omega.{arith}
 use lib.ListN.{length, length-append}
-use Rattle.octets.specs.Answers.{Said, gives, refuses, fine}
+use Rattle.octets.specs.Answers.{fine}
 use Rattle.octets.specs.Checks.{Check, ◌unless◌, found}
 use Rattle.octets.specs.Lent.{Making, refused, made}
 use Rattle.octets.specs.declared.Refusal.{Refusal}
@@ -17,14 +19,14 @@ use Rattle.layout.specs.Layout.{first_octet}
 use Rattle.parameters.specs.Checking.{indicator_checks, data_within}
 use Rattle.parameters.specs.Optional.{held}
 use Rattle.parameters.specs.Parameters.{Parameters}
-use Rattle.parameters.specs.declared.OptionalOctet.{OptionalOctet}
 use Rattle.parameters.proofs.Laws.{one_at_most}
 use Rattle.report.specs.Report.{time_size, octets_of}
 use Rattle.report.specs.Internal.{time_if, time_holds, fields_with, making}
 
-pub timed_size : (hasTime : Bool) (digits : List ℕ) → time_holds hasTime digits ≡ true → length (time_if hasTime digits) ≡ time_size hasTime
-timed_size true digits e = time_long digits e
-timed_size false digits e = refl
+-- the octets of a time that is written or not
+pub timed_size : (digits : Option (Bor (List ℕ))) → time_holds (option_copied digits) ≡ true → length (time_if (option_copied digits)) ≡ time_size (is_some digits)
+timed_size None e = refl
+timed_size (Some digits) e = time_long digits.now e
 
 -- a report's only flag
 pub only_udhi : (mti : ℕ) (udhi : Bool) → first_octet mti ((7, false) ∷ (6, udhi) ∷ (5, false) ∷ (4, false) ∷ (3, false) ∷ (2, false) ∷ []) ≡ first_octet mti ((6, udhi) ∷ [])
@@ -32,20 +34,20 @@ unfolding first_octet
 only_udhi mti udhi = omega arith
 
 -- time and parameters without the user data are few octets
-pub size_small : (hasTime : Bool) (pid dcs udl : OptionalOctet) → time_size hasTime + (held pid + held dcs + held udl) ≤ 10
+pub size_small : (hasTime : Bool) (pid dcs udl : Option ℕ) → time_size hasTime + (held pid + held dcs + held udl) ≤ 10
 size_small true pid dcs udl = omega (arith, one_at_most pid, one_at_most dcs, one_at_most udl)
 size_small false pid dcs udl = omega (arith, one_at_most pid, one_at_most dcs, one_at_most udl)
 
-module _ (mti : ℕ) (hasTime udhi : Bool) (cause : OptionalOctet) (pi : ℕ) (digits : List ℕ) (p : Parameters) where
+module _ (mti : ℕ) (udhi : Bool) (cause : Option ℕ) (pi : ℕ) (digits : Option (List ℕ)) (p : Parameters) where
   abbrev octets : List ℕ
-  octets = octets_of mti (fields_with hasTime udhi cause pi digits p)
+  octets = octets_of mti (fields_with udhi cause pi digits p)
 
-  pub size_is : time_holds hasTime digits ≡ true → length octets ≡ 2 + held cause + (time_size hasTime + (held p.pid + held p.dcs + held p.udl + length p.ud))
-  size_is e = let n = timed_size hasTime digits e in simp length-append (omega arith)
+  pub size_is : length octets ≡ 2 + held cause + (length (time_if digits) + (held p.pid + held p.dcs + held p.udl + length p.ud))
+  size_is = simp length-append (omega arith)
 
   module _ (limit : ℕ) where
-    abbrev all : Making (Said ℕ)
-    all = making limit mti hasTime udhi cause pi digits p
+    abbrev all : Making ℕ
+    all = making limit mti udhi cause pi digits p
 
     -- the indicator's checks, the user data's, and the order of all
     abbrev first : List Check
@@ -55,26 +57,26 @@ module _ (mti : ℕ) (hasTime udhi : Bool) (cause : OptionalOctet) (pi : ℕ) (d
     last = data_within limit p.dcs p.udl (length p.ud)
 
     abbrev timed : List Check
-    timed = (NotATime unless time_holds hasTime digits) ∷ last
+    timed = (NotATime unless time_holds digits) ∷ last
 
-    against_one : {why : Refusal} → found (first ++ timed) ≡ refuses why → all ≡ refused why
+    against_one : {why : Refusal} → found (first ++ timed) ≡ Err why → all ≡ refused why
     unfolding making
     against_one e = one_against octets (first ++ timed) e
 
-    pub indicator_against : {why : Refusal} → found first ≡ refuses why → all ≡ refused why
+    pub indicator_against : {why : Refusal} → found first ≡ Err why → all ≡ refused why
     indicator_against e = against_one (against timed first e)
 
     module _ (i : found first ≡ fine) where
-      pub no_time : time_holds hasTime digits ≡ false → all ≡ refused NotATime
+      pub no_time : time_holds digits ≡ false → all ≡ refused NotATime
       no_time e = against_one (passed timed first i ∙ rw e)
 
-      module _ (t : time_holds hasTime digits ≡ true) where
+      module _ (t : time_holds digits ≡ true) where
         by_data : found (first ++ timed) ≡ found last
         by_data = passed timed first i ∙ rw t
 
-        pub data_against : {why : Refusal} → found last ≡ refuses why → all ≡ refused why
+        pub data_against : {why : Refusal} → found last ≡ Err why → all ≡ refused why
         data_against e = against_one (by_data ∙ e)
 
-        pub all_made : found last ≡ fine → all ≡ made octets (gives (length octets))
+        pub all_made : found last ≡ fine → all ≡ made octets (length octets)
         unfolding making
         all_made d = all_passed octets (first ++ timed) (by_data ∙ d)

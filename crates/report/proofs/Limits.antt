@@ -5,7 +5,6 @@ use mathlib.Core.Path.{◌≡◌, sym, ap, ◌∙◌}
 use mathlib.Core.Bool.{Bool}
 use mathlib.Core.List.{List, [], ◌∷◌, ◌++◌, append_assoc}
 use lib.ListN.{length}
-use Rattle.octets.specs.Answers.{Said}
 use Rattle.octets.specs.Checks.{Check, ◌unless◌, checked}
 use Rattle.octets.specs.Lent.{Making}
 use Rattle.octets.specs.declared.Refusal.TheVariants.{NotATime}
@@ -16,7 +15,7 @@ use Rattle.report.specs.Report.{Fields, octets_of, checks_within}
 
 -- what stands before the checks of the fields, and whether the time is one, are a record's
 module _ {R : Type 0} (before : R → List Check) (time_holds : R → Bool) (mti : ℕ) (fields_in : R → Fields) where
-  abbrev within : ℕ → R → Making (Said ℕ)
+  abbrev within : ℕ → R → Making ℕ
   within limit r = checked (before r ++ checks_within limit (time_holds r) (fields_in r)) (octets_of mti (fields_in r))
 
   abbrev front : R → List Check

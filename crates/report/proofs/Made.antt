@@ -1,12 +1,12 @@
 -- What holds of the fields that a report's layout makes, and demand 3 of the records that they make.
 -- Assumes nothing.
+use Rattle.std.specs.Prelude.{Some, None, Option}
 use Prim.Native.Nat.{ℕ, ◌≤◌}
 use mathlib.Core.Path.{◌≡◌, refl, ap, ◌∙◌}
 use mathlib.Core.Bool.{Bool, true, false, ◌||◌}
 use mathlib.Core.List.{List, [], ◌∷◌, ◌++◌, append-nil}
 use borrow.Author.Tests.{eqb-true}
 use lib.ListN.{length}
-use Rattle.octets.specs.Answers.{Said}
 use Rattle.octets.specs.Checks.{Check, ◌unless◌, checked}
 use Rattle.octets.specs.Each.{Octets}
 use Rattle.octets.specs.Lent.{Making}
@@ -23,8 +23,6 @@ use Rattle.parameters.specs.Layout.{parameters}
 use Rattle.parameters.specs.Optional.{octets_held}
 use Rattle.parameters.specs.Outcome.{outcome_agrees}
 use Rattle.parameters.specs.Parameters.{Parameters}
-use Rattle.parameters.specs.declared.OptionalOctet.{OptionalOctet}
-use Rattle.parameters.specs.declared.OptionalOctet.TheVariants.{Absent, Present}
 use Rattle.parameters.specs.declared.RpOutcome.{RpOutcome}
 use Rattle.parameters.specs.declared.RpOutcome.TheVariants.{RpAck, RpError}
 use Rattle.parameters.proofs.Checking.{answers}
@@ -48,7 +46,7 @@ pub record Stands (mti : ℕ) (hasTime : Bool) (outcome : RpOutcome) (x : Fields
 between : (why : Refusal) (more : List Check) (xs : List ℕ) (checks : List Check) → checked (checks ++ ((why unless true) ∷ more)) xs ≡ checked (checks ++ more) xs
 between why more xs checks = checked_then xs checks _ ∙ rw (check_holds refl why more xs, ← checked_then xs checks more)
 
-module _ (mti : ℕ) (hasTime : Bool) (outcome : RpOutcome) (udhi : Bool) (cause : OptionalOctet) (agrees : outcome_agrees outcome cause ≡ true)
+module _ (mti : ℕ) (hasTime : Bool) (outcome : RpOutcome) (udhi : Bool) (cause : Option ℕ) (agrees : outcome_agrees outcome cause ≡ true)
     (front : List Field) (j : joined front ≡ first_octet mti ((6, udhi) ∷ []) ∷ octets_held cause) (n : any_past_limit front ≡ false) where
   -- indicator, time and parameters stand after the fields of first octet and cause
   module _ (pi : ℕ) (t : List ℕ) (ot : Octets t) (wt : time_size hasTime ≡ length t) (p : Parameters) (cs : List Field) (h : Held pi p cs) where
@@ -85,14 +83,14 @@ first_is mti x m = kept_first (6 ∷ []) x ∙ rw (← m, kept_type (6 ∷ []) r
 pub format_makes : (mti : ℕ) (hasTime : Bool) (outcome : RpOutcome) → Makes (Stands mti hasTime outcome) (format mti hasTime outcome)
 unfolding format
 format_makes mti hasTime RpAck = λ y low m.
-    after_cause_makes mti hasTime RpAck _ Absent refl (stands_as (first (6 ∷ [])) (kept (6 ∷ []) y ∷ []) ∷ []) (ap (λ (n : ℕ). n ∷ []) (first_is mti y (eqb-true _ mti m))) refl
+    after_cause_makes mti hasTime RpAck _ None refl (stands_as (first (6 ∷ [])) (kept (6 ∷ []) y ∷ []) ∷ []) (ap (λ (n : ℕ). n ∷ []) (first_is mti y (eqb-true _ mti m))) refl
 format_makes mti hasTime RpError = λ y low m cause small.
-    after_cause_makes mti hasTime RpError _ (Present cause) refl (stands_as (first (6 ∷ [])) (kept (6 ∷ []) y ∷ []) ∷ stands_as octet (cause ∷ []) ∷ []) (ap (λ (n : ℕ). n ∷ cause ∷ []) (first_is mti y (eqb-true _ mti m))) refl
+    after_cause_makes mti hasTime RpError _ (Some cause) refl (stands_as (first (6 ∷ [])) (kept (6 ∷ []) y ∷ []) ∷ stands_as octet (cause ∷ []) ∷ []) (ap (λ (n : ℕ). n ∷ cause ∷ []) (first_is mti y (eqb-true _ mti m))) refl
 
 -- ---- the records that they make
 
 -- a record's octets, and what its writer makes, are those of its fields
-module _ {R : Type 0} (mti : ℕ) (hasTime : Bool) (make : Fields → R) (cleared : R → R) (write : R → Making (Said ℕ)) (written : R → List ℕ)
+module _ {R : Type 0} (mti : ℕ) (hasTime : Bool) (make : Fields → R) (cleared : R → R) (write : R → Making ℕ) (written : R → List ℕ)
     (held : (outcome : RpOutcome) (x : Fields) (cs : List Field) → Stands mti hasTime outcome x cs → written (cleared (make x)) ≡ octets_of mti x)
     (making : (outcome : RpOutcome) (x : Fields) (cs : List Field) → Stands mti hasTime outcome x cs → write (make x) ≡ checked (checks_within 140 true x) (octets_of mti x)) where
   abbrev format_of : RpOutcome → Format R

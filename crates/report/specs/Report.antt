@@ -1,6 +1,6 @@
 -- SMS-DELIVER-REPORT and SMS-SUBMIT-REPORT (TS 23.040 §9.2.2.1a, §9.2.2.2a): their fields and layouts, which differ in MTI and time alone, and what their writers check and write.
-use Rattle.std.specs.Prelude.{ℕ, ◌≡◌, refl, Bool, true, false, List, [], ◌∷◌, ◌++◌, length}
-use Rattle.octets.specs.Answers.{refuses, fine}
+use Rattle.std.specs.Prelude.{ℕ, ◌≡◌, refl, Bool, true, false, List, [], ◌∷◌, ◌++◌, length, Err, Some, None, Option}
+use Rattle.octets.specs.Answers.{fine}
 use Rattle.octets.specs.Checks.{Check, ◌unless◌, found}
 use Rattle.octets.specs.declared.Refusal.TheVariants.{NotATime}
 use Rattle.layout.specs.Layout.{octets, any, indicator, is_set, leading, first_octet, Format, field, done, ◌then◌, message, Layout, plain, stopping}
@@ -9,8 +9,6 @@ use Rattle.parameters.specs.Layout.{announced, parameters}
 use Rattle.parameters.specs.Optional.{octets_held}
 use Rattle.parameters.specs.Outcome.{has_cause}
 use Rattle.parameters.specs.Parameters.{Parameters, no_parameters, parameters_octets}
-use Rattle.parameters.specs.declared.OptionalOctet.{OptionalOctet}
-use Rattle.parameters.specs.declared.OptionalOctet.TheVariants.{Absent, Present}
 use Rattle.parameters.specs.declared.RpOutcome.{RpOutcome}
 use Rattle.parameters.specs.declared.RpOutcome.TheVariants.{RpAck, RpError}
 
@@ -18,7 +16,7 @@ use Rattle.parameters.specs.declared.RpOutcome.TheVariants.{RpAck, RpError}
 pub record Fields : Type 0 where
   pub outcome : RpOutcome
   pub udhi : Bool
-  pub cause : OptionalOctet
+  pub cause : Option ℕ
   pub indicator : ℕ
   pub scts : List ℕ
   pub parameters : Parameters
@@ -37,16 +35,16 @@ format mti hasTime outcome =
     done (record { outcome = outcome; udhi = is_set 6 first; cause = cause; indicator = leading i; scts = scts; parameters = p })
 
 -- a cause or none, and nothing else
-abbrev pub cause_alone : RpOutcome → OptionalOctet → Fields
+abbrev pub cause_alone : RpOutcome → Option ℕ → Fields
 cause_alone outcome cause = record { outcome = outcome; udhi = false; cause = cause; indicator = 0; scts = []; parameters = no_parameters }
 
 -- of the blank record, whatever the entry point
 abbrev pub blank : Fields
-blank = cause_alone RpAck Absent
+blank = cause_alone RpAck None
 
 -- of the stopped RP-ERROR
 abbrev pub stopped : Fields
-stopped = cause_alone RpError (Present 0xff)
+stopped = cause_alone RpError (Some 0xff)
 
 -- the layout of an outcome; the stopped RP-ERROR stands as MTI, FF, 00
 abbrev pub layout_of : ℕ → Bool → RpOutcome → Layout Fields
@@ -70,7 +68,7 @@ checks_within limit time_holds x =
     indicator_checks x.indicator p.pid p.dcs p.udl ++ ((NotATime unless time_holds) ∷ data_within limit p.dcs p.udl (length p.ud))
 
 -- the octets of the stopped DELIVER-REPORT, and of a SUBMIT-REPORT with UDHI and PID 11 whose time is left out; the checks of the first with a time that is one, and isn't
-known_written : (octets_of 0 stopped ≡ 0x00 ∷ 0xff ∷ 0x00 ∷ []) × (octets_of 1 (record { outcome = RpAck; udhi = true; cause = Absent; indicator = 0x01; scts = []; parameters = record { pid = Present 0x11; dcs = Absent; udl = Absent; ud = [] } }) ≡ 0x41 ∷ 0x01 ∷ 0x11 ∷ [])
-    × (found (checks_within 140 true stopped) ≡ fine) × (found (checks_within 140 false stopped) ≡ refuses NotATime)
+known_written : (octets_of 0 stopped ≡ 0x00 ∷ 0xff ∷ 0x00 ∷ []) × (octets_of 1 (record { outcome = RpAck; udhi = true; cause = None; indicator = 0x01; scts = []; parameters = record { pid = Some 0x11; dcs = None; udl = None; ud = [] } }) ≡ 0x41 ∷ 0x01 ∷ 0x11 ∷ [])
+    × (found (checks_within 140 true stopped) ≡ fine) × (found (checks_within 140 false stopped) ≡ Err NotATime)
 unfolding first_octet indicator_checks data_within
 known_written = (refl, refl, refl, refl)

@@ -1,68 +1,50 @@
 // The fields of a report found in a string: one way for the four entry points.
-ghost use Rattle.std.specs.Prelude.{◌≡◌};
-ghost use Rattle.layout.specs.Layout.{read, read_from, answer};
-ghost use Rattle.octets.specs.Answers.{outcome_says};
-ghost use Rattle.parameters.specs.declared.OptionalOctet.TheVariants.{Absent};
-ghost use Rattle.parameters.specs.declared.RpOutcome.TheVariants.{RpAck};
-ghost use Rattle.report.specs.Report.{blank, layout_of};
-ghost use Rattle.report.specs.Internal.{after_cause, alone, found_says, Inside};
+ghost use Rattle.std.specs.Prelude.{◌≡◌, IfOk};
+ghost use Rattle.layout.specs.Layout.{read, read_from, answer, alone};
+ghost use Rattle.report.specs.Report.{layout_of};
+ghost use Rattle.report.specs.Internal.{after_cause, nothing, found_says, Inside};
 
-use octets::{Octet, Outcome, Place, Refusal, Span};
-use parameters::reading::ParametersRead;
-use parameters::{OptionalOctet, RpOutcome};
+use octets::{Place, Refusal};
+use parameters::{ParameterOctets, RpOutcome};
 
 // Bits 7 and 5-2 of the first octet of a report, which are unused.
 const REPORT_UNUSED_BITS: u8 = 0xBC;
 // TP-FCS "Unspecified error cause" (TS 23.040 §9.2.3.22).
 const FAILURE_CAUSE_UNSPECIFIED: u8 = 0xFF;
 
-// How reading ended; the fields of one octet, and where the others start: the time if there is one, and so many octets
-// of user data. On a refusal those of the blank record.
-#[derive(Clone, Copy)]
-pub struct ReportFound {
-    pub outcome: Outcome,
+// The fields of one octet, and where the others start: the time if there is one, and so many octets of user data.
+#[derive(Clone, Copy, Debug, PartialEq, Eq)]
+pub struct ReportFields {
     pub rp_outcome: RpOutcome,
     pub udhi: bool,
-    pub cause: OptionalOctet,
+    pub cause: Option<u8>,
     pub indicator: u8,
-    pub timed: bool,
-    pub timestamp: usize,
-    pub pid: OptionalOctet,
-    pub dcs: OptionalOctet,
-    pub udl: OptionalOctet,
+    pub timestamp: Option<usize>,
+    pub parameters: ParameterOctets,
     pub data: usize,
     pub octets: usize,
 }
 
-// A report with an outcome, a cause or none, and nothing else.
-fn cause_alone(outcome: Outcome, rp_outcome: RpOutcome, cause: OptionalOctet) -> ReportFound
-    ensures { result ≡ alone outcome rp_outcome cause }
-{
-    ReportFound {
-        outcome,
-        rp_outcome,
-        udhi: false,
-        cause,
-        indicator: 0,
-        timed: false,
-        timestamp: 0,
-        pid: OptionalOctet::Absent,
-        dcs: OptionalOctet::Absent,
-        udl: OptionalOctet::Absent,
-        data: 0,
-        octets: 0,
-    }
-}
+// Those of the blank record, which holds RP-ACK whatever the entry point.
+impl Default for ReportFields {
+    ghost is_default = { λ f. f ≡ nothing };
 
-// A refusal: the blank record holds RP-ACK whatever the entry point.
-fn refused(why: Refusal) -> ReportFound
-    ensures { result ≡ alone (Outcome.Refused why) RpAck Absent }
-{
-    cause_alone(
-        Outcome::Refused(why),
-        RpOutcome::RpAck,
-        OptionalOctet::Absent,
-    )
+    fn default() -> Self {
+        ReportFields {
+            rp_outcome: RpOutcome::RpAck,
+            udhi: false,
+            cause: None,
+            indicator: 0,
+            timestamp: None,
+            parameters: ParameterOctets {
+                pid: None,
+                dcs: None,
+                udl: None,
+            },
+            data: 0,
+            octets: 0,
+        }
+    }
 }
 
 // What follows first octet and cause.
@@ -72,79 +54,64 @@ fn after_cause(
     has_time: bool,
     rp_outcome: RpOutcome,
     udhi: bool,
-    cause: OptionalOctet,
-) -> ReportFound
-    ensures { (found_says «data».now result ≡ answer blank (read_from (after_cause has_time rp_outcome udhi cause) «data».now place.at)) × Inside «data».now result }
+    cause: Option<u8>,
+) -> Result<ReportFields, Refusal>
+    ensures { (found_says «data».now result ≡ answer alone (read_from (after_cause has_time rp_outcome udhi cause) «data».now place.at)) × IfOk result (Inside «data».now) }
 {
-    let Octet::Read(indicator, place2) = parameters::reading::read_indicator(data, place) else {
-        return refused(Refusal::OctetsEnd);
+    let Some((indicator, place)) = parameters::reading::read_indicator(data, place) else {
+        return Err(Refusal::OctetsEnd);
     };
-    let Span::There(timestamp, place3) = place2.span(data, crate::time_size(has_time)) else {
-        return refused(Refusal::OctetsEnd);
+    let Some((timestamp, place)) = place.span(data, crate::time_size(has_time)) else {
+        return Err(Refusal::OctetsEnd);
     };
-    let ParametersRead::Read(pid, dcs, udl, octets, end) = parameters::reading::read_parameters(
-        data, place3, indicator,
-    ) else {
-        return refused(Refusal::OctetsEnd);
+    let Some(read) = parameters::reading::read_parameters(data, place, indicator) else {
+        return Err(Refusal::OctetsEnd);
     };
-    ReportFound {
-        outcome: Outcome::Done,
+    Ok(ReportFields {
         rp_outcome,
         udhi,
         cause,
         indicator,
-        timed: has_time,
-        timestamp,
-        pid,
-        dcs,
-        udl,
-        data: end.at - octets,
-        octets,
-    }
+        timestamp: has_time.then_some(timestamp),
+        parameters: read.parameters,
+        data: read.next.at - read.octets,
+        octets: read.octets,
+    })
 }
 
 // The fields of a report with this TP-MTI, with a time or without, as an entry point reads it: a cause is there in an
 // RP-ERROR only. Where an unused bit of its first octet is set the rest is not examined, and the cause reads as
 // "Unspecified error cause".
-pub fn fields_of(data: &[u8], mti: u8, has_time: bool, rp_outcome: RpOutcome) -> ReportFound
-    ensures { (found_says «data».now result ≡ answer blank (read (layout_of mti has_time rp_outcome) «data».now)) × Inside «data».now result }
+pub fn fields_of(
+    data: &[u8],
+    mti: u8,
+    has_time: bool,
+    rp_outcome: RpOutcome,
+) -> Result<ReportFields, Refusal>
+    ensures { (found_says «data».now result ≡ answer alone (read (layout_of mti has_time rp_outcome) «data».now)) × IfOk result (Inside «data».now) }
 {
     let start = Place { at: 0 };
-    let Octet::Read(first, place) = start.octet(data) else {
-        return refused(Refusal::OctetsEnd);
+    let Some((first, place)) = start.octet(data) else {
+        return Err(Refusal::OctetsEnd);
     };
     if first % 4 != mti {
-        return refused(Refusal::WrongMessageType);
+        return Err(Refusal::WrongMessageType);
     }
     let udhi = first / 64 % 2 == 1;
     match rp_outcome {
-        RpOutcome::RpAck => after_cause(
-            data,
-            place,
-            has_time,
-            RpOutcome::RpAck,
-            udhi,
-            OptionalOctet::Absent,
-        ),
+        RpOutcome::RpAck => after_cause(data, place, has_time, rp_outcome, udhi, None),
         RpOutcome::RpError => {
             if first & REPORT_UNUSED_BITS != 0 {
-                return cause_alone(
-                    Outcome::Done,
-                    RpOutcome::RpError,
-                    OptionalOctet::Present(FAILURE_CAUSE_UNSPECIFIED),
-                );
+                return Ok(ReportFields {
+                    rp_outcome: RpOutcome::RpError,
+                    cause: Some(FAILURE_CAUSE_UNSPECIFIED),
+                    ..ReportFields::default()
+                });
             }
-            let Octet::Read(cause, next) = place.octet(data) else {
-                return refused(Refusal::OctetsEnd);
+            let Some((cause, next)) = place.octet(data) else {
+                return Err(Refusal::OctetsEnd);
             };
-            after_cause(
-                data,
-                next,
-                has_time,
-                RpOutcome::RpError,
-                udhi,
-                OptionalOctet::Present(cause),
-            )
+            after_cause(data, next, has_time, rp_outcome, udhi, Some(cause))
         }
     }
 }

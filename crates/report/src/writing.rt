@@ -1,57 +1,52 @@
 // A report's fields written: one way for both kinds.
-ghost use Rattle.std.specs.Prelude.{◌≡◌, true, ◌∷◌, ◌++◌, ◌+◌, ◌≤◌, ◌<◌, length};
-ghost use Rattle.octets.specs.Answers.{refuses, written_says};
+ghost use Rattle.std.specs.Prelude.{◌≡◌, true, ◌∷◌, ◌++◌, ◌+◌, ◌≤◌, ◌<◌, length, option_copied};
 ghost use Rattle.octets.specs.Lent.{Wrote, lend};
 ghost use Rattle.parameters.specs.Optional.{held, octets_held};
 ghost use Rattle.parameters.specs.Parameters.{parameters_octets};
-ghost use Rattle.report.specs.Report.{time_size};
 ghost use Rattle.report.specs.Internal.{time_if, time_holds, making};
 
-use octets::{Checked, Refusal, Written};
-use parameters::OptionalOctet;
+use octets::Refusal;
+use parameters::ParameterOctets;
 
 // Writes the time of a report that has one; the place after it.
-fn put_time(has_time: bool, digits: &[u8], out: &mut [u8], at: usize) -> usize
-    requires { (time_holds has_time digits.now ≡ true) × (at + time_size has_time ≤ length out.old) }
-    ensures { Wrote at (time_if has_time digits.now) out.old result out.new }
+fn put_time(digits: Option<&[u8]>, out: &mut [u8], at: usize) -> usize
+    requires { (time_holds (option_copied digits) ≡ true) × (at + length (time_if (option_copied digits)) ≤ length out.old) }
+    ensures { Wrote at (time_if (option_copied digits.entry)) out.old result out.new }
 {
-    if has_time {
-        return time::encode_time(digits, out, at);
+    match digits {
+        None => at,
+        Some(digits) => time::encode_time(digits, out, at),
     }
-    at
 }
 
 // Writes values that were checked; how many octets they take.
 fn put_fields(
     first: u8,
-    cause: OptionalOctet,
+    cause: Option<u8>,
     indicator: u8,
-    has_time: bool,
-    digits: &[u8],
-    pid: OptionalOctet,
-    dcs: OptionalOctet,
-    udl: OptionalOctet,
+    digits: Option<&[u8]>,
+    parameters: ParameterOctets,
     data: &[u8],
     out: &mut [u8],
 ) -> usize
-    requires { (time_holds has_time digits.now ≡ true) × (2 + held cause + time_size has_time + (held pid + held dcs + held udl + length «data».now) ≤ length out.old) }
-    ensures { Wrote 0 (first ∷ octets_held cause ++ (indicator ∷ time_if has_time digits.now ++ parameters_octets (record { pid = pid; dcs = dcs; udl = udl; ud = «data».now }))) out.old result out.new }
+    requires { (time_holds (option_copied digits) ≡ true) × (2 + held cause + length (time_if (option_copied digits)) + (held parameters.pid + held parameters.dcs + held parameters.udl + length «data».now) ≤ length out.old) }
+    ensures { Wrote 0 (first ∷ octets_held cause ++ (indicator ∷ time_if (option_copied digits.entry) ++ parameters_octets (record { pid = parameters.pid; dcs = parameters.dcs; udl = parameters.udl; ud = «data».now }))) out.old result out.new }
 {
     let p1 = octets::put_octet(out, 0, first);
     let p2 = parameters::put_optional(out, p1, cause);
     let p3 = octets::put_octet(out, p2, indicator);
-    let p4 = put_time(has_time, digits, out, p3);
-    parameters::writing::put_parameters(out, p4, pid, dcs, udl, data)
+    let p4 = put_time(digits, out, p3);
+    parameters.put(out, p4, data)
 }
 
 // Whether the time of a report that has one is a time.
-fn time_holds(has_time: bool, digits: &[u8]) -> bool
-    ensures { result ≡ time_holds has_time digits.now }
+fn time_holds(digits: Option<&[u8]>) -> bool
+    ensures { result ≡ time_holds (option_copied digits.entry) }
 {
-    if has_time {
-        return time::is_time(digits);
+    match digits {
+        None => true,
+        Some(digits) => time::is_time(digits),
     }
-    true
 }
 
 // Writes the values to the start of a lent output, user data within a limit: checks in order, then the size, then the
@@ -60,44 +55,31 @@ pub fn encode_fields(
     limit: usize,
     mti: u8,
     udhi: bool,
-    cause: OptionalOctet,
+    cause: Option<u8>,
     indicator: u8,
-    has_time: bool,
-    digits: &[u8],
-    pid: OptionalOctet,
-    dcs: OptionalOctet,
-    udl: OptionalOctet,
+    digits: Option<&[u8]>,
+    parameters: ParameterOctets,
     data: &[u8],
     out: &mut [u8],
-) -> Written
+) -> Result<usize, Refusal>
     requires { (mti < 4) × (length «data».now ≤ 255) }
-    ensures { (written_says result, out.new) ≡ lend refuses (making limit mti has_time udhi cause indicator digits.now (record { pid = pid; dcs = dcs; udl = udl; ud = «data».now })) out.old }
+    ensures { (result, out.new) ≡ lend (making limit mti udhi cause indicator (option_copied digits.entry) (record { pid = parameters.pid; dcs = parameters.dcs; udl = parameters.udl; ud = «data».now })) out.old }
 {
-    if let Checked::Against(r) = parameters::writing::check_parameter_indicator(
-        indicator, pid, dcs, udl,
-    ) {
-        return Written::Refused(r);
+    parameters.check_parameter_indicator(indicator)?;
+    if !time_holds(digits) {
+        return Err(Refusal::NotATime);
     }
-    if !time_holds(has_time, digits) {
-        return Written::Refused(Refusal::NotATime);
-    }
-    if let Checked::Against(r) = parameters::writing::check_data(limit, dcs, udl, data.len()) {
-        return Written::Refused(r);
-    }
-    let size = crate::time_size(has_time)
-        + parameters::writing::parameters_size(pid, dcs, udl, data.len());
+    parameters.check_data(limit, data.len())?;
+    let size = crate::time_size(digits.is_some()) + parameters.size(data.len());
     if out.len() < 2 + parameters::octets_held(cause) + size {
-        return Written::Refused(Refusal::OutputTooShort);
+        return Err(Refusal::OutputTooShort);
     }
-    Written::Done(put_fields(
+    Ok(put_fields(
         layout::first_octet(mti, false, udhi, false, false, false, false),
         cause,
         indicator,
-        has_time,
         digits,
-        pid,
-        dcs,
-        udl,
+        parameters,
         data,
         out,
     ))

@@ -1,226 +1,242 @@
 // The keys of an `enc-` request: which a kind of message has, where a line gives them, and the form of each value.
-use crate::reasons;
+use crate::reasons::Reason;
 use crate::values::{has_form, is_absent};
-use output::Output;
-use text_fields::fields::{field_count, field_from, field_start};
-use text_fields::lists::{entry, entry_number};
-use text_fields::slices::{after, between, find, find_text};
+use text_fields::fields::Fields;
+use text_fields::slices::find;
 
-// ---- the keys by number, in the order of their names
+// ---- the keys
 
-pub const RP: usize = 0;
-
-pub const UDHI: usize = 1;
-
-pub const SRI: usize = 2;
-
-pub const LP: usize = 3;
-
-pub const MMS: usize = 4;
-
-pub const SRR: usize = 5;
-
-pub const RD: usize = 6;
-
-pub const SRQ: usize = 7;
-
-pub const MTI: usize = 8;
-
-pub const VPF: usize = 9;
-
-pub const TON: usize = 10;
-
-pub const NPI: usize = 11;
-
-pub const UDL: usize = 12;
-
-pub const MR: usize = 13;
-
-pub const PID: usize = 14;
-
-pub const DCS: usize = 15;
-
-pub const FCS: usize = 16;
-
-pub const PI: usize = 17;
-
-pub const ST: usize = 18;
-
-pub const ADDRESS: usize = 19;
-
-pub const SCTS: usize = 20;
-
-pub const DT: usize = 21;
-
-pub const VP: usize = 22;
-
-pub const UD: usize = 23;
-
-pub const OUTCOME: usize = 24;
-
-// How many keys there are; as a key's number it says that there is no such key.
-pub const KEYS: usize = 25;
-
-const NAMES: [u8; 126] = *b"\
-    rp=\nudhi=\nsri=\nlp=\nmms=\nsrr=\nrd=\nsrq=\n\
-    mti=\nvpf=\nton=\nnpi=\nudl=\n\
-    mr=\npid=\ndcs=\nfcs=\npi=\nst=\n\
-    address=\nscts=\ndt=\nvp=\nud=\noutcome=\n";
-
-// ---- the kinds of message that can be written, by number, in the order of their names
-
-pub const DELIVER: usize = 0;
-
-pub const SUBMIT: usize = 1;
-
-pub const SUBMIT_REPORT: usize = 2;
-
-pub const DELIVER_REPORT: usize = 3;
-
-pub const STATUS_REPORT: usize = 4;
-
-// How many kinds there are; as a kind's number it says that there is no such kind.
-const KINDS: usize = 5;
-
-pub fn kind_named(name: &[u8]) -> usize {
-    let names = b"deliver\nsubmit\nsubmit-report\ndeliver-report\nstatus-report\n";
-    entry_number(names, name)
+#[derive(Clone, Copy, Debug, PartialEq, Eq)]
+pub enum Key {
+    Rp,
+    Udhi,
+    Sri,
+    Lp,
+    Mms,
+    Srr,
+    Rd,
+    Srq,
+    Mti,
+    Vpf,
+    Ton,
+    Npi,
+    Udl,
+    Mr,
+    Pid,
+    Dcs,
+    Fcs,
+    Pi,
+    St,
+    Address,
+    Scts,
+    Dt,
+    Vp,
+    Ud,
+    Outcome,
 }
 
-// The same of the kinds that the standard holds to another limit of user data: the reports.
-pub fn report_named(name: &[u8]) -> usize {
-    let kind = kind_named(name);
-    if kind < SUBMIT_REPORT {
-        return KINDS;
+// The keys, in their order.
+const KEYS: [Key; 25] = [
+    Key::Rp,
+    Key::Udhi,
+    Key::Sri,
+    Key::Lp,
+    Key::Mms,
+    Key::Srr,
+    Key::Rd,
+    Key::Srq,
+    Key::Mti,
+    Key::Vpf,
+    Key::Ton,
+    Key::Npi,
+    Key::Udl,
+    Key::Mr,
+    Key::Pid,
+    Key::Dcs,
+    Key::Fcs,
+    Key::Pi,
+    Key::St,
+    Key::Address,
+    Key::Scts,
+    Key::Dt,
+    Key::Vp,
+    Key::Ud,
+    Key::Outcome,
+];
+
+impl Key {
+    pub fn name(self) -> &'static str {
+        match self {
+            Key::Rp => "rp",
+            Key::Udhi => "udhi",
+            Key::Sri => "sri",
+            Key::Lp => "lp",
+            Key::Mms => "mms",
+            Key::Srr => "srr",
+            Key::Rd => "rd",
+            Key::Srq => "srq",
+            Key::Mti => "mti",
+            Key::Vpf => "vpf",
+            Key::Ton => "ton",
+            Key::Npi => "npi",
+            Key::Udl => "udl",
+            Key::Mr => "mr",
+            Key::Pid => "pid",
+            Key::Dcs => "dcs",
+            Key::Fcs => "fcs",
+            Key::Pi => "pi",
+            Key::St => "st",
+            Key::Address => "address",
+            Key::Scts => "scts",
+            Key::Dt => "dt",
+            Key::Vp => "vp",
+            Key::Ud => "ud",
+            Key::Outcome => "outcome",
+        }
     }
-    kind
+
+    fn named(name: &[u8]) -> Option<Key> {
+        KEYS.iter()
+            .copied()
+            .find(|key| key.name().as_bytes() == name)
+    }
+}
+
+// ---- the kinds of message that can be written
+
+#[derive(Clone, Copy, Debug, PartialEq, Eq)]
+pub enum Kind {
+    Deliver,
+    Submit,
+    Report(Report),
+}
+
+// Those that the standard holds to another limit of user data.
+#[derive(Clone, Copy, Debug, PartialEq, Eq)]
+pub enum Report {
+    SubmitReport,
+    DeliverReport,
+    StatusReport,
+}
+
+pub fn report_named(name: &[u8]) -> Option<Report> {
+    match name {
+        b"submit-report" => Some(Report::SubmitReport),
+        b"deliver-report" => Some(Report::DeliverReport),
+        b"status-report" => Some(Report::StatusReport),
+        _ => None,
+    }
+}
+
+pub fn kind_named(name: &[u8]) -> Option<Kind> {
+    match name {
+        b"deliver" => Some(Kind::Deliver),
+        b"submit" => Some(Kind::Submit),
+        _ => report_named(name).map(Kind::Report),
+    }
 }
 
 // ---- the forms of values
 
-// A row for each kind, and one for a SUBMIT without destination. A row has a letter for each key, in their order: the
-// form of its value (`values::has_form`), or a dot if the kind has no such key.
-const FORMS: [u8; 156] = *b"\
-    fffff...n.nnn.xx...ot..o.\n\
-    ff...ff.nnnnnxxx...o..po.\n\
-    .n..........N.XXXx..t..oa\n\
-    .f..........N.XXXx.....oa\n\
-    .f.ff..f..nnNxXX.Xxott.o.\n\
-    ff...ff.nn--nxxx...-..po.\n";
-
-const WITHOUT_DESTINATION: usize = 5;
+// A letter for each key, in their order: the form of its value (`values::has_form`), or a dot if the kind has no such
+// key.
+type Forms = [u8; 25];
 
 const NO_KEY: u8 = b'.';
 
-// The form of a key's value, by row and key.
-fn form(row: usize, key: usize) -> u8 {
-    let forms = FORMS;
-    let letters = entry(&forms, row);
-    if key < letters.len() {
-        letters[key]
-    } else {
-        NO_KEY
+// The forms for a line that gives a record of a kind.
+fn forms(kind: Kind, line: &[u8]) -> Forms {
+    match kind {
+        Kind::Deliver => *b"fffff...n.nnn.xx...ot..o.",
+        Kind::Submit if no_destination(line) => *b"ff...ff.nn--nxxx...-..po.",
+        Kind::Submit => *b"ff...ff.nnnnnxxx...o..po.",
+        Kind::Report(Report::SubmitReport) => *b".n..........N.XXXx..t..oa",
+        Kind::Report(Report::DeliverReport) => *b".f..........N.XXXx.....oa",
+        Kind::Report(Report::StatusReport) => *b".f.ff..f..nnNxXX.Xxott.o.",
     }
 }
 
-// How many fields a request has for a record of a kind: its name, and one for each key of the kind.
-fn fields_of(kind: usize) -> usize {
-    let mut n = 1;
-    let mut key = 0;
-    while key < KEYS {
-        if form(kind, key) != NO_KEY {
-            n += 1;
-        }
-        key += 1;
-    }
-    n
+// Whether there is such a key.
+fn has_key(forms: &Forms, key: Key) -> bool {
+    forms[key as usize] != NO_KEY
+}
+
+// How many fields a request has: its name, and one for each key.
+fn fields_of(forms: &Forms) -> usize {
+    1 + forms.iter().filter(|form| **form != NO_KEY).count()
 }
 
 // ---- the keys of a line
 
-// The key that a field gives a value.
-fn key_of(field: &[u8]) -> usize {
-    let end = find(field, 0, b'=');
-    if field.len() <= end {
-        return KEYS;
-    }
-    entry_number(&NAMES, between(field, 0, end + 1))
+// The key that a field gives a value, and the value.
+fn key_and_value(field: &[u8]) -> Option<(Key, &[u8])> {
+    let end = find(field, 0, b'=')?;
+    let key = Key::named(&field[..end])?;
+    Some((key, &field[end + 1..]))
 }
 
-// The value of a key.
-pub fn value(line: &[u8], key: usize) -> &[u8] {
-    let names = NAMES;
-    let name = entry(&names, key);
-    after(field_from(line, find_text(line, b' ', name)), name.len())
+fn key_of(field: &[u8]) -> Option<Key> {
+    let (key, _) = key_and_value(field)?;
+    Some(key)
+}
+
+// The value of a key; no octets if a line has none.
+pub fn value(line: &[u8], key: Key) -> &[u8] {
+    for field in Fields::of(line) {
+        if let Some((k, value)) = key_and_value(field) {
+            if k == key {
+                return value;
+            }
+        }
+    }
+    b""
 }
 
 // Whether a line gives a SUBMIT without destination: three values are -.
 pub fn no_destination(line: &[u8]) -> bool {
-    is_absent(value(line, TON)) && is_absent(value(line, NPI)) && is_absent(value(line, ADDRESS))
+    is_absent(value(line, Key::Ton))
+        && is_absent(value(line, Key::Npi))
+        && is_absent(value(line, Key::Address))
 }
 
-// The name of a key, without its =.
-pub fn put_key_name(out: &mut Output, at: usize, key: usize) -> usize {
-    let names = NAMES;
-    let name = entry(&names, key);
-    output::put(out, at, between(name, 0, find(name, 0, b'=')))
+// ---- whether a line is well formed, or the reason against it
+
+// The key of field i: there is such a key, and it wasn't there before.
+fn check_key(forms: &Forms, line: &[u8], i: usize, field: &[u8]) -> Result<(), Reason> {
+    let key = key_of(field).ok_or(Reason::UnknownKey)?;
+    if !has_key(forms, key) {
+        return Err(Reason::UnknownKey);
+    }
+    if Fields::of(line).position(|other| key_of(other) == Some(key)) != Some(i) {
+        return Err(Reason::KeyGivenTwice);
+    }
+    Ok(())
 }
 
-// ---- the reason against a line
-
-// The reason against the key of the field at a place: the kind has no such key, or it was there before.
-fn against_key(kind: usize, line: &[u8], start: usize) -> usize {
-    let key = key_of(field_from(line, start));
-    if form(kind, key) == NO_KEY {
-        return reasons::UNKNOWN_KEY;
+// The keys: their number, and each from the left.
+fn check_keys(forms: &Forms, line: &[u8]) -> Result<(), Reason> {
+    if Fields::of(line).count() != fields_of(forms) {
+        return Err(Reason::NumberOfFields);
     }
-    if find_text(line, b' ', entry(&NAMES, key)) != start {
-        return reasons::KEY_GIVEN_TWICE;
+    for (i, field) in Fields::of(line).enumerate().skip(1) {
+        check_key(forms, line, i, field)?;
     }
-    reasons::NONE
+    Ok(())
 }
 
-// The reason against the keys: their number, or the first from the left that has one.
-fn against_keys(kind: usize, line: &[u8]) -> usize {
-    let count = field_count(line);
-    if count != fields_of(kind) {
-        return reasons::NUMBER_OF_FIELDS;
-    }
-    let mut i = 1;
-    while i < count {
-        let reason = against_key(kind, line, field_start(line, i));
-        if reason != reasons::NONE {
-            return reason;
+// The values, in the order of the keys: each has its form.
+fn check_values(forms: &Forms, line: &[u8]) -> Result<(), Reason> {
+    for (key, form) in KEYS.iter().zip(forms) {
+        if *form != NO_KEY && !has_form(*form, value(line, *key)) {
+            return Err(Reason::ValueOf(*key));
         }
-        i += 1;
     }
-    reasons::NONE
+    Ok(())
 }
 
-// The reason against the values: the first in the order of the keys that has not its form.
-fn against_values(row: usize, line: &[u8]) -> usize {
-    let mut key = 0;
-    while key < KEYS {
-        let f = form(row, key);
-        if f != NO_KEY && !has_form(f, value(line, key)) {
-            return reasons::VALUE_OF + key;
-        }
-        key += 1;
-    }
-    reasons::NONE
-}
-
-// The reason against a line that gives a record of a kind.
-pub fn against_record(kind: usize, line: &[u8]) -> usize {
-    if KINDS <= kind {
-        return reasons::UNKNOWN_REQUEST;
-    }
-    let reason = against_keys(kind, line);
-    if reason != reasons::NONE {
-        return reason;
-    }
-    if kind == SUBMIT && no_destination(line) {
-        return against_values(WITHOUT_DESTINATION, line);
-    }
-    against_values(kind, line)
+// A line that gives a record of a kind.
+pub fn check_record(kind: Kind, line: &[u8]) -> Result<(), Reason> {
+    let forms = forms(kind, line);
+    check_keys(&forms, line)?;
+    check_values(&forms, line)
 }

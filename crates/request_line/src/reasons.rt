@@ -1,94 +1,70 @@
-// The reasons for which a line isn't well formed, by number: the answer for a reason stands in a list at its number.
-use crate::keys::put_key_name;
+// Why a line isn't well formed.
+use crate::keys::Key;
 use crate::values::has_form;
 use output::Output;
-use text_fields::fields::{field, field_count, field_start};
-use text_fields::lists::entry;
-use text_fields::slices::{between, find};
+use text_fields::fields::Fields;
 
-pub const NONE: usize = 0;
-
-pub const LINE_TOO_LONG: usize = 1;
-
-pub const EMPTY_LINE: usize = 2;
-
-pub const UNKNOWN_REQUEST: usize = 3;
-
-pub const NUMBER_OF_FIELDS: usize = 4;
-
-pub const OCTETS: usize = 5;
-
-pub const NUMBER: usize = 6;
-
-pub const CODING: usize = 7;
-
-pub const UNKNOWN_KEY: usize = 8;
-
-pub const KEY_GIVEN_TWICE: usize = 9;
-
-// The value of a key: the key's number is added.
-pub const VALUE_OF: usize = 10;
-
-// The answer for a reason, without the name of a key.
-fn put_answer(out: &mut Output, at: usize, reason: usize) -> usize {
-    let answers = b"\n\
-        bad line too long\n\
-        bad empty line\n\
-        bad unknown request\n\
-        bad number of fields\n\
-        bad octets\n\
-        bad number\n\
-        bad coding\n\
-        bad unknown key\n\
-        bad key given twice\n\
-        bad value of \n";
-    output::put(out, at, entry(answers, reason))
+#[derive(Clone, Copy, Debug, PartialEq, Eq)]
+pub enum Reason {
+    LineTooLong,
+    EmptyLine,
+    UnknownRequest,
+    NumberOfFields,
+    Octets,
+    Number,
+    Coding,
+    UnknownKey,
+    KeyGivenTwice,
+    ValueOf(Key),
 }
 
 // The answer to a line that isn't well formed.
-pub fn put_bad(out: &mut Output, at: usize, reason: usize) -> usize {
-    if reason < VALUE_OF {
-        return put_answer(out, at, reason);
+pub fn put_bad(out: &mut Output, reason: Reason) {
+    out.put_text(match reason {
+        Reason::LineTooLong => "bad line too long",
+        Reason::EmptyLine => "bad empty line",
+        Reason::UnknownRequest => "bad unknown request",
+        Reason::NumberOfFields => "bad number of fields",
+        Reason::Octets => "bad octets",
+        Reason::Number => "bad number",
+        Reason::Coding => "bad coding",
+        Reason::UnknownKey => "bad unknown key",
+        Reason::KeyGivenTwice => "bad key given twice",
+        Reason::ValueOf(_) => "bad value of ",
+    });
+    if let Reason::ValueOf(key) = reason {
+        out.put_text(key.name());
     }
-    let next = put_answer(out, at, VALUE_OF);
-    put_key_name(out, next, reason - VALUE_OF)
 }
 
 // The reason against a field that has not its form.
-fn against_form(form: u8) -> usize {
+fn against_form(form: u8) -> Reason {
     match form {
-        b'o' | b'x' | b'e' => OCTETS,
-        b'd' => CODING,
-        _ => NUMBER,
+        b'o' | b'x' | b'e' => Reason::Octets,
+        b'd' => Reason::Coding,
+        _ => Reason::Number,
     }
 }
 
-// The reason against a line whose fields are to have these forms, a letter each: their number, or the first field from
-// the left that has not its form.
-pub fn against_fields(forms: &[u8], line: &[u8]) -> usize {
-    if field_count(line) != forms.len() {
-        return NUMBER_OF_FIELDS;
+// Whether the fields of a line have these forms, a letter each; if not, the reason: their number, or the first field
+// from the left that has not its form.
+pub fn check_fields(forms: &[u8], line: &[u8]) -> Result<(), Reason> {
+    if Fields::of(line).count() != forms.len() {
+        return Err(Reason::NumberOfFields);
     }
-    let mut i = 0;
-    while i < forms.len() {
-        let form = forms[i];
-        if !has_form(form, field(line, i)) {
-            return against_form(form);
+    for (form, field) in forms.iter().zip(Fields::of(line)) {
+        if !has_form(*form, field) {
+            return Err(against_form(*form));
         }
-        i += 1;
     }
-    NONE
+    Ok(())
 }
 
-// The reason against a line whose fields after the first, none or more, are to have a form: the first that has it not.
-pub fn against_list(form: u8, line: &[u8]) -> usize {
-    let mut start = field_start(line, 1);
-    while start < line.len() {
-        let end = find(line, start, b' ');
-        if start < end && !has_form(form, between(line, start, end)) {
-            return against_form(form);
-        }
-        start = end + 1;
+// The same of a line whose fields after the first, none or more, are to have one form.
+pub fn check_list(form: u8, line: &[u8]) -> Result<(), Reason> {
+    if Fields::of(line).skip(1).all(|field| has_form(form, field)) {
+        Ok(())
+    } else {
+        Err(against_form(form))
     }
-    NONE
 }

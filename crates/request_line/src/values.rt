@@ -1,38 +1,30 @@
 // What a field or the value of a key may hold: numbers, octets, times and validity periods.
 use crate::elements::is_elements;
 use output::hexadecimal::{is_hex_text, read_hex};
-use text_fields::lists::entry_number;
-use text_fields::slices::{after, begins, between, least, same};
+use text_fields::slices::first;
 use tpdu::{Time, UserData};
 
 // How many digits a number may have.
 const MOST_DIGITS: usize = 9;
 
-// What a text counts as that is no such number: more than any of them.
-const NO_NUMBER: u64 = 1000000000;
+// The value of a decimal digit.
+fn digit(c: u8) -> Option<u32> {
+    match c {
+        b'0'..=b'9' => Some(u32::from(c - b'0')),
+        _ => None,
+    }
+}
 
 // A decimal number of at most nine digits.
-pub fn decimal(text: &[u8]) -> u64 {
-    if text.len() == 0 {
-        return NO_NUMBER;
+pub fn decimal(text: &[u8]) -> Option<u32> {
+    if text.is_empty() || MOST_DIGITS < text.len() {
+        return None;
     }
-    if MOST_DIGITS < text.len() {
-        return NO_NUMBER;
+    let mut n = 0u32;
+    for c in text {
+        n = n.checked_mul(10)?.checked_add(digit(*c)?)?;
     }
-    let mut n = 0;
-    let mut i = 0;
-    while i < text.len() {
-        let c = text[i];
-        if c < b'0' {
-            return NO_NUMBER;
-        }
-        if b'9' < c {
-            return NO_NUMBER;
-        }
-        n = n * 10 + (c - b'0') as u64;
-        i += 1;
-    }
-    n
+    Some(n)
 }
 
 // Whether a value is -.
@@ -42,48 +34,63 @@ pub fn is_absent(value: &[u8]) -> bool {
 
 // A value, or nothing where it is -.
 pub fn unless_absent(value: &[u8]) -> &[u8] {
-    if is_absent(value) {
-        return between(value, 0, 0);
-    }
-    value
+    if is_absent(value) { b"" } else { value }
 }
 
 // ---- validity periods: `relative:`, `absolute:` or `enhanced:`, and a value
 
-pub const RELATIVE: usize = 0;
-
-pub const ABSOLUTE: usize = 1;
-
-pub const ENHANCED: usize = 2;
-
-// The format of a validity period; another number where it is none of the three.
-pub fn period_format(value: &[u8]) -> usize {
-    entry_number(b"relative:\nabsolute:\nenhanced:\n", between(value, 0, 9))
+#[derive(Clone, Copy, Debug, PartialEq, Eq)]
+pub enum PeriodFormat {
+    Relative,
+    Absolute,
+    Enhanced,
 }
 
-// What stands after the format.
-pub fn period_value(value: &[u8]) -> &[u8] {
-    after(value, 9)
+// The format of a validity period, and the value after it.
+pub fn period(value: &[u8]) -> Option<(PeriodFormat, &[u8])> {
+    if let Some(octet) = value.strip_prefix(b"relative:") {
+        return Some((PeriodFormat::Relative, octet));
+    }
+    if let Some(digits) = value.strip_prefix(b"absolute:") {
+        return Some((PeriodFormat::Absolute, digits));
+    }
+    let octets = value.strip_prefix(b"enhanced:")?;
+    Some((PeriodFormat::Enhanced, octets))
 }
 
 // ---- the forms of a value
 
 fn is_flag(value: &[u8]) -> bool {
-    value.len() == 1 && decimal(value) < 2
+    match value {
+        b"0" | b"1" => true,
+        _ => false,
+    }
 }
 
 // The width of a reference.
 fn is_width(value: &[u8]) -> bool {
-    let n = decimal(value);
-    n == 8 || n == 16
+    match decimal(value) {
+        Some(8 | 16) => true,
+        _ => false,
+    }
+}
+
+// A number to 255.
+fn octet_number(value: &[u8]) -> Option<u8> {
+    u8::try_from(decimal(value)?).ok()
+}
+
+fn reference(value: &[u8]) -> Option<u16> {
+    u16::try_from(decimal(value)?).ok()
 }
 
 // A number from -128 to 127.
-fn is_zone(value: &[u8]) -> bool {
-    if begins(value, b"-") {
-        return decimal(after(value, 1)) <= 128;
-    }
-    decimal(value) <= 127
+fn zone(value: &[u8]) -> Option<i8> {
+    let quarters = match value.strip_prefix(b"-") {
+        Some(digits) => -i64::from(decimal(digits)?),
+        None => i64::from(decimal(value)?),
+    };
+    i8::try_from(quarters).ok()
 }
 
 pub fn is_octet(value: &[u8]) -> bool {
@@ -96,10 +103,10 @@ pub fn is_octets(value: &[u8]) -> bool {
 
 // The digits of a time are any octets, as they stand; after x: they are given in hexadecimal.
 fn is_time(value: &[u8]) -> bool {
-    if begins(value, b"x:") {
-        return is_octets(after(value, 2));
+    match value.strip_prefix(b"x:") {
+        Some(digits) => is_octets(digits),
+        None => true,
     }
-    true
 }
 
 fn is_seven_octets(value: &[u8]) -> bool {
@@ -107,21 +114,21 @@ fn is_seven_octets(value: &[u8]) -> bool {
 }
 
 fn is_period(value: &[u8]) -> bool {
-    match period_format(value) {
-        RELATIVE => is_octet(period_value(value)),
-        ABSOLUTE => is_time(period_value(value)),
-        ENHANCED => is_seven_octets(period_value(value)),
-        _ => is_absent(value),
+    match period(value) {
+        Some((PeriodFormat::Relative, octet)) => is_octet(octet),
+        Some((PeriodFormat::Absolute, digits)) => is_time(digits),
+        Some((PeriodFormat::Enhanced, octets)) => is_seven_octets(octets),
+        None => is_absent(value),
     }
 }
 
 fn is_outcome(value: &[u8]) -> bool {
-    same(value, b"ack") || is_error(value)
+    value == b"ack".as_slice() || is_error(value)
 }
 
 // Whether the outcome of a report is RP-ERROR.
 pub fn is_error(value: &[u8]) -> bool {
-    same(value, b"error")
+    value == b"error".as_slice()
 }
 
 // Whether a value has the form that a letter stands for: w a word, any; f a flag; n a number to 255; c a number of up
@@ -131,12 +138,12 @@ pub fn has_form(form: u8, value: &[u8]) -> bool {
     match form {
         b'w' => true,
         b'f' => is_flag(value),
-        b'n' => decimal(value) < 256,
-        b'N' => decimal(value) < 256 || is_absent(value),
-        b'c' => decimal(value) < NO_NUMBER,
-        b'r' => decimal(value) < 65536,
+        b'n' => octet_number(value).is_some(),
+        b'N' => octet_number(value).is_some() || is_absent(value),
+        b'c' => decimal(value).is_some(),
+        b'r' => reference(value).is_some(),
         b'b' => is_width(value),
-        b'z' => is_zone(value),
+        b'z' => zone(value).is_some(),
         b'x' | b'd' => is_octet(value),
         b'X' => is_octet(value) || is_absent(value),
         b'o' => is_octets(value),
@@ -152,44 +159,46 @@ pub fn has_form(form: u8, value: &[u8]) -> bool {
 // ---- values that have their form
 
 pub fn flag_of(value: &[u8]) -> bool {
-    decimal(value) == 1
+    value == b"1".as_slice()
 }
 
 pub fn number_of(value: &[u8]) -> u8 {
-    let n = decimal(value);
-    if n < 256 { n as u8 } else { 0 }
+    octet_number(value).unwrap_or(0)
 }
 
 pub fn reference_of(value: &[u8]) -> u16 {
-    let n = decimal(value);
-    if n < 65536 { n as u16 } else { 0 }
-}
-
-// The number as far below zero as n is above.
-fn below_zero(n: u64) -> i8 {
-    if n < 128 { -(n as i8) } else { -128 }
+    reference(value).unwrap_or(0)
 }
 
 pub fn zone_of(value: &[u8]) -> i8 {
-    if begins(value, b"-") {
-        return below_zero(decimal(after(value, 1)));
-    }
-    let n = decimal(value);
-    if n < 128 { n as i8 } else { 127 }
+    zone(value).unwrap_or(0)
 }
 
 pub fn octet_of(value: &[u8]) -> u8 {
     let mut octet = [0u8; 1];
-    read_hex(value, &mut octet);
+    let _ = read_hex(value, &mut octet);
     octet[0]
+}
+
+// How many octets a value holds.
+fn octet_count(value: &[u8]) -> usize {
+    unless_absent(value).len() / 2
 }
 
 // Stores the octets of hexadecimal digits, those that fit; how many there are in all.
 pub fn octets_of(value: &[u8], array: &mut [u8]) -> usize {
-    let digits = unless_absent(value);
-    let n = digits.len() / 2;
-    let kept = least(n, array.len());
-    read_hex(between(digits, 0, 2 * kept), array);
+    let n = octet_count(value);
+    let kept = n.min(array.len());
+    let _ = read_hex(first(unless_absent(value), 2 * kept), array);
+    n
+}
+
+// The same, but stores none where they do not all fit.
+pub fn octets_if_fit(value: &[u8], room: &mut [u8]) -> usize {
+    let n = octet_count(value);
+    if n <= room.len() {
+        octets_of(value, room);
+    }
     n
 }
 
@@ -202,11 +211,12 @@ pub fn data_of(value: &[u8]) -> UserData {
 // The digits of a time, those that fit, and how many there are in all.
 pub fn time_of(value: &[u8]) -> Time {
     let mut digits = [0u8; 14];
-    if begins(value, b"x:") {
-        let length = octets_of(after(value, 2), &mut digits);
+    if let Some(octets) = value.strip_prefix(b"x:") {
+        let length = octets_of(octets, &mut digits);
         return Time { digits, length };
     }
-    output::append(&mut digits, 0, between(value, 0, least(value.len(), 14)));
+    let kept = first(value, 14);
+    digits[..kept.len()].copy_from_slice(kept);
     Time {
         digits,
         length: value.len(),

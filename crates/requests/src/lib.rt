@@ -7,7 +7,7 @@ mod request;
 
 use std::env::{Env, FillError};
 use std::io;
-use text_fields::slices::{between, same};
+use text_fields::slices::first;
 use tpdu::ALPHABET_OCTETS;
 
 // How the program is used.
@@ -60,8 +60,8 @@ docs/REQUESTS.md has the keys and the answers.
 // The default alphabet and its extension table, a line for each code.
 fn print_alphabet<R: Print>(rt: &R) -> io::Result<()> {
     let mut lines = [0u8; ALPHABET_OCTETS];
-    tpdu::alphabet_lines(&mut lines);
-    rt.write_all(&lines)
+    let n = tpdu::alphabet_lines(&mut lines).unwrap_or_default();
+    rt.write_all(first(&lines, n))
 }
 
 // Whether there is an argument of this number.
@@ -75,13 +75,13 @@ fn has_argument<R: Env>(rt: &R, number: usize) -> bool {
 // Does what an argument asks for, if no other follows it.
 fn run_argument<R: Env + Input + Print>(rt: &R, argument: &[u8]) -> io::Result<()> {
     let is_last = !has_argument(rt, 2);
-    if is_last && same(argument, b"show") {
+    if is_last && argument == b"show".as_slice() {
         return lines::answer_requests(rt, true);
     }
-    if is_last && same(argument, b"page") {
+    if is_last && argument == b"page".as_slice() {
         return page::print_page(rt);
     }
-    if is_last && same(argument, b"alphabet") {
+    if is_last && argument == b"alphabet".as_slice() {
         return print_alphabet(rt);
     }
     say_usage(rt)
@@ -94,6 +94,6 @@ pub fn run<R: Env + Input + Print>(rt: &R) -> io::Result<()> {
     match rt.arg(1, &mut argument) {
         Err(FillError::NotPresent) => lines::answer_requests(rt, false),
         Err(FillError::TooLong) => say_usage(rt),
-        Ok(n) => run_argument(rt, between(&argument, 0, n)),
+        Ok(n) => run_argument(rt, first(&argument, n)),
     }
 }

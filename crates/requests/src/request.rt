@@ -1,90 +1,92 @@
 // What a line asks for, and its answer.
+use answers::conversions::{Conversion, conversion_named};
 use answers::fields::Lent;
-use answers::gathering::Store;
+use answers::gathering::{Store, StoreRequest, store_request_named};
 use answers::reading::{Reader, reader_named};
 use answers::{conversions, fields, gathering, reading, writing};
 use output::Output;
-use request_line::{keys, reasons, values};
-use text_fields::fields::{field, last_field};
-use text_fields::slices::{after, begins, between};
-use tpdu::Written;
+use request_line::keys::{Kind, Report, kind_named, report_named};
+use request_line::reasons::{Reason, check_fields, put_bad};
+use request_line::{keys, values};
+use text_fields::fields::{Fields, field};
+use text_fields::slices::first;
+use tpdu::Refusal;
 
-// What a line can ask for: a message read, or read and written back; a record written, by the number of its kind, to the
-// standard's limit of user data or not; a conversion, or something of the store, by its number.
-#[derive(Clone, Copy)]
+// What a line can ask for: a message read, or read and written back; a record written, within the published crate's
+// limit of user data or the standard's; a conversion, or something of the store.
+#[derive(Clone, Copy, Debug, PartialEq, Eq)]
 enum Request {
     Read(Reader),
     Rewrite(Reader),
-    Write(usize, bool),
-    Convert(usize),
-    Gather(usize),
+    Write(Kind),
+    WriteToStandard(Report),
+    Convert(Conversion),
+    Gather(StoreRequest),
 }
 
-fn request_named(name: &[u8]) -> Request {
-    if begins(name, b"enc-standard-") {
-        return Request::Write(keys::report_named(after(name, 13)), true);
+fn request_named(name: &[u8]) -> Option<Request> {
+    if let Some(report) = name.strip_prefix(b"enc-standard-") {
+        return report_named(report).map(Request::WriteToStandard);
     }
-    if begins(name, b"enc-") {
-        return Request::Write(keys::kind_named(after(name, 4)), false);
+    if let Some(kind) = name.strip_prefix(b"enc-") {
+        return kind_named(kind).map(Request::Write);
     }
-    if begins(name, b"re-") {
-        return Request::Rewrite(reader_named(after(name, 3)));
+    if let Some(reader) = name.strip_prefix(b"re-") {
+        return reader_named(reader).map(Request::Rewrite);
     }
-    let request = conversions::request_named(name);
-    if request < conversions::REQUESTS {
-        return Request::Convert(request);
-    }
-    let of_store = gathering::request_named(name);
-    if of_store < gathering::REQUESTS {
-        return Request::Gather(of_store);
-    }
-    Request::Read(reader_named(name))
+    reader_named(name)
+        .map(Request::Read)
+        .or(conversion_named(name).map(Request::Convert))
+        .or(store_request_named(name).map(Request::Gather))
 }
 
-// ---- the reason against a line
-
-fn against_message(reader: Reader, line: &[u8]) -> usize {
-    if let Reader::Unknown = reader {
-        return reasons::UNKNOWN_REQUEST;
-    }
-    reasons::against_fields(b"wo", line)
-}
-
-fn against(request: Request, line: &[u8]) -> usize {
+// Whether the line of a request is well formed, or the reason against it.
+fn check(request: Request, line: &[u8]) -> Result<(), Reason> {
     match request {
-        Request::Read(reader) => against_message(reader, line),
-        Request::Rewrite(reader) => against_message(reader, line),
-        Request::Convert(number) => conversions::against_request(number, line),
-        Request::Gather(number) => gathering::against_request(number, line),
-        Request::Write(kind, _) => keys::against_record(kind, line),
+        Request::Read(_) | Request::Rewrite(_) => check_fields(b"wo", line),
+        Request::Write(kind) => keys::check_record(kind, line),
+        Request::WriteToStandard(report) => keys::check_record(Kind::Report(report), line),
+        Request::Convert(conversion) => conversions::check(conversion, line),
+        Request::Gather(of_store) => gathering::check(of_store, line),
     }
+}
+
+// The request of a line that is well formed.
+fn request_of(line: &[u8]) -> Result<Request, Reason> {
+    let name = field(line, 0).ok_or(Reason::EmptyLine)?;
+    let request = request_named(name).ok_or(Reason::UnknownRequest)?;
+    check(request, line)?;
+    Ok(request)
 }
 
 // ---- answers
 
 // A message for people, in several lines.
-fn show_message(reader: Reader, octets: &[u8], out: &mut Output, at: usize) -> usize {
-    match reader {
-        Reader::Deliver => display::show_deliver(octets, out, at),
-        Reader::Submit => display::show_submit(octets, out, at),
-        Reader::SubmitReportAck => display::show_submit_report_ack(octets, out, at),
-        Reader::SubmitReportError => display::show_submit_report_error(octets, out, at),
-        Reader::DeliverReportAck => display::show_deliver_report_ack(octets, out, at),
-        Reader::DeliverReportError => display::show_deliver_report_error(octets, out, at),
-        Reader::StatusReport => display::show_status_report(octets, out, at),
-        Reader::Unknown => at,
+fn show_message(reader: Reader, octets: &[u8], out: &mut Output) {
+    let shown = match reader {
+        Reader::Deliver => display::show_deliver(octets, out),
+        Reader::Submit => display::show_submit(octets, out),
+        Reader::SubmitReportAck => display::show_submit_report_ack(octets, out),
+        Reader::SubmitReportError => display::show_submit_report_error(octets, out),
+        Reader::DeliverReportAck => display::show_deliver_report_ack(octets, out),
+        Reader::DeliverReportError => display::show_deliver_report_error(octets, out),
+        Reader::StatusReport => display::show_status_report(octets, out),
+    };
+    if let Err(why) = shown {
+        display::show_refusal(why, out);
     }
 }
 
-fn answer_read(reader: Reader, octets: &[u8], show: bool, out: &mut Output, at: usize) -> usize {
+fn answer_read(reader: Reader, octets: &[u8], show: bool, out: &mut Output) -> Result<(), Refusal> {
     if show {
-        return show_message(reader, octets, out, at);
+        show_message(reader, octets, out);
+        return Ok(());
     }
-    reading::answer(reader, octets, out, at)
+    reading::answer(reader, octets, out)
 }
 
 // Reads a message and writes it back.
-fn rewrite(reader: Reader, octets: &[u8], lent: &mut Lent) -> Written {
+fn rewrite(reader: Reader, octets: &[u8], lent: &mut Lent) -> Result<usize, Refusal> {
     match reader {
         Reader::Deliver => tpdu::canonical_deliver(octets, lent),
         Reader::Submit => tpdu::canonical_submit(octets, lent),
@@ -93,55 +95,46 @@ fn rewrite(reader: Reader, octets: &[u8], lent: &mut Lent) -> Written {
         Reader::DeliverReportAck => tpdu::canonical_deliver_report_ack(octets, lent),
         Reader::DeliverReportError => tpdu::canonical_deliver_report_error(octets, lent),
         Reader::StatusReport => tpdu::canonical_status_report(octets, lent),
-        Reader::Unknown => Written::Done(0),
     }
 }
 
-fn answer_rewritten(
-    reader: Reader,
-    octets: &[u8],
-    show: bool,
-    out: &mut Output,
-    at: usize,
-) -> usize {
+fn answer_rewritten(reader: Reader, octets: &[u8], out: &mut Output) -> Result<(), Refusal> {
     let mut lent = [0u8; 255];
-    let w = rewrite(reader, octets, &mut lent);
-    fields::written(out, at, w, &lent, show)
+    let n = rewrite(reader, octets, &mut lent)?;
+    fields::written(out, first(&lent, n));
+    Ok(())
 }
 
-// The answer to a request that is well formed.
+// The answer to a request that is well formed, or the refusal that is the answer.
 fn answer_request(
     request: Request,
     line: &[u8],
     store: &mut Store,
     show: bool,
     out: &mut Output,
-    at: usize,
-) -> usize {
+) -> Result<(), Refusal> {
     let mut array = [0u8; 4096];
-    let n = values::octets_of(last_field(line), &mut array);
-    let octets = between(&array, 0, n);
+    let last = Fields::of(line).last().unwrap_or_default();
+    let n = values::octets_of(last, &mut array);
+    let octets = first(&array, n);
     match request {
-        Request::Read(reader) => answer_read(reader, octets, show, out, at),
-        Request::Rewrite(reader) => answer_rewritten(reader, octets, show, out, at),
-        Request::Convert(number) => conversions::answer(number, line, octets, show, out, at),
-        Request::Gather(number) => gathering::answer(number, line, octets, store, show, out, at),
-        Request::Write(kind, to_standard) => {
-            writing::answer(kind, to_standard, line, show, out, at)
-        }
+        Request::Read(reader) => answer_read(reader, octets, show, out),
+        Request::Rewrite(reader) => answer_rewritten(reader, octets, out),
+        Request::Write(kind) => writing::answer(kind, line, out),
+        Request::WriteToStandard(report) => writing::answer_to_standard(report, line, out),
+        Request::Convert(conversion) => conversions::answer(conversion, line, octets, out),
+        Request::Gather(of_store) => gathering::answer(of_store, line, octets, store, out),
     }
 }
 
 // The answer to a line, without its end.
-pub fn answer(line: &[u8], store: &mut Store, out: &mut Output, at: usize, show: bool) -> usize {
-    let name = field(line, 0);
-    if name.len() == 0 {
-        return reasons::put_bad(out, at, reasons::EMPTY_LINE);
+pub fn answer(line: &[u8], store: &mut Store, out: &mut Output, show: bool) {
+    match request_of(line) {
+        Ok(request) => {
+            if let Err(why) = answer_request(request, line, store, show, out) {
+                fields::refused(out, why, show);
+            }
+        }
+        Err(reason) => put_bad(out, reason),
     }
-    let request = request_named(name);
-    let reason = against(request, line);
-    if reason != reasons::NONE {
-        return reasons::put_bad(out, at, reason);
-    }
-    answer_request(request, line, store, show, out, at)
 }

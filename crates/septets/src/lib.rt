@@ -17,7 +17,7 @@ pub fn octet_or_zero(octets: &[u8], at: usize) -> u16
 }
 
 // A place in the bits of octets: the octet, and the bit in it.
-#[derive(Clone, Copy)]
+#[derive(Clone, Copy, Debug, PartialEq, Eq)]
 pub struct BitPlace {
     pub octet: usize,
     pub shift: usize,
@@ -93,9 +93,7 @@ fn number_from(digits: &[u8], w: usize, at: usize, n: usize) -> u64
     ensures { result ≡ number_of w (take n (drop at digits.now)) }
 {
     let mut number = 0;
-    let mut i = n;
-    while 0 < i {
-        i -= 1;
+    for i in (0..n).rev() {
         number = (number << w) + digits[at + i] as u64;
     }
     number
@@ -130,11 +128,9 @@ fn put_number(out: &mut [u8], at: usize, n: usize, number: u64) -> usize
     ensures { Wrote at (lowest_digits 8 n number) out.old result out.new }
 {
     let mut rest = number;
-    let mut j = 0;
-    while j < n {
+    for j in 0..n {
         out[at + j] = (rest % 256) as u8;
         rest /= 256;
-        j += 1;
     }
     at + n
 }
@@ -157,6 +153,7 @@ pub fn pack_octets(septets: &[u8], fill: usize, out: &mut [u8], at: usize) -> us
     let mut carry = 0;
     let mut i = 0;
     let mut place = at;
+    // A `while`: eight septets a turn, and never the last; what is over of a turn goes to the next.
     while i + 8 < n {
         let window = number_after(septets, i, 8, fill, carry);
         put_number(out, place, 8, window);

@@ -1,5 +1,6 @@
 -- What the checks of a record, and of records in their order, find.
 -- Assumes nothing.
+use Rattle.std.specs.Prelude.{Err, None}
 use Prim.Native.Nat.{ℕ, ◌+◌, ◌<◌, ◌≤◌}
 use mathlib.Core.Path.{◌≡◌, ◌∙◌}
 use mathlib.Core.Bool.{true, false}
@@ -9,9 +10,9 @@ use native.Mathlib.Numerals.{add-one}
 use native.Mathlib.Omega.{arith}
 use borrow.Author.Tests.{leb-true}
 use lib.Dec.{leb, eqb}
-use lib.ListN.{length, get_or, take, drop, drop_of_length-le}
-use lib.Seq.{drop-cons, get_or-take, length-take-le}
-use Rattle.octets.specs.Answers.{fine, refuses}
+use lib.ListN.{length, get_or, drop, drop_of_length-le}
+use lib.Seq.{drop-cons}
+use Rattle.octets.specs.Answers.{fine}
 use Rattle.octets.specs.Checks.{found, ◌unless◌, all_fit}
 use Rattle.octets.specs.Choice.{within}
 use Rattle.octets.specs.Each.{each}
@@ -23,7 +24,6 @@ use Rattle.octets.proofs.Each.{each_means}
 use Rattle.time.specs.Time.{is_hex, is_time, digits_of}
 use Rattle.time.proofs.Laws.{time_means}
 use Rattle.address.specs.Address.{text_held}
-use Rattle.parameters.specs.declared.OptionalOctet.TheVariants.{Absent}
 use Rattle.status_report.specs.StatusReport.{lengths_of, Typed}
 use Rattle.status_report.specs.declared.SmsStatusReport.{SmsStatusReport}
 use Rattle.shift_page.specs.ShiftPage.{printable, report_checks, reports_checks, report_line, ended}
@@ -37,17 +37,17 @@ module _ (r : SmsStatusReport) where
   abbrev pub discharge_of : List ℕ
   discharge_of = digits_of r.tp_discharge_time
 
-  pub lengths_against : all_fit (lengths_of r) ≡ false → found (report_checks r) ≡ refuses LengthTooLarge
+  pub lengths_against : all_fit (lengths_of r) ≡ false → found (report_checks r) ≡ Err LengthTooLarge
   unfolding report_checks
   lengths_against e = rw e
 
   module _ (e : all_fit (lengths_of r) ≡ true) where
-    pub recipient_against : printable recipient_of ≡ false → found (report_checks r) ≡ refuses RecipientNotPrintable
+    pub recipient_against : printable recipient_of ≡ false → found (report_checks r) ≡ Err RecipientNotPrintable
     unfolding report_checks
     recipient_against p = rw (e, p)
 
     module _ (p : printable recipient_of ≡ true) where
-      pub time_against : is_time discharge_of ≡ false → found (report_checks r) ≡ refuses NotATime
+      pub time_against : is_time discharge_of ≡ false → found (report_checks r) ≡ Err NotATime
       unfolding report_checks
       time_against t = rw (e, p, t)
 
@@ -93,14 +93,12 @@ printable_means text =
 -- ---- of records
 
 -- those that pass leave the next to decide
-pub first_against : (rs : List SmsStatusReport) (r : SmsStatusReport) (more : List SmsStatusReport) {why : Refusal} → found (reports_checks rs) ≡ fine → found (report_checks r) ≡ refuses why → found (reports_checks (rs ++ (r ∷ more))) ≡ refuses why
+pub first_against : (rs : List SmsStatusReport) (r : SmsStatusReport) (more : List SmsStatusReport) {why : Refusal} → found (reports_checks rs) ≡ fine → found (report_checks r) ≡ Err why → found (reports_checks (rs ++ (r ∷ more))) ≡ Err why
 unfolding reports_checks
 first_against [] r more e a = against (reports_checks more) (report_checks r) a
 first_against (q ∷ rs) r more e a =
     let (f, g) = both_hold (report_checks q) (reports_checks rs) e in
     passed (reports_checks (rs ++ (r ∷ more))) (report_checks q) f ∙ first_against rs r more g a
-
--- a loop has passed the first i of so many
 
 -- what the code reads outside an array
 abbrev pub nowhere : SmsStatusReport
@@ -114,48 +112,47 @@ nowhere = record {
   tp_service_centre_timestamp = record { digits = []; length = 0 };
   tp_discharge_time = record { digits = []; length = 0 };
   tp_status = 0;
-  tp_parameter_indicator = Absent;
-  tp_pid = Absent;
-  tp_dcs = Absent;
-  tp_user_data_length = Absent;
+  tp_parameter_indicator = None;
+  tp_pid = None;
+  tp_dcs = None;
+  tp_user_data_length = None;
   tp_user_data = record { octets = []; length = 0 };
 }
 
-module _ (reports : List SmsStatusReport) (count i : ℕ) (room : count ≤ length reports) where
-  abbrev rest : List SmsStatusReport
-  rest = drop (i + 1) (take count reports)
+-- a loop has passed the first i of so many
+module _ (rs : List SmsStatusReport) (i : ℕ) where
+  module _ (h : i < length rs) where
+    abbrev rest : List SmsStatusReport
+    rest = drop (i + 1) rs
 
-  abbrev report : SmsStatusReport
-  report = get_or reports i nowhere
+    abbrev report : SmsStatusReport
+    report = get_or rs i nowhere
 
-  -- one more record
-  next_report : i < count → drop i (take count reports) ≡ report ∷ rest
-  next_report h = let l = length-take-le count reports room in rw (add-one, drop-cons (take count reports) i nowhere (omega arith), get_or-take count reports i nowhere h)
+    -- one more record
+    next_report : drop i rs ≡ report ∷ rest
+    next_report = rw (add-one, drop-cons rs i nowhere h)
 
-  no_report : count ≤ i → drop i (take count reports) ≡ []
-  no_report h = let l = length-take-le count reports room in drop_of_length-le (take count reports) {i = i} (omega arith)
-
-  module _ (h : i < count) where
-    pub report_passed : found (report_checks report) ≡ fine → found (reports_checks (drop i (take count reports))) ≡ found (reports_checks rest)
+    pub report_passed : found (report_checks report) ≡ fine → found (reports_checks (drop i rs)) ≡ found (reports_checks rest)
     unfolding reports_checks
-    report_passed e = rw (next_report h) (passed (reports_checks rest) (report_checks report) e)
+    report_passed e = rw next_report (passed (reports_checks rest) (report_checks report) e)
 
-    pub report_against : {why : Refusal} → found (report_checks report) ≡ refuses why → found (reports_checks (drop i (take count reports))) ≡ refuses why
+    pub report_against : {why : Refusal} → found (report_checks report) ≡ Err why → found (reports_checks (drop i rs)) ≡ Err why
     unfolding reports_checks
-    report_against e = rw (next_report h) (against (reports_checks rest) (report_checks report) e)
+    report_against e = rw next_report (against (reports_checks rest) (report_checks report) e)
 
-    pub both_fine : found (reports_checks (drop i (take count reports))) ≡ fine → (found (report_checks report) ≡ fine) × (found (reports_checks rest) ≡ fine)
+    pub both_fine : found (reports_checks (drop i rs)) ≡ fine → (found (report_checks report) ≡ fine) × (found (reports_checks rest) ≡ fine)
     unfolding reports_checks
-    both_fine e = both_hold (report_checks report) (reports_checks rest) (rw (next_report h) at e)
+    both_fine e = both_hold (report_checks report) (reports_checks rest) (rw next_report at e)
 
-    pub next_line : ended (map report_line (drop i (take count reports))) ≡ ended (report_line report ∷ []) ++ ended (map report_line rest)
+    pub next_line : ended (map report_line (drop i rs)) ≡ ended (report_line report ∷ []) ++ ended (map report_line rest)
     unfolding ended
-    next_line = rw (next_report h, append_assoc)
+    next_line = rw (next_report, append_assoc)
 
-  pub no_lines : count ≤ i → ended (map report_line (drop i (take count reports))) ≡ []
-  unfolding ended
-  no_lines h = rw (no_report h)
+  module _ (h : length rs ≤ i) where
+    pub no_lines : ended (map report_line (drop i rs)) ≡ []
+    unfolding ended
+    no_lines = rw (drop_of_length-le rs h)
 
-  pub reports_end : count ≤ i → found (reports_checks (drop i (take count reports))) ≡ fine
-  unfolding reports_checks
-  reports_end h = rw (no_report h)
+    pub reports_end : found (reports_checks (drop i rs)) ≡ fine
+    unfolding reports_checks
+    reports_end = rw (drop_of_length-le rs h)

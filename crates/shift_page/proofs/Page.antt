@@ -1,5 +1,6 @@
 -- The page is lines of 38 characters, so many octets long; and what is made of records, case by case.
 -- Assumes nothing.
+use Rattle.std.specs.Prelude.{Err}
 use Prim.Native.Nat.{ℕ, zero, suc, ◌+◌, ◌-◌, ◌*◌, ◌/◌, ◌%◌, ◌≤◌, ◌<◌}
 use Prim.Native.Char.{code}
 use mathlib.Core.Path.{◌≡◌, refl, ◌∙◌}
@@ -9,7 +10,7 @@ use native.Mathlib.Omega.{arith}
 use borrow.Author.Tests.{lt-ltb, le-ltb, ltb-true, ltb-false, eqb-true, ne_eqb, leb-true}
 use lib.Dec.{eqb, ltb}
 use lib.ListN.{length, take, replicate, length-append, length-map, get_or-eq_default}
-use Rattle.octets.specs.Answers.{Said, gives, refuses, fine}
+use Rattle.octets.specs.Answers.{Said, fine}
 use Rattle.octets.specs.Checks.{found}
 use Rattle.octets.specs.Choice.{within}
 use Rattle.octets.specs.Decimal.{significant, decimal_text}
@@ -146,14 +147,14 @@ module _ (rs : List SmsStatusReport) (n : ℕ) where
   too_many h = rw (lt-ltb 99 n h)
 
   -- and the lent buffer stays
-  pub many_refused : (out : List ℕ) → 99 < n → ◌≡◌ {A = Said ℕ × List ℕ} (refuses TooManyRecords, out) (lend refuses (paging rs n) out)
-  many_refused out h = lent_refused refuses out TooManyRecords (too_many h)
+  pub many_refused : (out : List ℕ) → 99 < n → ◌≡◌ {A = Said ℕ × List ℕ} (Err TooManyRecords, out) (lend (paging rs n) out)
+  many_refused out h = lent_refused out TooManyRecords (too_many h)
 
   module _ (h : n ≤ 99) where
-    pub one_refuses : {why : Refusal} → found (reports_checks (take n rs)) ≡ refuses why → paging rs n ≡ refused why
+    pub one_refuses : {why : Refusal} → found (reports_checks (take n rs)) ≡ Err why → paging rs n ≡ refused why
     unfolding paging
     one_refuses e = rw (le-ltb 99 n h) (one_against (shift_page (take n rs)) (reports_checks (take n rs)) e)
 
-    pub page_made : found (reports_checks (take n rs)) ≡ fine → paging rs n ≡ made (shift_page (take n rs)) (gives (length (shift_page (take n rs))))
+    pub page_made : found (reports_checks (take n rs)) ≡ fine → paging rs n ≡ made (shift_page (take n rs)) (length (shift_page (take n rs)))
     unfolding paging
     page_made e = rw (le-ltb 99 n h) (all_passed (shift_page (take n rs)) (reports_checks (take n rs)) e)

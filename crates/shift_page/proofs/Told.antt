@@ -1,5 +1,6 @@
 -- What a page tells: line k + 1 tells record k, and the last line the number of records. So equal pages are of records that tell the same.
 -- Assumes nothing.
+use Rattle.std.specs.Prelude.{Ok}
 use Prim.Native.Nat.{ℕ, zero, suc, ◌+◌, ◌*◌, ◌/◌, ◌%◌, ◌<◌, ◌≤◌}
 use Prim.Native.Char.{code}
 use mathlib.Core.Path.{◌≡◌, refl, sym, ap, ◌∙◌}
@@ -11,7 +12,7 @@ use borrow.Author.Tests.{ltb-false}
 use lib.Dec.{ltb}
 use lib.ListN.{length, get_or, take, drop, length-append, length-map, length-take, get_or-append, get_or-map}
 use lib.Seq.{length-take-le, take_at, get_or_at, take_all, drop-append-add, get_or-append-add}
-use Rattle.octets.specs.Answers.{Said, gives, refuses, fine}
+use Rattle.octets.specs.Answers.{fine}
 use Rattle.octets.specs.Checks.{found}
 use Rattle.octets.specs.Each.{Octets}
 use Rattle.octets.specs.Lent.{made, lend}
@@ -135,19 +136,19 @@ module _ (rs : List SmsStatusReport) (e : found (reports_checks rs) ≡ fine) (f
 -- ---- what was made, and what was written to a lent buffer
 
 module _ (rs : List SmsStatusReport) (n : ℕ) where
-  pub made_tells : {octets : List ℕ} {answer : Said ℕ} → Octets (statuses (take n rs)) → paging rs n ≡ made octets answer → Tells octets (take n rs)
+  pub made_tells : {octets : List ℕ} {count : ℕ} → Octets (statuses (take n rs)) → paging rs n ≡ made octets count → Tells octets (take n rs)
   unfolding paging
   made_tells o m =
       let (few, c) = made_unless TooManyRecords (ltb 99 n) m in
       let (f, is) = made_told (reports_checks (take n rs)) (shift_page (take n rs)) c in
       rw (← is) (page_tells (take n rs) f (rw length-take (omega (arith, ltb-false 99 n few))) o)
 
-  counts : (xs : List ℕ) (a : Said ℕ) → paging rs n ≡ made xs a → a ≡ gives (length xs)
+  counts : (xs : List ℕ) (a : ℕ) → paging rs n ≡ made xs a → a ≡ length xs
   unfolding paging
   counts xs a m = made_counts (reports_checks (take n rs)) (shift_page (take n rs)) (made_unless TooManyRecords (ltb 99 n) m).1
 
   -- the octets that `shift_page` wrote, as many as it answers, tell the records
-  pub written_tells : Octets (statuses (take n rs)) → (buffer : List ℕ) (k : ℕ) → (lend refuses (paging rs n) buffer).0 ≡ gives k → Tells (take k (lend refuses (paging rs n) buffer).1) (take n rs)
+  pub written_tells : Octets (statuses (take n rs)) → (buffer : List ℕ) (k : ℕ) → (lend (paging rs n) buffer).0 ≡ Ok k → Tells (take k (lend (paging rs n) buffer).1) (take n rs)
   written_tells o buffer k e = made_tells o (written (paging rs n) buffer k counts e)
 
 -- pages that are equal are of as many records, which tell the same in their order

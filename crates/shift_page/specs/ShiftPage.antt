@@ -1,7 +1,6 @@
 -- The shift page: status reports laid out as lines of 38 characters and a line feed.
-use Rattle.std.specs.Prelude.{ℕ, ◌-◌, ◌≡◌, refl, Bool, false, ◌&&◌, List, [], ◌∷◌, ◌++◌, map, leb, ltb, length, take, replicate, if◌then◌else◌}
+use Rattle.std.specs.Prelude.{ℕ, ◌-◌, ◌≡◌, refl, Bool, false, ◌&&◌, List, [], ◌∷◌, ◌++◌, map, leb, ltb, length, take, replicate, if◌then◌else◌, None}
 use Prim.Native.Char.{code}
-use Rattle.octets.specs.Answers.{Said}
 use Rattle.octets.specs.Arrays.{pad}
 use Rattle.octets.specs.Checks.{Check, ◌unless◌, checked, all_fit}
 use Rattle.octets.specs.Choice.{within}
@@ -13,7 +12,6 @@ use Rattle.octets.specs.declared.Refusal.TheVariants.{LengthTooLarge, NotATime, 
 use Rattle.coding.specs.Coding.{data_with}
 use Rattle.time.specs.Time.{hex_digit, in_hex, is_time, time_in, digits_of}
 use Rattle.address.specs.Address.{address_with, text_held}
-use Rattle.parameters.specs.declared.OptionalOctet.TheVariants.{Absent}
 use Rattle.status_report.specs.StatusReport.{lengths_of}
 use Rattle.status_report.specs.declared.SmsStatusReport.{SmsStatusReport}
 
@@ -70,7 +68,7 @@ reports_checks [] = []
 reports_checks (r ∷ rs) = report_checks r ++ reports_checks rs
 
 -- ---- what is made of the first n of the records given: 33 before any of them is looked at, then their checks, then the page
-unfoldable pub paging : List SmsStatusReport → ℕ → Making (Said ℕ)
+unfoldable pub paging : List SmsStatusReport → ℕ → Making ℕ
 paging rs n = if ltb 99 n then refused TooManyRecords else checked (reports_checks (take n rs)) (shift_page (take n rs))
 
 -- ---- known rows: no report, and one
@@ -86,10 +84,10 @@ known = record {
   tp_service_centre_timestamp = time_in [];
   tp_discharge_time = record { digits = codes "240215123045fA"; length = 14 };
   tp_status = 0x4f;
-  tp_parameter_indicator = Absent;
-  tp_pid = Absent;
-  tp_dcs = Absent;
-  tp_user_data_length = Absent;
+  tp_parameter_indicator = None;
+  tp_pid = None;
+  tp_dcs = None;
+  tp_user_data_length = None;
   tp_user_data = data_with [];
 }
 

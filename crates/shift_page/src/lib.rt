@@ -1,14 +1,14 @@
 // The shift page: status reports in lines of 38 characters and a line feed.
 #![tactic(auto)]
 
-ghost use Rattle.std.specs.Prelude.{◌≡◌, [], ◌∷◌, ◌++◌, map, ◌+◌, ◌*◌, ◌≤◌, length, take};
-ghost use Rattle.octets.specs.Answers.{fine, refuses, checked_says, written_says};
+ghost use Rattle.std.specs.Prelude.{◌≡◌, [], ◌∷◌, ◌++◌, map, ◌+◌, ◌*◌, ◌≤◌, length, take, Err};
+ghost use Rattle.octets.specs.Answers.{fine};
 ghost use Rattle.octets.specs.Checks.{found};
 ghost use Rattle.octets.specs.Lent.{Wrote, lend};
 ghost use Rattle.time.specs.Time.{in_hex};
 ghost use Rattle.shift_page.specs.ShiftPage.{fields, heading, report_line, total_line, ended, printable, report_checks, reports_checks, paging};
 
-use octets::{Checked, Refusal, Written};
+use octets::Refusal;
 use status_report::SmsStatusReport;
 
 // ---- checks
@@ -17,56 +17,40 @@ use status_report::SmsStatusReport;
 fn is_printable(text: &[u8]) -> bool
     ensures { result ≡ printable text.now }
 {
-    if 20 < text.len() {
-        return false;
-    }
-    let mut i = 0;
-    while i < text.len() {
-        let c = text[i];
-        if !((0x20 <= c) & (c <= 0x7E)) {
-            return false;
-        }
-        i += 1;
-    }
-    true
+    text.len() <= 20 && text.iter().all(|c| (0x20..=0x7E).contains(c))
 }
 
 // Whether a record has a line.
-fn check_report(r: SmsStatusReport) -> Checked
-    ensures { checked_says result ≡ found (report_checks r) }
+fn check_report(r: SmsStatusReport) -> Result<(), Refusal>
+    ensures { result ≡ found (report_checks r) }
 {
     let n = r.tp_recipient_address.address_length;
     let m = r.tp_service_centre_timestamp.length;
     let l = r.tp_discharge_time.length;
     let k = r.tp_user_data.length;
     if !((n <= 290) & ((m <= 14) & ((l <= 14) & (k <= 255)))) {
-        return Checked::Against(Refusal::LengthTooLarge);
+        return Err(Refusal::LengthTooLarge);
     }
     let recipient = r.tp_recipient_address.address;
     if !is_printable(&recipient[..n]) {
-        return Checked::Against(Refusal::RecipientNotPrintable);
+        return Err(Refusal::RecipientNotPrintable);
     }
     let digits = r.tp_discharge_time.digits;
     if !time::is_time(&digits[..l]) {
-        return Checked::Against(Refusal::NotATime);
+        return Err(Refusal::NotATime);
     }
-    Checked::Fine
+    Ok(())
 }
 
 // Whether the first `count` records have lines.
-fn check_reports(reports: [SmsStatusReport; 99], count: usize) -> Checked
+fn check_reports(reports: [SmsStatusReport; 99], count: usize) -> Result<(), Refusal>
     requires { count ≤ 99 }
-    ensures { checked_says result ≡ found (reports_checks (take count reports)) }
+    ensures { result ≡ found (reports_checks (take count reports)) }
 {
-    let mut i = 0;
-    while i < count {
-        let report = reports[i];
-        if let Checked::Against(why) = check_report(report) {
-            return Checked::Against(why);
-        }
-        i += 1;
+    for report in &reports[..count] {
+        check_report(*report)?;
     }
-    Checked::Fine
+    Ok(())
 }
 
 // ---- lines: each function writes from `at` on, and gives the place after what it wrote
@@ -118,11 +102,8 @@ fn put_reports(reports: [SmsStatusReport; 99], count: usize, out: &mut [u8], at:
     ensures { Wrote at (ended (map report_line (take count reports))) out.old result out.new }
 {
     let mut next = at;
-    let mut i = 0;
-    while i < count {
-        let report = reports[i];
-        next = put_report(out, next, report);
-        i += 1;
+    for report in &reports[..count] {
+        next = put_report(out, next, *report);
     }
     next
 }
@@ -142,19 +123,21 @@ fn put_total(out: &mut [u8], at: usize, n: usize) -> usize
 
 // Lays out the first `count` records as a page, at the start of a lent output.
 #[tactic(auto, using(crate::proofs::Page::many_refused))]
-pub fn shift_page(reports: [SmsStatusReport; 99], count: usize, out: &mut [u8]) -> Written
-    ensures { (written_says result, out.new) ≡ lend refuses (paging reports count) out.old }
+pub fn shift_page(
+    reports: [SmsStatusReport; 99],
+    count: usize,
+    out: &mut [u8],
+) -> Result<usize, Refusal>
+    ensures { (result, out.new) ≡ lend (paging reports count) out.old }
 {
     if 99 < count {
-        return Written::Refused(Refusal::TooManyRecords);
+        return Err(Refusal::TooManyRecords);
     }
-    if let Checked::Against(why) = check_reports(reports, count) {
-        return Written::Refused(why);
-    }
+    check_reports(reports, count)?;
     if out.len() < 39 * (count + 2) {
-        return Written::Refused(Refusal::OutputTooShort);
+        return Err(Refusal::OutputTooShort);
     }
     let first = put_heading(out, 0);
     let last = put_reports(reports, count, out, first);
-    Written::Done(put_total(out, last, count))
+    Ok(put_total(out, last, count))
 }

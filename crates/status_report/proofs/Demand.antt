@@ -9,7 +9,7 @@ use borrow.Author.Tests.{eqb-true}
 use lib.Dec.{eqb, ltb}
 use lib.ListN.{length}
 use Rattle.octets.specs.Checks.{checked}
-use Rattle.std.specs.Prelude.{if◌then◌else◌}
+use Rattle.std.specs.Prelude.{if◌then◌else◌, Some, None, Option}
 use Rattle.octets.specs.Each.{Octets}
 use Rattle.octets.specs.Lent.{refused}
 use Rattle.octets.specs.declared.Refusal.TheVariants.{LengthTooLarge, NotATime, AddressTooLong}
@@ -29,8 +29,6 @@ use Rattle.layout.proofs.Demand.{Answers, answers_checked, Writes, demand3, answ
 use Rattle.parameters.specs.Layout.{parameters}
 use Rattle.parameters.specs.Optional.{octets_held}
 use Rattle.parameters.specs.Parameters.{Parameters, parameters_octets, no_parameters}
-use Rattle.parameters.specs.declared.OptionalOctet.{OptionalOctet}
-use Rattle.parameters.specs.declared.OptionalOctet.TheVariants.{Absent, Present}
 use Rattle.parameters.proofs.Checking.{answers}
 use Rattle.parameters.proofs.Made.{Held, parameters_make}
 use Rattle.status_report.proofs.RecordWritten.{fits}
@@ -64,14 +62,14 @@ made_cleared x = rw (address_cleared x.ra, time_cleared x.scts, time_cleared x.d
 -- ---- a record that was read: its octets, and how its checks fare
 
 module _ (x : ℕ) (mti : eqb (message_type (kept bits x)) 2 ≡ true) (mr : ℕ) (f : List ℕ) (wf : AddressField f) (t : List ℕ) (ot : Octets t) (wt : 7 ≡ length t) (u : List ℕ) (ou : Octets u) (wu : 7 ≡ length u) (st : ℕ) where
-  abbrev make : OptionalOctet → Parameters → SmsStatusReport
+  abbrev make : Option ℕ → Parameters → SmsStatusReport
   make pi p = status_reported (fields_with (kept bits x) mr (canonical_address f) t u st pi p)
 
   -- the fields up to status, and these
   abbrev to_status : List Field → List Field
   to_status cs = stands_as (first bits) (kept bits x ∷ []) ∷ stands_as octet (mr ∷ []) ∷ stands_as address (canonical_address f) ∷ stands_as (octets any 7) t ∷ stands_as (octets any 7) u ∷ stands_as octet (st ∷ []) ∷ cs
 
-  module _ (pi : OptionalOctet) (p : Parameters) (few : length p.ud ≤ 255) where
+  module _ (pi : Option ℕ) (p : Parameters) (few : length p.ud ≤ 255) where
     abbrev octets_read : List ℕ
     octets_read = kept bits x ∷ mr ∷ (canonical_address f ++ (t ++ (u ++ (st ∷ (octets_held pi ++ parameters_octets p)))))
 
@@ -96,14 +94,14 @@ module _ (x : ℕ) (mti : eqb (message_type (kept bits x)) 2 ≡ true) (mr : ℕ
         answer = rw (its_making, ← j) (answers_checked (ltb 12 (length (canonical_address f))) AddressTooLong _ octets_read (any_past_limit cs) (a octets_read));
       }
 
-  ended : Writes cleared status_reporting octets_of (make Absent no_parameters) (to_status [])
+  ended : Writes cleared status_reporting octets_of (make None no_parameters) (to_status [])
   unfolding optional_checks checked
-  ended = written Absent no_parameters (omega arith) [] refl (λ xs. refl)
+  ended = written None no_parameters (omega arith) [] refl (λ xs. refl)
 
   with_indicator_lem : (i : ℕ) (p : Parameters) (ds : List Field) → Held i p ds
-      → Writes cleared status_reporting octets_of (make (Present i) p) (to_status (stands_as indicator (i ∷ []) ∷ ds))
+      → Writes cleared status_reporting octets_of (make (Some i) p) (to_status (stands_as indicator (i ∷ []) ∷ ds))
   unfolding optional_checks
-  with_indicator_lem i p ds h = written (Present i) p h.few (stands_as indicator (i ∷ []) ∷ ds) (ap (λ (xs : List ℕ). i ∷ xs) h.octets) (λ xs. answers h.agrees h.limit xs)
+  with_indicator_lem i p ds h = written (Some i) p h.few (stands_as indicator (i ∷ []) ∷ ds) (ap (λ (xs : List ℕ). i ∷ xs) h.octets) (λ xs. answers h.agrees h.limit xs)
 
 fields_make : Makes (λ x cs. Writes cleared status_reporting octets_of (status_reported x) cs) fields
 unfolding fields

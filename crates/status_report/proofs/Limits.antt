@@ -1,5 +1,6 @@
 -- STATUS-REPORT's writers differ in the limit of user data alone.
 -- Assumes nothing.
+use Rattle.std.specs.Prelude.{Some, None, Option}
 use Prim.Native.Nat.{ℕ, ◌≤◌}
 use mathlib.Core.Path.{◌≡◌, sym, ◌∙◌}
 use mathlib.Core.List.{List, [], ◌∷◌, ◌++◌, append_assoc}
@@ -7,7 +8,7 @@ use native.Mathlib.Omega.{arith}
 use borrow.Author.Tests.{eqb-true}
 use lib.Dec.{eqb}
 use lib.ListN.{length, length-append}
-use Rattle.octets.specs.Answers.{Said, fine}
+use Rattle.octets.specs.Answers.{fine}
 use Rattle.octets.specs.Checks.{Check, ◌unless◌, found, checked, all_fit}
 use Rattle.octets.specs.Lent.{Making, made}
 use Rattle.octets.specs.declared.Refusal.TheVariants.{LengthTooLarge, NotATime, ParametersWithoutIndicator}
@@ -19,8 +20,6 @@ use Rattle.address.specs.Writing.{address_checks}
 use Rattle.parameters.specs.Checking.{indicator_checks, data_within}
 use Rattle.parameters.specs.Limits.{Limits}
 use Rattle.parameters.specs.Parameters.{Parameters, parameters_octets}
-use Rattle.parameters.specs.declared.OptionalOctet.{OptionalOctet}
-use Rattle.parameters.specs.declared.OptionalOctet.TheVariants.{Absent, Present}
 use Rattle.parameters.proofs.Limits.{limits, keeps, moves, writing}
 use Rattle.status_report.specs.StatusReport.{lengths_of, parameters_of, octets_of, optional_checks, status_reporting_within}
 use Rattle.status_report.specs.declared.SmsStatusReport.{SmsStatusReport}
@@ -35,7 +34,7 @@ front r =
     (LengthTooLarge unless all_fit (lengths_of r)) ∷ (address_checks recipient.ton recipient.npi (text_held recipient) ++ ((NotATime unless is_time (digits_of r.tp_service_centre_timestamp)) ∷ (NotATime unless is_time (digits_of r.tp_discharge_time)) ∷ []))
 
 -- what is made with an indicator or none
-abbrev with : SmsStatusReport → OptionalOctet → ℕ → Making (Said ℕ)
+abbrev with : SmsStatusReport → Option ℕ → ℕ → Making ℕ
 with r pi limit = checked (front r ++ optional_checks limit pi (parameters_of r)) (octets_of r)
 
 optional_last : (limit : ℕ) (r : SmsStatusReport) → status_reporting_within limit r ≡ with r r.tp_parameter_indicator limit
@@ -45,7 +44,7 @@ optional_last limit r =
     rw (append_assoc (address_checks recipient.ton recipient.npi (text_held recipient)) ((NotATime unless is_time (digits_of r.tp_service_centre_timestamp)) ∷ (NotATime unless is_time (digits_of r.tp_discharge_time)) ∷ []) (optional_checks limit r.tp_parameter_indicator (parameters_of r)))
 
 -- without an indicator there are no user data, and no limit is looked at
-none_held : (limit : ℕ) (p : Parameters) → found (optional_checks limit Absent p) ≡ fine → length p.ud ≤ 0
+none_held : (limit : ℕ) (p : Parameters) → found (optional_checks limit None p) ≡ fine → length p.ud ≤ 0
 unfolding optional_checks
 none_held limit p e =
     let none = simp length-append at (eqb-true (length (parameters_octets p)) 0 (holds ParametersWithoutIndicator (eqb (length (parameters_octets p)) 0) [] e).0) in
@@ -56,19 +55,19 @@ module _ (r : SmsStatusReport) (i : ℕ) where
   abbrev indicated : List Check
   indicated = indicator_checks i r.tp_pid r.tp_dcs r.tp_user_data_length
 
-  data_last : (limit : ℕ) → with r (Present i) limit ≡ writing (front r ++ indicated) r.tp_dcs r.tp_user_data_length (count r) (octets_of r) limit
+  data_last : (limit : ℕ) → with r (Some i) limit ≡ writing (front r ++ indicated) r.tp_dcs r.tp_user_data_length (count r) (octets_of r) limit
   unfolding optional_checks
   data_last limit = rw (append_assoc (front r) indicated (data_within limit r.tp_dcs r.tp_user_data_length (count r)))
 
-module _ (r : SmsStatusReport) (limit : ℕ) (octets : List ℕ) (answer : Said ℕ) where
-  keeps_with : (pi : OptionalOctet) → with r pi limit ≡ made octets answer → count r ≤ limit
-  keeps_with Absent e = omega (arith, none_held limit (parameters_of r) (both_hold (front r) (optional_checks limit Absent (parameters_of r)) (made_told _ _ e).0).1)
-  keeps_with (Present i) e = keeps (front r ++ indicated r i) _ _ (count r) (octets_of r) limit octets answer (sym (data_last r i limit) ∙ e)
+module _ (r : SmsStatusReport) (limit : ℕ) (octets : List ℕ) (answer : ℕ) where
+  keeps_with : (pi : Option ℕ) → with r pi limit ≡ made octets answer → count r ≤ limit
+  keeps_with None e = omega (arith, none_held limit (parameters_of r) (both_hold (front r) (optional_checks limit None (parameters_of r)) (made_told _ _ e).0).1)
+  keeps_with (Some i) e = keeps (front r ++ indicated r i) _ _ (count r) (octets_of r) limit octets answer (sym (data_last r i limit) ∙ e)
 
-  moves_with : (other : ℕ) (pi : OptionalOctet) → with r pi limit ≡ made octets answer → count r ≤ other → with r pi other ≡ made octets answer
+  moves_with : (other : ℕ) (pi : Option ℕ) → with r pi limit ≡ made octets answer → count r ≤ other → with r pi other ≡ made octets answer
   unfolding optional_checks
-  moves_with other Absent e h = e
-  moves_with other (Present i) e h = data_last r i other ∙ moves (front r ++ indicated r i) _ _ (count r) (octets_of r) limit octets answer (sym (data_last r i limit) ∙ e) other h
+  moves_with other None e h = e
+  moves_with other (Some i) e h = data_last r i other ∙ moves (front r ++ indicated r i) _ _ (count r) (octets_of r) limit octets answer (sym (data_last r i limit) ∙ e) other h
 
 pub status_report_limits : Limits status_reporting_within count
 status_report_limits =

@@ -1,5 +1,6 @@
 -- The answer by the fields that were found, and the record of fields that are there.
 -- Assumes nothing.
+use Rattle.std.specs.Prelude.{Ok, Err}
 use Prim.Native.Nat.{ℕ, ◌+◌, ◌-◌, ◌/◌, ◌%◌}
 use mathlib.Core.Path.{◌≡◌, refl, sym}
 use mathlib.Core.List.{List}
@@ -7,8 +8,6 @@ use native.Mathlib.Nat.{add-zero}
 use lib.Dec.{eqb}
 use lib.ListN.{take, drop}
 use Rattle.octets.specs.Each.{Octets}
-use Rattle.octets.specs.Answers.{Said, refuses}
-use Rattle.octets.specs.declared.Outcome.{Outcome}
 use Rattle.octets.specs.declared.Refusal.{Refusal}
 use Rattle.octets.proofs.Laws.{part_is}
 use Rattle.coding.specs.Coding.{data_with}
@@ -18,41 +17,35 @@ use Rattle.time.specs.declared.Time.{Time}
 use Rattle.gsm7.specs.Reading.{replaced_in, replaced_in_all}
 use Rattle.address.specs.Address.{address_in, address_size, septets_read}
 use Rattle.address.specs.declared.SMSAddress.{SMSAddress}
-use Rattle.layout.specs.Layout.{done, read, read_from, answer, replaced_of}
+use Rattle.layout.specs.Layout.{done, read, reached, halted, read_from, answer}
 use Rattle.layout.proofs.Fields.{address_there}
 use Rattle.layout.proofs.FirstOctet.{kept_bit}
 use Rattle.layout.proofs.Steps.{done_reached, then_goes_on, then_ends}
 use Rattle.status_report.specs.Layout.{bits, fields}
-use Rattle.status_report.specs.Internal.{fields_at, found_says, Inside}
+use Rattle.status_report.specs.Internal.{fields_at, reached_at, Inside}
 use Rattle.status_report.specs.declared.reading.StatusReportFields.{StatusReportFields}
-use Rattle.status_report.specs.declared.reading.StatusReportFound.{StatusReportFound}
-use Rattle.status_report.specs.declared.SmsStatusReport.{SmsStatusReport}
 use Rattle.status_report.specs.declared.StatusReportRead.{StatusReportRead}
-use Rattle.status_report.specs.StatusReport.{status_reported, format, status_report, blank, status_report_read_says, texts_read}
+use Rattle.status_report.specs.StatusReport.{status_reported, format, status_report, read_with}
 
 -- ---- the answer
 
--- what fields that were found, or a refusal, come to
-abbrev Answers : List ℕ → (Said Unit × SmsStatusReport) × ℕ → Type 0
-Answers s a = a ≡ (answer blank (read status_report s), replaced_of (texts_read s) (read status_report s))
+module _ (s : List ℕ) where
+  -- fields that were found, or a refusal, come to what the layout gives of the record
+  pub answer_refused : {why : Refusal} → halted why ≡ read_from fields s 0 → Err why ≡ answer (read_with s) (read status_report s)
+  unfolding read format
+  answer_refused e = rw (then_ends s fields 0 (sym e) (λ x. done (status_reported x)))
 
-pub answer_refused : (s : List ℕ) (why : Refusal) (r : SmsStatusReport) → found_says s (StatusReportFound.Refused why) ≡ read_from fields s 0 → r ≡ blank → Answers s ((refuses why, r), 0)
-unfolding read format
-answer_refused s why r e is = rw (then_ends s fields 0 (sym e) (λ x. done (status_reported x)), is)
-
-pub answer_done : (s : List ℕ) (f : StatusReportFields) (r : StatusReportRead) → found_says s (StatusReportFound.Whole f) ≡ read_from fields s 0
-    → (let m = status_reported (fields_at s f) in r ≡ record { outcome = Outcome.Done; message = m; replaced_escapes = replaced_in_all (texts_read s m) }) → Answers s (status_report_read_says r)
-unfolding read format
-answer_done s f r e is = rw (then_goes_on s fields 0 (sym e) (λ x. done (status_reported x)), done_reached, is)
+  pub answer_done : (f : StatusReportFields) → reached (fields_at s f) (reached_at f) ≡ read_from fields s 0 → Ok (read_with s (status_reported (fields_at s f)) (reached_at f)) ≡ answer (read_with s) (read status_report s)
+  unfolding read format
+  answer_done f e = rw (then_goes_on s fields 0 (sym e) (λ x. done (status_reported x)), done_reached)
 
 -- ---- the record
 
-pub message_is : (s : List ℕ) → Octets s → (f : StatusReportFields) → Inside s 2 (StatusReportFound.Whole f)
+pub message_is : (s : List ℕ) → Octets s → (f : StatusReportFields) → Inside s 2 f
     → (a : SMSAddress) → a ≡ address_in (take (address_size (drop f.address s)) (drop f.address s)) → (t : Time) → t ≡ time_in (take 7 (drop f.timestamp s)) → (u : Time) → u ≡ time_in (take 7 (drop f.discharge s))
     → (d : UserData) → d ≡ data_with (take (f.«data» + f.octets - f.«data») (drop f.«data» s))
     → (n : ℕ) → n ≡ replaced_in (septets_read (take (address_size (drop f.address s)) (drop f.address s)))
-    → (let m = status_reported (fields_at s f) in ◌≡◌ {A = StatusReportRead} (record {
-      outcome = Outcome.Done;
+    → ◌≡◌ {A = StatusReportRead} (record {
       message = record {
         tp_udhi = eqb (f.first / 64 % 2) 1;
         tp_srq = eqb (f.first / 32 % 2) 1;
@@ -64,14 +57,14 @@ pub message_is : (s : List ℕ) → Octets s → (f : StatusReportFields) → In
         tp_discharge_time = u;
         tp_status = f.status;
         tp_parameter_indicator = f.indicator;
-        tp_pid = f.pid;
-        tp_dcs = f.dcs;
-        tp_user_data_length = f.udl;
+        tp_pid = f.parameters.pid;
+        tp_dcs = f.parameters.dcs;
+        tp_user_data_length = f.parameters.udl;
         tp_user_data = d;
       };
       replaced_escapes = n;
     })
-    (record { outcome = Outcome.Done; message = m; replaced_escapes = replaced_in_all (texts_read s m) }))
+    (read_with s (status_reported (fields_at s f)) (reached_at f))
 unfolding status_reported fields_at replaced_in_all
 message_is s o f inside a ea t et u eu d ed n en =
     rw (

@@ -31,9 +31,7 @@ module _ (limit : ℕ) (r : SmsStatusReport) where
         npi = r.tp_recipient_address.npi;
         status = r.tp_status;
         indicator = r.tp_parameter_indicator;
-        pid = r.tp_pid;
-        dcs = r.tp_dcs;
-        udl = r.tp_user_data_length;
+        parameters = record { pid = r.tp_pid; dcs = r.tp_dcs; udl = r.tp_user_data_length };
       })
       (text_held r.tp_recipient_address) (digits_of r.tp_service_centre_timestamp) (digits_of r.tp_discharge_time) (data_of r.tp_user_data)
   unfolding status_reporting_within making checked

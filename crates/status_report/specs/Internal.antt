@@ -1,5 +1,5 @@
 -- What only functions of this crate say to each other: the rest of the layout from a field on, fields by their places in a string, and the octets of values that were checked.
-use Rattle.std.specs.Prelude.{ℕ, ◌+◌, ◌≤◌, ◌≡◌, List, [], ◌∷◌, ◌++◌, length, take, drop}
+use Rattle.std.specs.Prelude.{ℕ, ◌+◌, ◌≤◌, ◌≡◌, List, [], ◌∷◌, ◌++◌, length, take, drop, Ok, Err, Some, None, Option}
 use Rattle.octets.specs.Answers.{Said}
 use Rattle.octets.specs.Checks.{Check, ◌unless◌, checked}
 use Rattle.octets.specs.Lent.{Making}
@@ -11,22 +11,19 @@ use Rattle.layout.specs.Layout.{Format, Reached, reached, halted, end_or, one, t
 use Rattle.parameters.specs.Layout.{parameters}
 use Rattle.parameters.specs.Optional.{octets_held, held}
 use Rattle.parameters.specs.Parameters.{Parameters, no_parameters, parameters_octets}
-use Rattle.parameters.specs.declared.OptionalOctet.{OptionalOctet}
-use Rattle.parameters.specs.declared.OptionalOctet.TheVariants.{Absent, Present}
 use Rattle.status_report.specs.Layout.{Fields, bits}
 use Rattle.status_report.specs.StatusReport.{optional_checks}
 use Rattle.status_report.specs.declared.reading.StatusReportFields.{StatusReportFields}
-use Rattle.status_report.specs.declared.reading.StatusReportFound.{StatusReportFound}
 use Rattle.status_report.specs.declared.writing.StatusReportValues.{StatusReportValues}
 
 -- ---- reading
 
-abbrev pub fields_with : ℕ → ℕ → List ℕ → List ℕ → List ℕ → ℕ → OptionalOctet → Parameters → Fields
+abbrev pub fields_with : ℕ → ℕ → List ℕ → List ℕ → List ℕ → ℕ → Option ℕ → Parameters → Fields
 fields_with first mr ra scts dt st pi p = record { first = first; mr = mr; ra = ra; scts = scts; dt = dt; st = st; pi = pi; held = p }
 
 -- after status, by the fields that are made of what follows it
-unfoldable pub after_status : (OptionalOctet → Parameters → Fields) → Format Fields
-after_status make = end_or (done (make Absent no_parameters)) λ i. parameters (leading i) then λ p. done (make (Present (leading i)) p)
+unfoldable pub after_status : (Option ℕ → Parameters → Fields) → Format Fields
+after_status make = end_or (done (make None no_parameters)) λ i. parameters (leading i) then λ p. done (make (Some (leading i)) p)
 
 -- after the address
 unfoldable pub after_address : ℕ → ℕ → List ℕ → Format Fields
@@ -42,29 +39,32 @@ fields_at s p = record {
   dt = take 7 (drop p.discharge s);
   st = p.status;
   pi = p.indicator;
-  held = record { pid = p.pid; dcs = p.dcs; udl = p.udl; ud = take p.octets (drop p.«data» s) };
+  held = record { pid = p.parameters.pid; dcs = p.parameters.dcs; udl = p.parameters.udl; ud = take p.octets (drop p.«data» s) };
 }
 
+-- the place after them
+abbrev pub reached_at : StatusReportFields → ℕ
+reached_at p = p.«data» + p.octets
+
 -- what an answer says of a string: the fields, and the place after them; or the refusal
-abbrev pub found_says : List ℕ → StatusReportFound → Reached Fields
-found_says s (StatusReportFound.Whole p) = reached (fields_at s p) (p.«data» + p.octets)
-found_says s (StatusReportFound.Refused why) = halted why
+abbrev pub found_says : List ℕ → Said StatusReportFields → Reached Fields
+found_says s (Ok p) = reached (fields_at s p) (reached_at p)
+found_says s (Err why) = halted why
 
 -- the places lie in the string, the address's is the given one
-abbrev pub Inside : List ℕ → ℕ → StatusReportFound → Type 0
-Inside s at (StatusReportFound.Whole p) =
-    (p.address + address_size (drop p.address s) ≤ length s) × (p.timestamp + 7 ≤ length s) × (p.discharge + 7 ≤ length s) × (p.«data» + p.octets ≤ length s) × (p.octets ≤ 255)
+abbrev pub Inside : List ℕ → ℕ → StatusReportFields → Type 0
+Inside s at p =
+    (p.address + address_size (drop p.address s) ≤ length s) × (p.timestamp + 7 ≤ length s) × (p.discharge + 7 ≤ length s) × (reached_at p ≤ length s) × (p.octets ≤ 255)
     × (p.address ≡ at)
-Inside s at (StatusReportFound.Refused why) = Unit
 
 -- ---- writing: values, the address's text, the digits of both times, the user data
 
 abbrev pub parameters_in : StatusReportValues → List ℕ → Parameters
-parameters_in v ud = record { pid = v.pid; dcs = v.dcs; udl = v.udl; ud = ud }
+parameters_in v ud = record { pid = v.parameters.pid; dcs = v.parameters.dcs; udl = v.parameters.udl; ud = ud }
 
 -- how many octets of indicator and parameters, with so many of user data
 abbrev pub optional_size : StatusReportValues → ℕ → ℕ
-optional_size v n = held v.indicator + (held v.pid + held v.dcs + held v.udl + n)
+optional_size v n = held v.indicator + (held v.parameters.pid + held v.parameters.dcs + held v.parameters.udl + n)
 
 -- the octets after the address, and all octets
 abbrev pub octets_after : StatusReportValues → List ℕ → List ℕ → List ℕ → List ℕ
@@ -78,5 +78,5 @@ abbrev pub checks_after : ℕ → StatusReportValues → List ℕ → List ℕ �
 checks_after limit v scts dt ud = (NotATime unless is_time scts) ∷ (NotATime unless is_time dt) ∷ optional_checks limit v.indicator (parameters_in v ud)
 
 -- what a writer makes within a limit, where no length passes its array
-unfoldable pub making : ℕ → StatusReportValues → List ℕ → List ℕ → List ℕ → List ℕ → Making (Said ℕ)
+unfoldable pub making : ℕ → StatusReportValues → List ℕ → List ℕ → List ℕ → List ℕ → Making ℕ
 making limit v text scts dt ud = checked (address_checks v.ton v.npi text ++ checks_after limit v scts dt ud) (octets_in v text scts dt ud)

@@ -1,11 +1,12 @@
 -- SMS-STATUS-REPORT (TS 23.040 §9.2.2.3): the record that its fields make, what its writers make of a record, and what is no part of one.
-use Rattle.std.specs.Prelude.{ℕ, ◌≡◌, refl, Bool, false, List, [], ◌∷◌, ◌++◌, eqb, length, drop}
-use Rattle.octets.specs.Answers.{Said, outcome_says, refuses, fine}
+use Rattle.std.specs.Prelude.{ℕ, ◌≡◌, refl, Bool, false, List, [], ◌∷◌, ◌++◌, eqb, length, drop, Err, Some, None, Option}
+use Rattle.octets.specs.Answers.{fine}
 use Rattle.octets.specs.Checks.{Check, ◌unless◌, found, checked, all_fit}
 use Rattle.octets.specs.Lent.{Making}
 use Rattle.octets.specs.declared.Refusal.TheVariants.{LengthTooLarge, UserDataTooLong, NotATime, ParametersWithoutIndicator}
 use Rattle.coding.specs.Coding.{coding_of, character_set, data_octets, data_with, data_of, cleared_data, TypedData}
 use Rattle.coding.specs.declared.UserData.{UserData}
+use Rattle.gsm7.specs.Reading.{replaced_in_all}
 use Rattle.time.specs.Time.{is_time, time_octets, time_in, digits_of, cleared_time, capital_time, TypedTime}
 use Rattle.time.specs.declared.Time.{Time}
 use Rattle.address.specs.Address.{address_in, address_with, septets_read, text_held, cleared_address, TypedAddress}
@@ -15,8 +16,6 @@ use Rattle.layout.specs.Layout.{Format, Layout, plain, done, ◌then◌, address
 use Rattle.parameters.specs.Checking.{indicator_checks, data_within}
 use Rattle.parameters.specs.Optional.{octets_held}
 use Rattle.parameters.specs.Parameters.{Parameters, parameters_octets}
-use Rattle.parameters.specs.declared.OptionalOctet.{OptionalOctet}
-use Rattle.parameters.specs.declared.OptionalOctet.TheVariants.{Absent, Present}
 use Rattle.status_report.specs.Layout.{Fields, fields}
 use Rattle.status_report.specs.declared.SmsStatusReport.{SmsStatusReport}
 use Rattle.status_report.specs.declared.StatusReportRead.{StatusReportRead}
@@ -61,20 +60,20 @@ blank = record {
   tp_service_centre_timestamp = time_in [];
   tp_discharge_time = time_in [];
   tp_status = 0;
-  tp_parameter_indicator = Absent;
-  tp_pid = Absent;
-  tp_dcs = Absent;
-  tp_user_data_length = Absent;
+  tp_parameter_indicator = None;
+  tp_pid = None;
+  tp_dcs = None;
+  tp_user_data_length = None;
   tp_user_data = data_with [];
 }
-
--- what an answer of the reader says: its outcome and the record, and beside them how many escapes were replaced
-abbrev pub status_report_read_says : StatusReportRead → (Said Unit × SmsStatusReport) × ℕ
-status_report_read_says r = ((outcome_says r.outcome, r.message), r.replaced_escapes)
 
 -- what is read as text in a string: the recipient address, after first octet and reference, where its type is 5. User data stay octets
 abbrev pub texts_read : List ℕ → SmsStatusReport → List (List ℕ)
 texts_read s r = septets_read (cut addressKind (drop 2 s)) ∷ []
+
+-- what the reader gives of a string, of its record and of the place reached: the record, and beside it how many escapes were replaced
+abbrev pub read_with : List ℕ → SmsStatusReport → ℕ → StatusReportRead
+read_with s r at = record { message = r; replaced_escapes = replaced_in_all (texts_read s r) }
 
 -- ---- writing
 
@@ -99,12 +98,12 @@ octets_of r =
     ++ (time_octets (digits_of r.tp_discharge_time) ++ (r.tp_status ∷ (octets_held r.tp_parameter_indicator ++ parameters_octets (parameters_of r))))))
 
 -- with an indicator 13, 14, 7, 8, 15, user data within a limit; without one 16: neither parameters nor user data are held
-unfoldable pub optional_checks : ℕ → OptionalOctet → Parameters → List Check
-optional_checks limit (Present i) p = indicator_checks i p.pid p.dcs p.udl ++ data_within limit p.dcs p.udl (length p.ud)
-optional_checks limit Absent p = (ParametersWithoutIndicator unless eqb (length (parameters_octets p)) 0) ∷ []
+unfoldable pub optional_checks : ℕ → Option ℕ → Parameters → List Check
+optional_checks limit (Some i) p = indicator_checks i p.pid p.dcs p.udl ++ data_within limit p.dcs p.udl (length p.ud)
+optional_checks limit None p = (ParametersWithoutIndicator unless eqb (length (parameters_octets p)) 0) ∷ []
 
 -- what a writer makes of a record within a limit of user data
-unfoldable pub status_reporting_within : ℕ → SmsStatusReport → Making (Said ℕ)
+unfoldable pub status_reporting_within : ℕ → SmsStatusReport → Making ℕ
 status_reporting_within limit r =
     let recipient = r.tp_recipient_address in
     checked
@@ -113,7 +112,7 @@ status_reporting_within limit r =
     (octets_of r)
 
 -- the ported writer: within 140
-abbrev pub status_reporting : SmsStatusReport → Making (Said ℕ)
+abbrev pub status_reporting : SmsStatusReport → Making ℕ
 status_reporting = status_reporting_within 140
 
 -- the limit of the standard's table (TS 23.040 §9.2.2.3)
@@ -121,12 +120,12 @@ abbrev pub standard_limit : ℕ
 standard_limit = 131
 
 -- the writer to the standard: within that
-abbrev pub status_reporting_to_standard : SmsStatusReport → Making (Said ℕ)
+abbrev pub status_reporting_to_standard : SmsStatusReport → Making ℕ
 status_reporting_to_standard = status_reporting_within standard_limit
 
 -- user data of 131 and 132 octets; 135 pass within 140
-known_limits : (found (data_within standard_limit (Present 0x04) (Present 131) 131) ≡ fine) × (found (data_within standard_limit (Present 0x04) (Present 132) 132) ≡ refuses UserDataTooLong)
-    × (found (data_within standard_limit (Present 0x04) (Present 135) 135) ≡ refuses UserDataTooLong) × (found (data_within 140 (Present 0x04) (Present 135) 135) ≡ fine)
+known_limits : (found (data_within standard_limit (Some 0x04) (Some 131) 131) ≡ fine) × (found (data_within standard_limit (Some 0x04) (Some 132) 132) ≡ Err UserDataTooLong)
+    × (found (data_within standard_limit (Some 0x04) (Some 135) 135) ≡ Err UserDataTooLong) × (found (data_within 140 (Some 0x04) (Some 135) 135) ≡ fine)
 unfolding data_within coding_of character_set data_octets
 known_limits = (refl, refl, refl, refl)
 

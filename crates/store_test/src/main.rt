@@ -4,26 +4,17 @@
 #![tactic(auto)]
 
 use std::io;
-use tpdu::{MessageDropped, MessageTaken, Outcome, Reference, Refusal, SMSAddress};
-
-fn say<R: Print>(rt: &R, text: &[u8]) -> io::Result<()> {
-    rt.write_all(text)
-}
-
-fn say_number<R: Print>(rt: &R, n: usize, text: &[u8]) -> io::Result<()> {
-    rt.print(n)?;
-    say(rt, text)
-}
+use tpdu::{MessageDropped, MessageTaken, Reference, Refusal, SMSAddress};
 
 fn say_refusal<R: Print>(rt: &R, why: Refusal) -> io::Result<()> {
-    say(rt, b"refused ")?;
-    say_number(rt, why.number() as usize, b"\n")
+    println!(rt; "refused {}", why.number())
 }
 
-fn say_outcome<R: Print>(rt: &R, outcome: Outcome) -> io::Result<()> {
-    match outcome {
-        Outcome::Done => say(rt, b"ok\n"),
-        Outcome::Refused(why) => say_refusal(rt, why),
+// Empties a store, and says the answer.
+fn empty<R: Print>(rt: &R, store: &mut [u8]) -> io::Result<()> {
+    match tpdu::empty_store(store) {
+        Ok(()) => println!(rt; "ok"),
+        Err(why) => say_refusal(rt, why),
     }
 }
 
@@ -33,19 +24,16 @@ fn accept<R: Print>(rt: &R, store: &mut [u8]) -> io::Result<()> {
         0x44, 0x05, 0x91, 0x21, 0x43, 0xF5, 0x00, 0x04, 0x42, 0x20, 0x51, 0x21, 0x03, 0x54, 0x00,
         0x08, 0x05, 0x00, 0x03, 0x07, 0x01, 0x01, 0x41, 0x42,
     ];
-    let accepted = tpdu::accept_part(store, &data);
-    let outcome = accepted.outcome;
-    say(rt, b"accepting: ")?;
-    say_outcome(rt, outcome)
+    print!(rt; "accepting: ")?;
+    match tpdu::accept_part(store, &data) {
+        Ok(_) => println!(rt; "ok"),
+        Err(why) => say_refusal(rt, why),
+    }
 }
 
 fn sender() -> SMSAddress {
     let mut address = [0u8; 290];
-    address[0] = b'1';
-    address[1] = b'2';
-    address[2] = b'3';
-    address[3] = b'4';
-    address[4] = b'5';
+    address[..5].copy_from_slice(b"12345");
     SMSAddress {
         ton: 1,
         npi: 1,
@@ -55,21 +43,21 @@ fn sender() -> SMSAddress {
 }
 
 fn take<R: Print>(rt: &R, store: &mut [u8], out: &mut [u8]) -> io::Result<()> {
-    say(rt, b"taking: ")?;
+    print!(rt; "taking: ")?;
     match tpdu::take_message(store, sender(), Reference::Eight(7), 1, out) {
-        MessageTaken::Whole(_, n) => say_number(rt, n, b" octets\n"),
-        MessageTaken::NotOpen => say(rt, b"not open\n"),
-        MessageTaken::NotWhole => say(rt, b"not whole\n"),
-        MessageTaken::Refused(why) => say_refusal(rt, why),
+        Ok(MessageTaken::Whole(_, n)) => println!(rt; "{n} octets"),
+        Ok(MessageTaken::NotOpen) => println!(rt; "not open"),
+        Ok(MessageTaken::NotWhole) => println!(rt; "not whole"),
+        Err(why) => say_refusal(rt, why),
     }
 }
 
 fn drop<R: Print>(rt: &R, store: &mut [u8]) -> io::Result<()> {
-    say(rt, b"dropping: ")?;
+    print!(rt; "dropping: ")?;
     match tpdu::drop_message(store, sender(), Reference::Eight(7), 1) {
-        MessageDropped::Done => say(rt, b"ok\n"),
-        MessageDropped::NotOpen => say(rt, b"not open\n"),
-        MessageDropped::Refused(why) => say_refusal(rt, why),
+        Ok(MessageDropped::Done) => println!(rt; "ok"),
+        Ok(MessageDropped::NotOpen) => println!(rt; "not open"),
+        Err(why) => say_refusal(rt, why),
     }
 }
 
@@ -81,11 +69,6 @@ fn all_refused<R: Print>(rt: &R, store: &mut [u8]) -> io::Result<()> {
     drop(rt, store)
 }
 
-fn say_octets<R: Print>(rt: &R, a: u8, b: u8) -> io::Result<()> {
-    say_number(rt, a as usize, b" ")?;
-    say_number(rt, b as usize, b"\n")
-}
-
 // The message of one part, accepted and taken: not into one octet, then into two, then no more.
 fn whole<R: Print>(rt: &R, store: &mut [u8]) -> io::Result<()> {
     let mut one = [0u8; 1];
@@ -93,31 +76,29 @@ fn whole<R: Print>(rt: &R, store: &mut [u8]) -> io::Result<()> {
     accept(rt, store)?;
     take(rt, store, &mut one)?;
     take(rt, store, &mut out)?;
-    say_octets(rt, out[0], out[1])?;
+    println!(rt; "{} {}", out[0], out[1])?;
     take(rt, store, &mut out)
 }
 
 fn main(rt: HostRuntime) -> io::Result<()> {
     let mut short = [0u8; 37695];
-    say(&rt, b"a store of 37,695 octets\n")?;
-    let outcome = tpdu::empty_store(&mut short);
-    say_outcome(&rt, outcome)?;
+    println!(rt; "a store of 37,695 octets")?;
+    empty(&rt, &mut short)?;
     all_refused(&rt, &mut short)?;
     let mut store = [0xFFu8; 37696];
-    say(&rt, b"a store of 37,696 octets, all FF\n")?;
+    println!(rt; "a store of 37,696 octets, all FF")?;
     all_refused(&rt, &mut store)?;
-    let emptied = tpdu::empty_store(&mut store);
-    say_outcome(&rt, emptied)?;
-    say(&rt, b"the last slot says 9 parts\n")?;
+    empty(&rt, &mut store)?;
+    println!(rt; "the last slot says 9 parts")?;
     store[35340] = 1;
     store[35350] = 9;
     all_refused(&rt, &mut store)?;
-    say(&rt, b"its address has 291 octets\n")?;
+    println!(rt; "its address has 291 octets")?;
     store[35350] = 8;
     store[35356] = 1;
     store[35357] = 35;
     all_refused(&rt, &mut store)?;
-    say(&rt, b"it is not open\n")?;
+    println!(rt; "it is not open")?;
     store[35340] = 0;
     whole(&rt, &mut store)
 }

@@ -1,16 +1,17 @@
 -- What the writer makes of a record, check by check.
 -- Assumes nothing.
 use Prim.Native.Nat.{ℕ, ◌+◌, ◌/◌, ◌≤◌}
-use mathlib.Core.Path.{◌≡◌, refl, sym, ◌∙◌}
+use mathlib.Core.Path.{◌≡◌, refl, ◌∙◌}
 use mathlib.Core.Bool.{Bool, true, false}
 use mathlib.Core.List.{List, [], ◌∷◌, ◌++◌}
 use native.Mathlib.Omega.{arith}
 use borrow.Author.Tests.{eqb-true, eq-eqb, ne_eqb}
 use lib.Dec.{eqb}
 use lib.ListN.{length, take, length-append}
-use Rattle.octets.specs.Answers.{Said, gives, refuses, fine}
+use Rattle.octets.specs.Answers.{fine}
 use Rattle.octets.specs.Checks.{Check, ◌unless◌, found, checked, after_checked, all_fit}
-use Rattle.std.specs.Prelude.{if◌then◌else◌}
+use Rattle.std.specs.Prelude.{Ok, Err, Option, Some, None, is_some}
+use Rattle.std.proofs.lemmas.Bool.{false≢true}
 use Rattle.octets.specs.Choice.{length_if}
 use Rattle.octets.specs.Lent.{Making, refused, made}
 use Rattle.octets.specs.declared.Refusal.{Refusal}
@@ -30,7 +31,7 @@ use Rattle.validity_period.specs.declared.ValidityPeriod.{ValidityPeriod}
 use Rattle.validity_period.proofs.Period.{period_size_lem}
 use Rattle.submit.specs.declared.SmsSubmit.{SmsSubmit}
 use Rattle.submit.specs.declared.writing.SubmitValues.{SubmitValues}
-use Rattle.submit.specs.Submit.{address_length, digits_length, lengths_of, first_of, octets_of, submitting}
+use Rattle.submit.specs.Submit.{digits_length, lengths_of, first_of, destination_checks, octets_of, submitting}
 use Rattle.submit.specs.Internal.{octets_in, making}
 
 -- ---- by the lengths that count
@@ -55,72 +56,54 @@ to_address v text digits = address_checks v.ton v.npi text ++ last v digits
 abbrev pub to_data : SubmitValues → List ℕ → List ℕ → List ℕ → List Check
 to_data v text digits ud = data_checks v.dcs v.udl (length ud) ++ to_address v text digits
 
-module _ (mti vpf : ℕ) (there : Bool) (v : SubmitValues) (text digits enhanced ud : List ℕ) where
-  abbrev all : Making (Said ℕ)
-  all = making mti vpf there v text digits enhanced ud
+module _ (v : SubmitValues) (text digits enhanced ud : List ℕ) where
+  abbrev all : Making ℕ
+  all = making v text digits enhanced ud
 
   abbrev octets : List ℕ
   octets = octets_in v text (period_octets v.period digits enhanced) ud
 
-  pub another_type : (mti ≡ 1 → ⊥) → all ≡ refused WrongMessageType
-  unfolding making checked
-  another_type h = rw (ne_eqb mti 1 h)
+  by_data : all ≡ after_checked (checked_data v.dcs v.udl (length ud)) (checked (to_address v text digits) octets)
+  unfolding making
+  by_data = data_checked v.dcs v.udl (length ud) (to_address v text digits) octets
 
-  module _ (m : mti ≡ 1) where
-    pub another_format : (vpf ≡ format_of v.period → ⊥) → all ≡ refused ValidityFormatDisagrees
-    unfolding making checked
-    another_format h = rw (eq-eqb mti 1 m, ne_eqb vpf (format_of v.period) h)
+  pub data_against : {r : Refusal} → checked_data v.dcs v.udl (length ud) ≡ Err r → all ≡ refused r
+  data_against e = by_data ∙ rw e
 
-    module _ (f : vpf ≡ format_of v.period) where
-      pub no_destination : there ≡ false → all ≡ refused NoDestination
-      unfolding making checked
-      no_destination h = rw (eq-eqb mti 1 m, eq-eqb vpf (format_of v.period) f, h)
+  module _ (d : checked_data v.dcs v.udl (length ud) ≡ fine) where
+    by_address : all ≡ after_check (check_of (address_making v.ton v.npi text)) (checked (last v digits) octets)
+    by_address = by_data ∙ rw d (address_checked v.ton v.npi text (last v digits) octets)
 
-      module _ (t : there ≡ true) where
-        pub to_data_lem : all ≡ checked (to_data v text digits ud) octets
-        unfolding making checked
-        to_data_lem = rw (eq-eqb mti 1 m, eq-eqb vpf (format_of v.period) f, t)
+    pub address_against : {r : Refusal} → check_of (address_making v.ton v.npi text) ≡ Err r → all ≡ refused r
+    address_against e = by_address ∙ rw e
 
-        by_data : all ≡ after_checked (checked_data v.dcs v.udl (length ud)) (checked (to_address v text digits) octets)
-        by_data = to_data_lem ∙ data_checked v.dcs v.udl (length ud) (to_address v text digits) octets
+    module _ {l : ℕ} (a : check_of (address_making v.ton v.npi text) ≡ Ok l) where
+      pub no_time : time_holds v.period digits ≡ false → all ≡ refused NotATime
+      unfolding checked
+      no_time h = by_address ∙ rw (a, h)
 
-        pub data_against : {r : Refusal} → checked_data v.dcs v.udl (length ud) ≡ refuses r → all ≡ refused r
-        data_against e = by_data ∙ rw e
+      module _ (h : time_holds v.period digits ≡ true) where
+        pub all_made : all ≡ made octets (length octets)
+        unfolding checked
+        all_made = by_address ∙ rw (a, h)
 
-        module _ (d : checked_data v.dcs v.udl (length ud) ≡ fine) where
-          by_address : all ≡ after_check (check_of (address_making v.ton v.npi text)) (checked (last v digits) octets)
-          by_address = by_data ∙ rw d (address_checked v.ton v.npi text (last v digits) octets)
+        pub all_size : length enhanced ≡ 7 → length octets ≡ 7 + (l + 1) / 2 + period_size (format_of v.period) + length ud
+        all_size seven =
+            let size = fine_size v.ton v.npi text l a in
+            let period = period_size_lem v.period digits enhanced h seven in
+            simp length-append (omega arith)
 
-          pub address_against : {r : Refusal} → check_of (address_making v.ton v.npi text) ≡ refuses r → all ≡ refused r
-          address_against e = by_address ∙ rw e
-
-          module _ {l : ℕ} (a : check_of (address_making v.ton v.npi text) ≡ gives l) where
-            pub no_time : time_holds v.period digits ≡ false → all ≡ refused NotATime
-            unfolding checked
-            no_time h = by_address ∙ rw (a, h)
-
-            module _ (h : time_holds v.period digits ≡ true) where
-              pub all_made : all ≡ made octets (gives (length octets))
-              unfolding checked
-              all_made = by_address ∙ rw (a, h)
-
-              pub all_size : length enhanced ≡ 7 → length octets ≡ 7 + (l + 1) / 2 + period_size vpf + length ud
-              all_size seven =
-                  let size = fine_size v.ton v.npi text l a in
-                  let period = period_size_lem v.period digits enhanced h seven in
-                  rw f (simp length-append (omega arith))
-
--- ---- a record: its lengths, then its values
+-- ---- a record: its lengths, then its type, format and destination, then its values
 
 abbrev pub lengths_fit : SmsSubmit → Bool
 lengths_fit r = all_fit (lengths_of r)
 
-abbrev pub values_of : SmsSubmit → SubmitValues
-values_of r = record {
+abbrev pub values_of : SmsSubmit → SMSAddress → SubmitValues
+values_of r to = record {
   first = first_of r;
   mr = r.tp_mr;
-  ton = r.tp_destination_address.ton;
-  npi = r.tp_destination_address.npi;
+  ton = to.ton;
+  npi = to.npi;
   pid = r.tp_pid;
   dcs = r.tp_dcs;
   period = r.tp_validity_period;
@@ -128,72 +111,74 @@ values_of r = record {
 }
 
 module _ (r : SmsSubmit) where
-  abbrev to : SMSAddress
-  to = r.tp_destination_address
-
   abbrev stamp : Time
   stamp = r.validity_period_digits
 
   abbrev ud : List ℕ
   ud = data_of r.tp_user_data_raw
 
-  -- what is made of its values with these text and digits
-  abbrev with_parts : List ℕ → List ℕ → Making (Said ℕ)
-  with_parts text digits = making r.tp_mti r.tp_vpf r.has_destination_address (values_of r) text digits r.validity_period_octets ud
-
-  -- without destination its type and format decide
-  pub unsent : r.has_destination_address ≡ false → (text digits : List ℕ) → with_parts text digits ≡ (if eqb r.tp_mti 1 then if eqb r.tp_vpf (format_of r.tp_validity_period) then refused NoDestination else refused ValidityFormatDisagrees else refused WrongMessageType)
-  unfolding making checked
-  unsent e text digits = rw e
-
-  -- text and digits that don't count are neither looked at nor written
-  parts_counted : with_parts (take (address_length r) to.address) (take (digits_length r) stamp.digits) ≡ with_parts (text_held to) (digits_of stamp)
-  unfolding making
-  parts_counted = by r.has_destination_address refl
-    where
-      by : (b : Bool) → r.has_destination_address ≡ b → with_parts (take (address_length r) to.address) (take (digits_length r) stamp.digits) ≡ with_parts (text_held to) (digits_of stamp)
-      by true e = let (holds, written) = digits_counted r.tp_validity_period stamp.length stamp.digits r.validity_period_octets in rw (holds, written, e)
-      by false e = unsent e _ _ ∙ sym (unsent e _ _)
-
   pub too_long : lengths_fit r ≡ false → submitting r ≡ refused LengthTooLarge
   unfolding submitting checked
   too_long e = rw e
 
   module _ (e : lengths_fit r ≡ true) where
-    pub by_fields : submitting r ≡ with_parts (text_held to) (digits_of stamp)
-    unfolding submitting making checked
-    by_fields = rw e
+    pub another_type : (r.tp_mti ≡ 1 → ⊥) → submitting r ≡ refused WrongMessageType
+    unfolding submitting checked
+    another_type h = rw (e, ne_eqb r.tp_mti 1 h)
 
-    pub by_values : submitting r ≡ with_parts (take (address_length r) to.address) (take (digits_length r) stamp.digits)
-    by_values = by_fields ∙ sym parts_counted
+    module _ (m : r.tp_mti ≡ 1) where
+      pub another_format : (r.tp_vpf ≡ format_of r.tp_validity_period → ⊥) → submitting r ≡ refused ValidityFormatDisagrees
+      unfolding submitting checked
+      another_format h = rw (e, eq-eqb r.tp_mti 1 m, ne_eqb r.tp_vpf (format_of r.tp_validity_period) h)
+
+      module _ (f : r.tp_vpf ≡ format_of r.tp_validity_period) where
+        pub no_destination : r.tp_destination_address ≡ None → submitting r ≡ refused NoDestination
+        unfolding submitting checked
+        no_destination h = rw (e, eq-eqb r.tp_mti 1 m, eq-eqb r.tp_vpf (format_of r.tp_validity_period) f, h)
+
+        module _ {to : SMSAddress} (t : r.tp_destination_address ≡ Some to) where
+          pub by_fields : submitting r ≡ checked (to_data (values_of r to) (text_held to) (digits_of stamp) ud) (octets_of r)
+          unfolding submitting checked
+          by_fields = rw (e, eq-eqb r.tp_mti 1 m, eq-eqb r.tp_vpf (format_of r.tp_validity_period) f, t)
+
+          -- digits that don't count are neither looked at nor written
+          pub by_values : submitting r ≡ making (values_of r to) (text_held to) (take (digits_length r) stamp.digits) r.validity_period_octets ud
+          unfolding making
+          by_values = let (holds, written) = digits_counted r.tp_validity_period stamp.length stamp.digits r.validity_period_octets in by_fields ∙ rw (holds, written, t)
 
 -- where octets are written, every check has held
 pub record Passed (r : SmsSubmit) (xs : List ℕ) : Type 0 where
   pub fits : Fit (lengths_of r)
   pub mti_is : r.tp_mti ≡ 1
   pub format_is : r.tp_vpf ≡ format_of r.tp_validity_period
-  pub there : r.has_destination_address ≡ true
+  pub destination : SMSAddress
+  pub there : r.tp_destination_address ≡ Some destination
   pub size_is : length (ud r) ≡ data_octets (coding_of r.tp_dcs) r.tp_user_data_length
   pub few : length (ud r) ≤ 140
-  pub address : found (address_checks (to r).ton (to r).npi (text_held (to r))) ≡ fine
+  pub address : found (address_checks destination.ton destination.npi (text_held destination)) ≡ fine
   pub time : time_holds r.tp_validity_period (digits_of (stamp r)) ≡ true
   pub octets_are : octets_of r ≡ xs
 
-pub all_passed : (r : SmsSubmit) {xs : List ℕ} {w : Said ℕ} → submitting r ≡ made xs w → Passed r xs
+held : (o : Option SMSAddress) → is_some o ≡ true → (to : SMSAddress) × (o ≡ Some to)
+held None e = absurd (false≢true e)
+held (Some to) e = (to, refl)
+
+pub all_passed : (r : SmsSubmit) {xs : List ℕ} {n : ℕ} → submitting r ≡ made xs n → Passed r xs
 unfolding submitting checked_data
 all_passed r e =
-    let v = values_of r in
-    let text = text_held (to r) in
-    let digits = digits_of (stamp r) in
-    let from-destination = (NoDestination unless r.has_destination_address) ∷ to_data v text digits (ud r) in
+    let from_time = (NotATime unless time_holds r.tp_validity_period (digits_of (stamp r))) ∷ [] in
+    let from_address = destination_checks r.tp_destination_address ++ from_time in
+    let of_data = data_checks r.tp_dcs r.tp_user_data_length (length (ud r)) in
+    let from-destination = (NoDestination unless is_some r.tp_destination_address) ∷ of_data ++ from_address in
     let from_format = (ValidityFormatDisagrees unless eqb r.tp_vpf (format_of r.tp_validity_period)) ∷ from-destination in
     let (f0, x) = made_told _ _ e in
     let (l, f) = holds LengthTooLarge (lengths_fit r) ((WrongMessageType unless eqb r.tp_mti 1) ∷ from_format) f0 in
     let (m, f1) = holds WrongMessageType (eqb r.tp_mti 1) from_format f in
     let (p, f2) = holds ValidityFormatDisagrees (eqb r.tp_vpf (format_of r.tp_validity_period)) from-destination f1 in
-    let (t, f3) = holds NoDestination r.has_destination_address (to_data v text digits (ud r)) f2 in
-    let (d, f4) = both_hold (data_checks v.dcs v.udl (length (ud r))) (to_address v text digits) f3 in
-    let (a, f5) = both_hold (address_checks v.ton v.npi text) (last v digits) f4 in
+    let (t, f3) = holds NoDestination (is_some r.tp_destination_address) (of_data ++ from_address) f2 in
+    let (d, f4) = both_hold of_data from_address f3 in
+    let (a, f5) = both_hold (destination_checks r.tp_destination_address) from_time f4 in
     let (size, few) = data_passed _ _ _ d in
-    let (time, f6) = holds NotATime (time_holds v.period digits) [] f5 in
-    record { fits = all_fit_lem (lengths_of r) l; mti_is = eqb-true _ _ m; format_is = eqb-true _ _ p; there = t; size_is = size; few = few; address = a; time = time; octets_are = x }
+    let (time, f6) = holds NotATime (time_holds r.tp_validity_period (digits_of (stamp r))) [] f5 in
+    let (to, there) = held r.tp_destination_address t in
+    record { fits = all_fit_lem (lengths_of r) l; mti_is = eqb-true _ _ m; format_is = eqb-true _ _ p; destination = to; there = there; size_is = size; few = few; address = rw there at a; time = time; octets_are = x }

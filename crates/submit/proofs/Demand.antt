@@ -8,14 +8,14 @@ use native.Mathlib.Omega.{arith}
 use borrow.Author.Tests.{eqb-true, le-leb, leb-true}
 use lib.Dec.{eqb, ltb}
 use lib.ListN.{length, take, length-take}
-use Rattle.octets.specs.Answers.{Said, gives}
 use Rattle.octets.specs.Arrays.{pad}
 use Rattle.octets.specs.Checks.{checked}
-use Rattle.std.specs.Prelude.{if◌then◌else◌}
+use Rattle.std.specs.Prelude.{if◌then◌else◌, Option, Some, None, is_some, option_map, unwrap_or, IfSome}
+use Rattle.std.specs.Bool.{then_some}
 use Rattle.octets.specs.Choice.{length_if}
 use Rattle.octets.specs.Each.{Octets}
 use Rattle.octets.specs.Lent.{Making, refused, made}
-use Rattle.octets.specs.declared.Refusal.TheVariants.{LengthTooLarge, UserDataTooLong, AddressTooLong, NotATime}
+use Rattle.octets.specs.declared.Refusal.TheVariants.{UserDataTooLong, AddressTooLong, NotATime}
 use Rattle.octets.proofs.Checks.{check_holds, no_checks}
 use Rattle.octets.proofs.Laws.{cleared_pad, take_cleared}
 use Rattle.coding.specs.Coding.{coding_of, data_octets, data_of, data_with, cleared_data}
@@ -25,7 +25,8 @@ use Rattle.user_data_header.specs.Header.{in_count}
 use Rattle.time.specs.Time.{is_time, time_octets, time_in, digits_of, cleared_time, TypedTime}
 use Rattle.time.specs.declared.Time.{Time}
 use Rattle.time.proofs.Laws.{time_cleared}
-use Rattle.address.specs.Address.{address_in, address_with, canonical_address, cleared_address, text_held}
+use Rattle.address.specs.Address.{address_in, canonical_address, cleared_address, text_held, TypedAddress}
+use Rattle.address.specs.Writing.{address_octets, octets_or, address_checks}
 use Rattle.address.specs.declared.SMSAddress.{SMSAddress}
 use Rattle.address.proofs.Laws.{address_cleared, canonical_reads, octets_again, length_short, read_checked, Field as AddressField}
 use Rattle.layout.specs.Demand.{Demand3}
@@ -38,19 +39,34 @@ use Rattle.validity_period.specs.declared.ValidityPeriod.{ValidityPeriod}
 use Rattle.validity_period.proofs.Period.{digits_count, Held, period_held}
 use Rattle.submit.specs.declared.SmsSubmit.{SmsSubmit}
 use Rattle.submit.specs.declared.writing.SubmitValues.{SubmitValues}
-use Rattle.submit.specs.Layout.{Fields, format_in, header_size, bits, fields}
-use Rattle.submit.specs.Submit.{readable, text_with, header_in, submitted, format, submit, first_of, octets_of, submitting, cleared, Typed}
-use Rattle.submit.specs.Internal.{making}
+use Rattle.submit.specs.Layout.{Fields, format_in, bits, fields}
+use Rattle.submit.specs.Submit.{readable, text_with, header_in, submitted, format, submit, first_of, destination_octets, destination_checks, octets_of, submitting, cleared, Typed}
 use Rattle.submit.proofs.FieldByField.{kept_whole}
-use Rattle.submit.proofs.CheckByCheck.{digits_counted, last, to_address, to_data, to_data_lem, lengths_fit, values_of, unsent, by_fields}
+use Rattle.submit.proofs.CheckByCheck.{digits_counted, last, to_address, to_data, lengths_fit, values_of, by_fields}
 use Rattle.submit.proofs.Text.{readable_short}
 
 -- ---- what is no part of a record is not written
 
 -- a length that counts
-part_length : {A : Type 0} (there : Bool) (size : A → ℕ) (x y : A) → length_if there (size (if there then x else y)) ≡ length_if there (size x)
-part_length true size x y = refl
-part_length false size x y = refl
+digits_same : (there : Bool) (t : Time) → length_if there (if there then cleared_time t else time_in []).length ≡ length_if there t.length
+digits_same true t = refl
+digits_same false t = refl
+
+address_same : (o : Option SMSAddress) → (let size : SMSAddress → ℕ = λ a. a.address_length in unwrap_or (option_map size (option_map cleared_address o)) 0 ≡ unwrap_or (option_map size o) 0)
+address_same (Some to) = refl
+address_same None = refl
+
+header_same : (o : Option UserData) → (let size : UserData → ℕ = λ d. d.length in unwrap_or (option_map size (option_map cleared_data o)) 0 ≡ unwrap_or (option_map size o) 0)
+header_same (Some header) = refl
+header_same None = refl
+
+-- the destination
+destination_same : (o : Option SMSAddress) → IfSome o TypedAddress → (let c = option_map cleared_address o in
+    (is_some c ≡ is_some o) × (destination_octets c ≡ destination_octets o) × (destination_checks c ≡ destination_checks o))
+destination_same (Some to) n =
+    let same = take_cleared 290 to.address_length to.address n in
+    (refl, ap (λ (text : List ℕ). octets_or [] (address_octets to.ton to.npi text)) same, ap (λ (text : List ℕ). address_checks to.ton to.npi text) same)
+destination_same None n = (refl, refl, refl)
 
 -- the period: its digits are looked at in the absolute format, its octets in the enhanced one
 period_same : (p : ValidityPeriod) (t : Time) (enhanced : List ℕ) → TypedTime t → (let digits = digits_of (if is_absolute p then cleared_time t else time_in []) in
@@ -62,29 +78,14 @@ period_same ValidityPeriod.Enhanced t enhanced n = (refl, refl)
 
 module _ (r : SmsSubmit) (typed : Typed r) where
   lengths_same : lengths_fit (cleared r) ≡ lengths_fit r
-  lengths_same =
-      rw (
-        part_length r.has_destination_address (λ (a : SMSAddress). a.address_length) (cleared_address r.tp_destination_address) (address_with 0 0 []),
-        part_length (is_absolute r.tp_validity_period) (λ (t : Time). t.length) (cleared_time r.validity_period_digits) (time_in []),
-        part_length r.has_user_data_header (λ (d : UserData). d.length) (cleared_data r.tp_user_data_header) (data_with []),
-      )
+  lengths_same = rw (address_same r.tp_destination_address, digits_same (is_absolute r.tp_validity_period) r.validity_period_digits, header_same r.tp_user_data_header)
 
   of_cleared : submitting (cleared r) ≡ submitting r
-  unfolding submitting making checked
-  of_cleared = by r.has_destination_address refl
-    where
-      by : (b : Bool) → r.has_destination_address ≡ b → submitting (cleared r) ≡ submitting r
-      by true e =
-          let (time, octets) = period_same r.tp_validity_period r.validity_period_digits r.validity_period_octets typed.1 in
-          rw (
-            lengths_same,
-            time,
-            octets,
-            e,
-            take_cleared 290 r.tp_destination_address.address_length r.tp_destination_address.address typed.0,
-            take_cleared 255 r.tp_user_data_raw.length r.tp_user_data_raw.octets typed.3,
-          )
-      by false e = rw lengths_same (ap (λ (m : Making (Said ℕ)). if lengths_fit r then m else refused LengthTooLarge) (unsent (cleared r) e _ _ ∙ sym (unsent r e _ _)))
+  unfolding submitting checked
+  of_cleared =
+      let (time, octets) = period_same r.tp_validity_period r.validity_period_digits r.validity_period_octets typed.1 in
+      let (there, written, checks) = destination_same r.tp_destination_address typed.0 in
+      rw (lengths_same, time, octets, there, written, checks, take_cleared 255 r.tp_user_data_raw.length r.tp_user_data_raw.octets typed.3)
 
 -- equal records are written alike
 pub written_alike : (r q : SmsSubmit) → Typed r → Typed q → cleared r ≡ cleared q → submitting r ≡ submitting q
@@ -101,16 +102,15 @@ period_cleared (suc (suc zero)) vp l = (refl, refl)
 period_cleared (suc (suc (suc zero))) vp l = (time_cleared vp, refl)
 period_cleared (suc (suc (suc (suc v)))) vp l = absurd (omega arith)
 
-header_cleared : (udhi : Bool) (ud : List ℕ) → (let header = data_with (take (header_size udhi ud) ud) in (if udhi then cleared_data header else data_with []) ≡ header)
-unfolding header_size
-header_cleared true ud = data_cleared (take (header_size true ud) ud)
-header_cleared false ud = refl
+header_cleared : (udhi : Bool) (header : List ℕ) → option_map cleared_data (then_some udhi (data_with header)) ≡ then_some udhi (data_with header)
+header_cleared true header = ap (λ (d : UserData). Some d) (data_cleared header)
+header_cleared false header = refl
 
 pub made_cleared : (x : Fields) → cleared (submitted x) ≡ submitted x
 unfolding submitted text_with
 made_cleared x =
     let (digits, enhanced) = period_cleared (format_in x.first) x.vp (omega arith) in
-    rw (address_cleared x.da, digits, enhanced, data_cleared x.ud, header_cleared (is_set 6 x.first) x.ud, cleared_pad 510 (readable (coding_of x.dcs) x.udl (header_in x) x.ud))
+    rw (address_cleared x.da, digits, enhanced, data_cleared x.ud, header_cleared (is_set 6 x.first) (take (header_in x) x.ud), cleared_pad 510 (readable (coding_of x.dcs) x.udl (header_in x) x.ud))
 
 -- ---- a record that was read: its octets, and how its checks fare
 
@@ -149,7 +149,8 @@ module _ (x : Fields) (small : x.first < 256) (mti : message_type x.first ≡ 1)
   at_most : length x.ud ≤ 255
   at_most = omega (arith, data_at_most (coding_of x.dcs) x.udl)
 
-  header_few : (b : Bool) → length_if b (length (take (header_in x) x.ud)) ≤ 255
+  header_few : (b : Bool) → unwrap_or (option_map (λ (d : UserData). d.length) (then_some b (data_with (take (header_in x) x.ud)))) 0 ≤ 255
+  unfolding data_with
   header_few true = rw length-take (omega (arith, at_most))
   header_few false = omega arith
 
@@ -166,14 +167,14 @@ module _ (x : Fields) (small : x.first < 256) (mti : message_type x.first ≡ 1)
       )
 
   -- what its checks come to
-  abbrev answered : List ℕ → Making (Said ℕ)
-  answered xs = if ltb 140 (length x.ud) then refused UserDataTooLong else if ltb 12 (length x.da) then refused AddressTooLong else made xs (gives (length xs))
+  abbrev answered : List ℕ → Making ℕ
+  answered xs = if ltb 140 (length x.ud) then refused UserDataTooLong else if ltb 12 (length x.da) then refused AddressTooLong else made xs (length xs)
 
   abbrev values : SubmitValues
-  values = values_of sent
+  values = values_of sent (address_in x.da)
 
   abbrev text : List ℕ
-  text = text_held sent.tp_destination_address
+  text = text_held (address_in x.da)
 
   abbrev digits : List ℕ
   digits = digits_of sent.validity_period_digits
@@ -186,7 +187,7 @@ module _ (x : Fields) (small : x.first < 256) (mti : message_type x.first ≡ 1)
 
   its_making : submitting sent ≡ answered string
   unfolding submitted
-  its_making = by_fields sent lengths_fit_lem ∙ to_data_lem _ _ _ values text digits _ _ mti (sym held.format) refl ∙ its_checks (octets_of sent) ∙ ap answered its_octets
+  its_making = by_fields sent lengths_fit_lem mti (sym held.format) refl ∙ its_checks (octets_of sent) ∙ ap answered its_octets
 
 submit_makes : Makes (Writes cleared submitting octets_of) format
 unfolding format fields

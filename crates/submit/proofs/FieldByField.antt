@@ -1,5 +1,6 @@
 -- What the layout comes to, field by field.
 -- Assumes nothing.
+use Rattle.std.specs.Prelude.{Ok, Err}
 use Prim.Native.Nat.{ℕ, ◌+◌, ◌-◌, ◌≤◌, ◌<◌}
 use mathlib.Core.Path.{◌≡◌, refl, sym, ◌∙◌}
 use mathlib.Core.Bool.{Bool, true, false}
@@ -9,7 +10,6 @@ use borrow.Author.Tests.{eqb-true, le-leb, lt-leb}
 use lib.Dec.{eqb, leb}
 use lib.ListN.{length, take, drop}
 use lib.Seq.{length-take-le}
-use Rattle.octets.specs.Answers.{gives, refuses}
 use Rattle.octets.specs.Each.{Octets}
 use Rattle.octets.specs.Places.{octet_at, span_at}
 use Rattle.octets.specs.declared.Place.{Place}
@@ -31,23 +31,23 @@ use Rattle.submit.specs.Internal.{after_coding, after_first}
 -- ---- after TP-DCS
 
 -- the header of data that are there, as the code cuts them out
-pub header_is : (s : List ℕ) (p : Place) (n : ℕ) {a h : ℕ} {q : Place} (udhi : Bool) → span_at s p n ≡ gives (a, q) → h ≡ header_size udhi (take (q.at - a) (drop a s)) → h ≡ header_size udhi (take n (drop a s))
+pub header_is : (s : List ℕ) (p : Place) (n : ℕ) {a h : ℕ} {q : Place} (udhi : Bool) → span_at s p n ≡ Ok (a, q) → h ≡ header_size udhi (take (q.at - a) (drop a s)) → h ≡ header_size udhi (take n (drop a s))
 header_is s p n udhi e is = let (fits, from, next) = span_there s p n e in is ∙ rw (span_part s p n e, from)
 
 module _ (s : List ℕ) (f mr : ℕ) (da : List ℕ) (pid dcs : ℕ) (p : Place) {size : ℕ} (size_is : size ≡ period_size (format_in f)) where
   abbrev rest : Reached Fields
   rest = read_from (after_coding f mr da pid dcs) s p.at
 
-  pub no_period : span_at s p size ≡ refuses OctetsEnd → halted OctetsEnd ≡ rest
+  pub no_period : span_at s p size ≡ Err OctetsEnd → halted OctetsEnd ≡ rest
   unfolding after_coding
   no_period e = sym (rw (← size_is) (span_ends s p size e any _))
 
-  module _ {vp : ℕ} {p₂ : Place} (e₁ : span_at s p size ≡ gives (vp, p₂)) where
-    pub no_udl : octet_at s p₂ ≡ refuses OctetsEnd → halted OctetsEnd ≡ rest
+  module _ {vp : ℕ} {p₂ : Place} (e₁ : span_at s p size ≡ Ok (vp, p₂)) where
+    pub no_udl : octet_at s p₂ ≡ Err OctetsEnd → halted OctetsEnd ≡ rest
     unfolding after_coding
     no_udl e = sym (rw (← size_is) (span_goes_on s p size e₁ any _ ∙ octet_ends s p₂ e _))
 
-    module _ {udl : ℕ} {p₃ : Place} (e₂ : octet_at s p₂ ≡ gives (udl, p₃)) {n : ℕ} (n-is : n ≡ data_octets (coding_of dcs) udl) where
+    module _ {udl : ℕ} {p₃ : Place} (e₂ : octet_at s p₂ ≡ Ok (udl, p₃)) {n : ℕ} (n-is : n ≡ data_octets (coding_of dcs) udl) where
       -- the fields with these data, and the header that must fit
       abbrev with_data : List ℕ → Fields
       with_data ud = record { first = f; mr = mr; da = da; pid = pid; dcs = dcs; vp = take size (drop vp s); udl = udl; ud = ud }
@@ -59,10 +59,10 @@ module _ (s : List ℕ) (f mr : ℕ) (da : List ℕ) (pid dcs : ℕ) (p : Place)
       unfolding after_coding
       two = rw ((span_there s p size e₁).1, ← size_is, n-is) (span_goes_on s p size e₁ any _ ∙ octet_goes_on s p₂ e₂ _)
 
-      pub no_data : span_at s p₃ n ≡ refuses OctetsEnd → halted OctetsEnd ≡ rest
+      pub no_data : span_at s p₃ n ≡ Err OctetsEnd → halted OctetsEnd ≡ rest
       no_data e = sym (two ∙ span_ends s p₃ n e (up_to 140) _)
 
-      module _ {ud : ℕ} {p₄ : Place} (e₃ : span_at s p₃ n ≡ gives (ud, p₄)) {h : ℕ} (h-is : h ≡ header_size (is_set 6 f) (take (p₄.at - ud) (drop ud s))) where
+      module _ {ud : ℕ} {p₄ : Place} (e₃ : span_at s p₃ n ≡ Ok (ud, p₄)) {h : ℕ} (h-is : h ≡ header_size (is_set 6 f) (take (p₄.at - ud) (drop ud s))) where
         abbrev those : List ℕ
         those = take n (drop ud s)
 
@@ -86,7 +86,7 @@ module _ (s : List ℕ) (f mr : ℕ) (da : List ℕ) (pid dcs : ℕ) (p : Place)
               rw end (sym (three ∙ require_holds s p₄.at (le-leb h n fits) HeaderNotWhole _ ∙ require_holds s p₄.at c HeaderPassesCount _ ∙ done_reached s _ _))
 
 -- a UDL counts at most 255 octets
-pub data_few : (s : List ℕ) → Octets s → (p : Place) {udl n : ℕ} {q : Place} → octet_at s p ≡ gives (udl, q) → (coding : UserDataCoding) → n ≡ data_octets coding udl → n ≤ 255
+pub data_few : (s : List ℕ) → Octets s → (p : Place) {udl n : ℕ} {q : Place} → octet_at s p ≡ Ok (udl, q) → (coding : UserDataCoding) → n ≡ data_octets coding udl → n ≤ 255
 data_few s o p {udl} e coding size = omega (arith, o p.at, octet_read s p e, data_at_most coding udl)
 
 -- ---- the first octet to TP-DCS
@@ -97,11 +97,11 @@ unfolding kept
 kept_whole x h = eqb-true _ _ (below (λ y. eqb (kept bits y) y) 256 refl x h)
 
 module _ (s : List ℕ) where
-  pub no_first : octet_at s start ≡ refuses OctetsEnd → halted OctetsEnd ≡ read_from fields s 0
+  pub no_first : octet_at s start ≡ Err OctetsEnd → halted OctetsEnd ≡ read_from fields s 0
   unfolding fields after_first after_coding
   no_first e = sym (message_ends s start e 1 bits after_first)
 
-  module _ {b : ℕ} {p : Place} (e₁ : octet_at s start ≡ gives (b, p)) where
+  module _ {b : ℕ} {p : Place} (e₁ : octet_at s start ≡ Ok (b, p)) where
     pub other_type : (message_type b ≡ 1 → ⊥) → halted WrongMessageType ≡ read_from fields s 0
     unfolding fields after_first after_coding
     other_type d = sym (message_differs s start e₁ 1 bits refl after_first d)
@@ -111,26 +111,26 @@ module _ (s : List ℕ) where
       unfolding fields after_first after_coding
       to_first = message_goes_on s start e₁ 1 bits refl after_first m
 
-      pub no_mr : octet_at s p ≡ refuses OctetsEnd → halted OctetsEnd ≡ read_from fields s 0
+      pub no_mr : octet_at s p ≡ Err OctetsEnd → halted OctetsEnd ≡ read_from fields s 0
       unfolding after_first
       no_mr e = sym (to_first ∙ octet_ends s p e _)
 
-      module _ {mr : ℕ} {p₂ : Place} (e₂ : octet_at s p ≡ gives (mr, p₂)) where
-        pub no_address : address_span s p₂ ≡ refuses OctetsEnd → halted OctetsEnd ≡ read_from fields s 0
+      module _ {mr : ℕ} {p₂ : Place} (e₂ : octet_at s p ≡ Ok (mr, p₂)) where
+        pub no_address : address_span s p₂ ≡ Err OctetsEnd → halted OctetsEnd ≡ read_from fields s 0
         unfolding after_first
         no_address e = sym (to_first ∙ octet_goes_on s p e₂ _ ∙ address_ends s p₂ e _)
 
-        module _ {da : ℕ} {p₃ : Place} (e₃ : address_span s p₂ ≡ gives (da, p₃)) where
-          pub no_pid : octet_at s p₃ ≡ refuses OctetsEnd → halted OctetsEnd ≡ read_from fields s 0
+        module _ {da : ℕ} {p₃ : Place} (e₃ : address_span s p₂ ≡ Ok (da, p₃)) where
+          pub no_pid : octet_at s p₃ ≡ Err OctetsEnd → halted OctetsEnd ≡ read_from fields s 0
           unfolding after_first
           no_pid e = sym (to_first ∙ octet_goes_on s p e₂ _ ∙ address_goes_on s p₂ e₃ _ ∙ octet_ends s p₃ e _)
 
-          module _ {pid : ℕ} {p₄ : Place} (e₄ : octet_at s p₃ ≡ gives (pid, p₄)) where
-            pub no_dcs : octet_at s p₄ ≡ refuses OctetsEnd → halted OctetsEnd ≡ read_from fields s 0
+          module _ {pid : ℕ} {p₄ : Place} (e₄ : octet_at s p₃ ≡ Ok (pid, p₄)) where
+            pub no_dcs : octet_at s p₄ ≡ Err OctetsEnd → halted OctetsEnd ≡ read_from fields s 0
             unfolding after_first
             no_dcs e = sym (to_first ∙ octet_goes_on s p e₂ _ ∙ address_goes_on s p₂ e₃ _ ∙ octet_goes_on s p₃ e₄ _ ∙ octet_ends s p₄ e _)
 
-            module _ {dcs : ℕ} {p₅ : Place} (e₅ : octet_at s p₄ ≡ gives (dcs, p₅)) where
+            module _ {dcs : ℕ} {p₅ : Place} (e₅ : octet_at s p₄ ≡ Ok (dcs, p₅)) where
               pub to_dcs : Octets s → read_from (after_coding b mr (canonical_address (cut address (drop da s))) pid dcs) s p₅.at ≡ read_from fields s 0
               unfolding after_first
               to_dcs o =

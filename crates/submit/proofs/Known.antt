@@ -1,9 +1,10 @@
 -- Known messages: document 01's rows of SUBMIT with a header, and one whole message.
 -- Assumes nothing.
+use Rattle.std.specs.Prelude.{Err}
 use Prim.Native.Nat.{ℕ}
 use mathlib.Core.Path.{◌≡◌, refl}
 use mathlib.Core.List.{List, [], ◌∷◌, ◌++◌}
-use Rattle.octets.specs.Answers.{gives, refuses, fine}
+use Rattle.octets.specs.Answers.{fine}
 use Rattle.octets.specs.Arrays.{pad}
 use Rattle.octets.specs.Checks.{checked}
 use Rattle.octets.specs.Each.{each}
@@ -56,7 +57,7 @@ unfolding canonical_of fields_of kept format fields period_size header_size codi
 known_canonical = refl
 
 -- the record is written as they stand
-known_written : submitting (submitted known_fields) ≡ made known_octets (gives 10)
+known_written : submitting (submitted known_fields) ≡ made known_octets 10
 unfolding submitting making checked first_octet submitted address_in address_with data_with text_with time_in time_digits pad period_in readable text_of after_escape utf8 character septets_in number_of lowest_digits header_size coding_of character_set data_octets codes digit_characters digit_character digit_value is_digit without_f value_text text_in address_octets each index_of semi_octets in_pairs
 known_written = refl
 
@@ -64,7 +65,7 @@ known_written = refl
 abbrev known_data : ℕ → ℕ → List ℕ → Fields
 known_data first udl ud = record { first = first; mr = 0x07; da = []; pid = 0x00; dcs = 0x00; vp = []; udl = udl; ud = ud }
 
-known_header : (header_answer (submitted (known_data 0x41 0x01 (0x00 ∷ []))) ≡ refuses HeaderPassesCount) × (header_answer (submitted (known_data 0x41 0x00 [])) ≡ refuses HeaderNotWhole)
+known_header : (header_answer (submitted (known_data 0x41 0x01 (0x00 ∷ []))) ≡ Err HeaderPassesCount) × (header_answer (submitted (known_data 0x41 0x00 [])) ≡ Err HeaderNotWhole)
     × (header_answer (submitted (known_data 0x01 0x00 [])) ≡ fine)
 unfolding header_answer submitted data_with pad header_size in_count coding_of character_set
 known_header = (refl, refl, refl)

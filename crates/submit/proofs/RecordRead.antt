@@ -1,5 +1,7 @@
 -- The answer by the fields that were found, and the record of fields that are there.
 -- Assumes nothing.
+use Rattle.std.specs.Prelude.{Ok, Err, Option, Some}
+use Rattle.std.specs.Bool.{then_some}
 use Prim.Native.Nat.{ℕ, ◌+◌, ◌-◌, ◌/◌, ◌%◌, ◌<◌, ◌≤◌}
 use mathlib.Core.Path.{◌≡◌, sym, ◌∙◌}
 use mathlib.Core.Bool.{true}
@@ -8,11 +10,9 @@ use native.Mathlib.Omega.{arith}
 use native.Mathlib.Nat.{add-zero}
 use lib.Dec.{eqb}
 use lib.ListN.{length, take, drop}
-use Rattle.octets.specs.Answers.{Said, refuses}
+use Rattle.octets.specs.Answers.{Said}
 use Rattle.octets.specs.Arrays.{pad}
 use Rattle.octets.specs.Each.{Octets}
-use Rattle.octets.specs.declared.Outcome.{Outcome}
-use Rattle.octets.specs.declared.Refusal.{Refusal}
 use Rattle.octets.proofs.Each.{octets_take, octets_drop}
 use Rattle.octets.proofs.Laws.{part_is, part_size}
 use Rattle.coding.specs.Coding.{coding_of, data_octets, data_with}
@@ -25,7 +25,7 @@ use Rattle.time.specs.declared.Time.{Time}
 use Rattle.address.specs.Address.{address_in, address_size, septets_read}
 use Rattle.address.specs.declared.SMSAddress.{SMSAddress}
 use Rattle.address.proofs.Laws.{few_replaced}
-use Rattle.layout.specs.Layout.{done, read, read_from, answer, replaced_of}
+use Rattle.layout.specs.Layout.{done, read, read_from, answer}
 use Rattle.layout.proofs.Fields.{address_there}
 use Rattle.layout.proofs.Steps.{done_reached, then_goes_on, then_ends}
 use Rattle.validity_period.specs.Validity.{period_in, of_format}
@@ -34,27 +34,19 @@ use Rattle.user_data_header.specs.Header.{in_count}
 use Rattle.submit.specs.Layout.{format_in, fields}
 use Rattle.submit.specs.Internal.{fields_at, found_says, Inside}
 use Rattle.submit.specs.declared.reading.SubmitFields.{SubmitFields}
-use Rattle.submit.specs.declared.reading.SubmitFound.{SubmitFound}
 use Rattle.submit.specs.declared.SmsSubmit.{SmsSubmit}
 use Rattle.submit.specs.declared.SubmitRead.{SubmitRead}
 use Rattle.submit.specs.declared.SubmitText.{SubmitText}
 use Rattle.submit.proofs.Text.{data_replaced}
-use Rattle.submit.specs.Submit.{readable, data_septets, text_with, submitted, format, submit, blank, submit_read_says, octets_taken, texts_read}
+use Rattle.submit.specs.Submit.{readable, data_septets, text_with, submitted, format, submit, read_with, texts_read}
 
 -- ---- the answer
 
 -- what fields that were found, or a refusal, come to
-abbrev Answers : List ℕ → (Said Unit × SmsSubmit) × ℕ × ℕ → Type 0
-Answers s a = a ≡ (answer blank (read submit s), octets_taken (read submit s), replaced_of (texts_read s) (read submit s))
-
-pub answer_refused : (s : List ℕ) (why : Refusal) (r : SmsSubmit) → found_says s (SubmitFound.Refused why) ≡ read_from fields s 0 → r ≡ blank → Answers s ((refuses why, r), 0, 0)
+pub answer_is : (s : List ℕ) (found : Said SubmitFields) → found_says s found ≡ read_from fields s 0 → {A : Type 0} (gives : SmsSubmit → ℕ → A) → answer gives (read submit s) ≡ answer (λ x at. gives (submitted x) at) (found_says s found)
 unfolding read format
-answer_refused s why r e is = rw (then_ends s fields 0 (sym e) (λ x. done (submitted x)), is)
-
-pub answer_done : (s : List ℕ) (f : SubmitFields) (r : SubmitRead) → found_says s (SubmitFound.Whole f) ≡ read_from fields s 0
-    → (let m = submitted (fields_at s f) in r ≡ record { outcome = Outcome.Done; message = m; octets_read = f.«data» + f.octets; replaced_escapes = replaced_in_all (texts_read s m) }) → Answers s (submit_read_says r)
-unfolding read format
-answer_done s f r e is = rw (then_goes_on s fields 0 (sym e) (λ x. done (submitted x)), done_reached, is)
+answer_is s (Ok f) e gives = rw (then_goes_on s fields 0 (sym e) (λ x. done (submitted x)), done_reached)
+answer_is s (Err why) e gives = rw (then_ends s fields 0 (sym e) (λ x. done (submitted x)))
 
 -- ---- the record
 
@@ -63,19 +55,19 @@ abbrev pub stretch : ℕ → ℕ → List ℕ → List ℕ
 stretch a n s = take (a + n - a) (drop a s)
 
 -- the user data are as long as they were found to be, so they and their header have room in the record
-pub data_room : (s : List ℕ) (f : SubmitFields) → Inside s 2 (SubmitFound.Whole f) → (let ud = stretch f.«data» f.octets s in (length ud ≡ f.octets) × (length ud ≤ 255) × (f.header ≤ length ud))
+pub data_room : (s : List ℕ) (f : SubmitFields) → Inside s 2 (Ok f) → (let ud = stretch f.«data» f.octets s in (length ud ≡ f.octets) × (length ud ≤ 255) × (f.header ≤ length ud))
 data_room s f inside =
     let size : length (stretch f.«data» f.octets s) ≡ f.octets = rw (part_is f.«data» f.octets s) (part_size f.«data» f.octets s inside.3) in
     (size, omega (arith, size, inside.4), omega (arith, size, inside.7))
 
 -- and in their coding the header fits the count
-pub data_fits : (s : List ℕ) (f : SubmitFields) → Inside s 2 (SubmitFound.Whole f) → {coding : UserDataCoding} → coding ≡ coding_of f.dcs
+pub data_fits : (s : List ℕ) (f : SubmitFields) → Inside s 2 (Ok f) → {coding : UserDataCoding} → coding ≡ coding_of f.dcs
     → (let ud = stretch f.«data» f.octets s in (f.header ≤ length ud) × (in_count coding f.udl f.header ≡ true) × (length ud ≡ data_octets coding f.udl))
 data_fits s f inside e = let (size, few, header) = data_room s f inside in rw e (header, inside.8, size ∙ inside.5)
 
-pub message_is : (s : List ℕ) → Octets s → (f : SubmitFields) → Inside s 2 (SubmitFound.Whole f) → (let format = format_in f.first in let vp = stretch f.validity f.validity_octets s in let ud = stretch f.«data» f.octets s in
+pub message_is : (s : List ℕ) → Octets s → (f : SubmitFields) → Inside s 2 (Ok f) → (let format = format_in f.first in let vp = stretch f.validity f.validity_octets s in let ud = stretch f.«data» f.octets s in
     (a : SMSAddress) → a ≡ address_in (take (address_size (drop f.address s)) (drop f.address s)) → (period : ValidityPeriod) → period ≡ period_in format vp → (t : Time) → t ≡ time_in (of_format 3 format vp)
-    → (enhanced : List ℕ) → enhanced ≡ pad 7 (of_format 1 format vp) → (raw : UserData) → raw ≡ data_with ud → (header : UserData) → header ≡ data_with (take f.header ud)
+    → (enhanced : List ℕ) → enhanced ≡ pad 7 (of_format 1 format vp) → (raw : UserData) → raw ≡ data_with ud → (header : Option UserData) → header ≡ then_some (eqb (f.first / 64 % 2) 1) (data_with (take f.header ud))
     → (text : SubmitText) → text ≡ text_with (readable (coding_of f.dcs) f.udl f.header ud)
     → ◌≡◌ {A = SmsSubmit} (record {
       tp_rp = eqb (f.first / 128 % 2) 1;
@@ -85,8 +77,7 @@ pub message_is : (s : List ℕ) → Octets s → (f : SubmitFields) → Inside s
       tp_rd = eqb (f.first / 4 % 2) 1;
       tp_vpf = f.first / 8 % 4;
       tp_mr = f.mr;
-      has_destination_address = true;
-      tp_destination_address = a;
+      tp_destination_address = Some a;
       tp_pid = f.pid;
       tp_dcs = f.dcs;
       tp_validity_period = period;
@@ -94,7 +85,6 @@ pub message_is : (s : List ℕ) → Octets s → (f : SubmitFields) → Inside s
       validity_period_octets = enhanced;
       tp_user_data_length = f.udl;
       tp_user_data_raw = raw;
-      has_user_data_header = eqb (f.first / 64 % 2) 1;
       tp_user_data_header = header;
       tp_user_data = text;
     })
@@ -126,13 +116,13 @@ module _ (s : List ℕ) (f : SubmitFields) {k n : ℕ} (k_is : k ≡ replaced_in
       omega (arith, k_is, n-is, data_replaced coding f.udl f.header (stretch f.«data» f.octets s), few_replaced field (octets_take (address_size d) d (octets_drop f.address s o) 0))
 
   -- and is that of all that is read as text
-  pub replaced_is : Inside s 2 (SubmitFound.Whole f) → n ≡ replaced_in (data_septets (coding_of f.dcs) f.udl f.header (stretch f.«data» f.octets s)) → k + n ≡ replaced_in_all (texts_read s (submitted (fields_at s f)))
+  pub replaced_is : Inside s 2 (Ok f) → n ≡ replaced_in (data_septets (coding_of f.dcs) f.udl f.header (stretch f.«data» f.octets s)) → k + n ≡ replaced_in_all (texts_read s (submitted (fields_at s f)))
   unfolding submitted fields_at replaced_in_all
   replaced_is inside n-is =
       let third = rw inside.9 at k_is in
       rw (data_held (take f.octets (drop f.«data» s)), ← inside.6, add-zero, ← part_is f.«data» f.octets s, third, n-is)
 
 -- the whole answer
-pub read_is : {m q : SmsSubmit} {c e : ℕ} (end : ℕ) → m ≡ q → c ≡ e
-    → ◌≡◌ {A = SubmitRead} (record { outcome = Outcome.Done; message = m; octets_read = end; replaced_escapes = c }) (record { outcome = Outcome.Done; message = q; octets_read = end; replaced_escapes = e })
-read_is end em ec = rw (em, ec)
+pub read_is : (s : List ℕ) {m q : SmsSubmit} {c : ℕ} (end : ℕ) → m ≡ q → c ≡ replaced_in_all (texts_read s q)
+    → ◌≡◌ {A = SubmitRead} (record { message = m; octets_read = end; replaced_escapes = c }) (read_with s q end)
+read_is s end em ec = rw (em, ec)

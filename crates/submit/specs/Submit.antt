@@ -1,8 +1,9 @@
 -- SMS-SUBMIT (TS 23.040 §9.2.2.2): the record that its fields make, what its writer makes of a record, and what is no part of one.
-use Rattle.std.specs.Prelude.{ℕ, ◌-◌, ◌≡◌, refl, Bool, true, false, List, [], ◌∷◌, ◌++◌, eqb, leb, length, take, drop, if◌then◌else◌}
-use Rattle.octets.specs.Answers.{Said, outcome_says}
+use Rattle.std.specs.Prelude.{ℕ, ◌-◌, ◌≡◌, refl, false, List, [], ◌∷◌, ◌++◌, eqb, leb, length, take, drop, if◌then◌else◌, Option, Some, None, is_some, option_map, unwrap_or, IfSome}
+use Rattle.std.specs.Bool.{then_some}
+use Rattle.octets.specs.Answers.{Said}
 use Rattle.octets.specs.Arrays.{pad, cleared_array}
-use Rattle.octets.specs.Checks.{◌unless◌, found, checked, all_fit}
+use Rattle.octets.specs.Checks.{Check, ◌unless◌, found, checked, all_fit}
 use Rattle.octets.specs.Choice.{length_if}
 use Rattle.octets.specs.Lent.{Making}
 use Rattle.octets.specs.declared.Refusal.TheVariants.{LengthTooLarge, WrongMessageType, ValidityFormatDisagrees, NoDestination, NotATime, HeaderNotWhole, HeaderPassesCount}
@@ -12,14 +13,14 @@ use Rattle.coding.specs.declared.UserDataCoding.{UserDataCoding}
 use Rattle.coding.specs.declared.UserDataCoding.TheVariants.{Gsm7Bit, EightBit, Ucs2, Compressed}
 use Rattle.septets.specs.Septets.{number_of, lowest_digits, septets_in, header_septets, fill_bits}
 use Rattle.gsm7.specs.Alphabet.{character}
-use Rattle.gsm7.specs.Reading.{utf8, text_of, after_escape}
+use Rattle.gsm7.specs.Reading.{utf8, text_of, after_escape, replaced_in_all}
 use Rattle.user_data_header.specs.Header.{in_count}
 use Rattle.time.specs.Time.{time_in, digits_of, cleared_time, capital_time, TypedTime}
 use Rattle.time.specs.declared.Time.{Time}
-use Rattle.address.specs.Address.{address_in, address_with, septets_read, text_held, cleared_address, TypedAddress}
+use Rattle.address.specs.Address.{address_in, septets_read, text_held, cleared_address, TypedAddress}
 use Rattle.address.specs.Writing.{address_octets, octets_or, address_checks}
 use Rattle.address.specs.declared.SMSAddress.{SMSAddress}
-use Rattle.layout.specs.Layout.{Format, Layout, plain, Reached, reached, halted, done, ◌then◌, address as addressKind, is_set, message_type, first_octet, cut}
+use Rattle.layout.specs.Layout.{Format, Layout, plain, done, ◌then◌, address as addressKind, is_set, message_type, first_octet, cut}
 use Rattle.validity_period.specs.Validity.{period_in, of_format, format_of, is_absolute, period_octets, time_holds}
 use Rattle.validity_period.specs.declared.ValidityPeriod.{ValidityPeriod}
 use Rattle.submit.specs.Layout.{Fields, format_in, header_size, fields}
@@ -71,8 +72,7 @@ submitted x = record {
   tp_rd = is_set 2 x.first;
   tp_vpf = format_in x.first;
   tp_mr = x.mr;
-  has_destination_address = true;
-  tp_destination_address = address_in x.da;
+  tp_destination_address = Some (address_in x.da);
   tp_pid = x.pid;
   tp_dcs = x.dcs;
   tp_validity_period = period_in (format_in x.first) x.vp;
@@ -80,8 +80,7 @@ submitted x = record {
   validity_period_octets = pad 7 (of_format 1 (format_in x.first) x.vp);
   tp_user_data_length = x.udl;
   tp_user_data_raw = data_with x.ud;
-  has_user_data_header = is_set 6 x.first;
-  tp_user_data_header = data_with (take (header_in x) x.ud);
+  tp_user_data_header = then_some (is_set 6 x.first) (data_with (take (header_in x) x.ud));
   tp_user_data = text_with (readable (coding_of x.dcs) x.udl (header_in x) x.ud);
 }
 
@@ -102,8 +101,7 @@ blank = record {
   tp_rd = false;
   tp_vpf = 0;
   tp_mr = 0;
-  has_destination_address = false;
-  tp_destination_address = address_with 0 0 [];
+  tp_destination_address = None;
   tp_pid = 0;
   tp_dcs = 0;
   tp_validity_period = ValidityPeriod.None;
@@ -111,19 +109,9 @@ blank = record {
   validity_period_octets = pad 7 [];
   tp_user_data_length = 0;
   tp_user_data_raw = data_with [];
-  has_user_data_header = false;
-  tp_user_data_header = data_with [];
+  tp_user_data_header = None;
   tp_user_data = text_with [];
 }
-
--- what an answer of the reader says: its outcome and the record, and beside them how many octets were read, and how many escapes were replaced
-abbrev pub submit_read_says : SubmitRead → (Said Unit × SmsSubmit) × ℕ × ℕ
-submit_read_says r = ((outcome_says r.outcome, r.message), r.octets_read, r.replaced_escapes)
-
--- the number of octets, 0 on a refusal
-abbrev pub octets_taken : {R : Type 0} → Reached R → ℕ
-octets_taken (reached r at) = at
-octets_taken (halted why) = 0
 
 -- what is read as text in a string: the destination address, after first octet and reference, where its type is 5; and in 7-bit coding what follows the header of the user data, which are as the record holds them
 abbrev pub texts_read : List ℕ → SmsSubmit → List (List ℕ)
@@ -131,17 +119,25 @@ texts_read s r =
     let ud = data_of r.tp_user_data_raw in
     septets_read (cut addressKind (drop 2 s)) ∷ data_septets (coding_of r.tp_dcs) r.tp_user_data_length (header_size r.tp_udhi ud) ud ∷ []
 
+-- what reading a string gives of a record and the place reached: these, and how many escapes were replaced
+abbrev pub read_with : List ℕ → SmsSubmit → ℕ → SubmitRead
+read_with s r at = record { message = r; octets_read = at; replaced_escapes = replaced_in_all (texts_read s r) }
+
+-- and where nothing is read
+abbrev pub nothing_read : SubmitRead
+nothing_read = record { message = blank; octets_read = 0; replaced_escapes = 0 }
+
 -- ---- writing
 
 -- the lengths that count: of the destination and the header if they are there, of the digits in the absolute format, of data and text
 abbrev pub address_length : SmsSubmit → ℕ
-address_length r = length_if r.has_destination_address r.tp_destination_address.address_length
+address_length r = unwrap_or (option_map (λ (to : SMSAddress). to.address_length) r.tp_destination_address) 0
 
 abbrev pub digits_length : SmsSubmit → ℕ
 digits_length r = length_if (is_absolute r.tp_validity_period) r.validity_period_digits.length
 
 abbrev pub header_length : SmsSubmit → ℕ
-header_length r = length_if r.has_user_data_header r.tp_user_data_header.length
+header_length r = unwrap_or (option_map (λ (header : UserData). header.length) r.tp_user_data_header) 0
 
 -- each with the size of its array
 abbrev pub lengths_of : SmsSubmit → List (ℕ × ℕ)
@@ -151,20 +147,27 @@ lengths_of r = (address_length r, 290) ∷ (digits_length r, 14) ∷ (r.tp_user_
 abbrev pub first_of : SmsSubmit → ℕ
 first_of r = first_octet 1 ((7, r.tp_rp) ∷ (6, r.tp_udhi) ∷ (5, r.tp_srr) ∷ (4, is_set 1 r.tp_vpf) ∷ (3, is_set 0 r.tp_vpf) ∷ (2, r.tp_rd) ∷ [])
 
+-- a destination: its octets, and its checks
+abbrev pub destination_octets : Option SMSAddress → List ℕ
+destination_octets None = []
+destination_octets (Some to) = octets_or [] (address_octets to.ton to.npi (text_held to))
+
+abbrev pub destination_checks : Option SMSAddress → List Check
+destination_checks None = []
+destination_checks (Some to) = address_checks to.ton to.npi (text_held to)
+
 -- the octets of a record, in the layout's order: header and text are not written
 abbrev pub octets_of : SmsSubmit → List ℕ
 octets_of r =
-    let to = r.tp_destination_address in
-    first_of r ∷ r.tp_mr ∷ octets_or [] (address_octets to.ton to.npi (text_held to)) ++ r.tp_pid ∷ r.tp_dcs
+    first_of r ∷ r.tp_mr ∷ destination_octets r.tp_destination_address ++ r.tp_pid ∷ r.tp_dcs
     ∷ period_octets r.tp_validity_period (digits_of r.validity_period_digits) r.validity_period_octets ++ r.tp_user_data_length ∷ data_of r.tp_user_data_raw
 
 -- what the writer makes of a record: refusals 1, 3, 5 and 6, 7 and 8 of the data, 9 to 11 of the address, and 12
-unfoldable pub submitting : SmsSubmit → Making (Said ℕ)
+unfoldable pub submitting : SmsSubmit → Making ℕ
 submitting r =
-    let to = r.tp_destination_address in
     checked
     ((LengthTooLarge unless all_fit (lengths_of r)) ∷ (WrongMessageType unless eqb r.tp_mti 1) ∷ (ValidityFormatDisagrees unless eqb r.tp_vpf (format_of r.tp_validity_period))
-    ∷ (NoDestination unless r.has_destination_address) ∷ data_checks r.tp_dcs r.tp_user_data_length (length (data_of r.tp_user_data_raw)) ++ address_checks to.ton to.npi (text_held to)
+    ∷ (NoDestination unless is_some r.tp_destination_address) ∷ data_checks r.tp_dcs r.tp_user_data_length (length (data_of r.tp_user_data_raw)) ++ destination_checks r.tp_destination_address
     ++ (NotATime unless time_holds r.tp_validity_period (digits_of r.validity_period_digits)) ∷ [])
     (octets_of r)
 
@@ -178,8 +181,8 @@ header_answer r =
 -- ---- what is no part of a record
 
 -- the same record with another destination, other digits and octets of validity, other user data, header and text
-abbrev pub changed : SmsSubmit → SMSAddress → Time → List ℕ → UserData → Bool → UserData → SubmitText → SmsSubmit
-changed r to digits enhanced raw headed header text = record {
+abbrev pub changed : SmsSubmit → Option SMSAddress → Time → List ℕ → UserData → Option UserData → SubmitText → SmsSubmit
+changed r to digits enhanced raw header text = record {
   tp_rp = r.tp_rp;
   tp_udhi = r.tp_udhi;
   tp_srr = r.tp_srr;
@@ -187,7 +190,6 @@ changed r to digits enhanced raw headed header text = record {
   tp_rd = r.tp_rd;
   tp_vpf = r.tp_vpf;
   tp_mr = r.tp_mr;
-  has_destination_address = r.has_destination_address;
   tp_destination_address = to;
   tp_pid = r.tp_pid;
   tp_dcs = r.tp_dcs;
@@ -196,7 +198,6 @@ changed r to digits enhanced raw headed header text = record {
   validity_period_octets = enhanced;
   tp_user_data_length = r.tp_user_data_length;
   tp_user_data_raw = raw;
-  has_user_data_header = headed;
   tp_user_data_header = header;
   tp_user_data = text;
 }
@@ -204,19 +205,18 @@ changed r to digits enhanced raw headed header text = record {
 -- without header and text
 abbrev pub underived : SmsSubmit → SmsSubmit
 underived r =
-    changed r r.tp_destination_address r.validity_period_digits r.validity_period_octets r.tp_user_data_raw false (data_with []) (text_with [])
+    changed r r.tp_destination_address r.validity_period_digits r.validity_period_octets r.tp_user_data_raw None (text_with [])
 
 abbrev pub cleared_text : SubmitText → SubmitText
 cleared_text t = record { octets = cleared_array 510 t.length t.octets; length = t.length }
 
--- an absent destination or header, digits that are not in the absolute format, seven octets that are not in the enhanced one, and what lies after a length set to zero: records are equal where these are
+-- digits that are not in the absolute format, seven octets that are not in the enhanced one, and what lies after a length set to zero: records are equal where these are
 abbrev pub cleared : SmsSubmit → SmsSubmit
 cleared r =
-    changed r (if r.has_destination_address then cleared_address r.tp_destination_address else address_with 0 0 [])
+    changed r (option_map cleared_address r.tp_destination_address)
     (if is_absolute r.tp_validity_period then cleared_time r.validity_period_digits else time_in [])
     (if eqb (format_of r.tp_validity_period) 1 then r.validity_period_octets else pad 7 [])
-    (cleared_data r.tp_user_data_raw) r.has_user_data_header
-    (if r.has_user_data_header then cleared_data r.tp_user_data_header else data_with []) (cleared_text r.tp_user_data)
+    (cleared_data r.tp_user_data_raw) (option_map cleared_data r.tp_user_data_header) (cleared_text r.tp_user_data)
 
 -- what demand 2 compares: not header and text, which are derived from the data
 abbrev pub compared : SmsSubmit → SmsSubmit
@@ -226,10 +226,10 @@ compared r = underived (cleared r)
 abbrev pub capitalised : SmsSubmit → SmsSubmit
 capitalised r =
     changed r r.tp_destination_address (capital_time r.validity_period_digits) r.validity_period_octets r.tp_user_data_raw
-    r.has_user_data_header r.tp_user_data_header r.tp_user_data
+    r.tp_user_data_header r.tp_user_data
 
 -- the arrays have the lengths of their types
 abbrev pub Typed : SmsSubmit → Type 0
 Typed r =
-    TypedAddress r.tp_destination_address × TypedTime r.validity_period_digits × (length r.validity_period_octets ≡ 7) × TypedData r.tp_user_data_raw × TypedData r.tp_user_data_header
+    IfSome r.tp_destination_address TypedAddress × TypedTime r.validity_period_digits × (length r.validity_period_octets ≡ 7) × TypedData r.tp_user_data_raw × IfSome r.tp_user_data_header TypedData
     × (length r.tp_user_data.octets ≡ 510)

@@ -4,36 +4,36 @@
 pub mod reading;
 pub mod writing;
 
-ghost use Rattle.std.specs.Prelude.{◌≡◌, true, [], ◌++◌, ◌+◌, ◌-◌, ◌≤◌, length, take, drop};
-ghost use Rattle.octets.specs.Answers.{refuses, written_says};
+ghost use Rattle.std.specs.Prelude.{◌≡◌, true, [], ◌++◌, ◌+◌, ◌-◌, ◌≤◌, length, take, drop, Ok, Err};
 ghost use Rattle.octets.specs.Choice.{length_if};
 ghost use Rattle.octets.specs.Lent.{Wrote, lend};
 ghost use Rattle.coding.specs.Coding.{data_octets};
 ghost use Rattle.septets.specs.Septets.{header_septets, fill_bits, septets_in};
 ghost use Rattle.gsm7.specs.Reading.{text_of, replaced_in, replaced_in_all};
 ghost use Rattle.user_data_header.specs.Header.{in_count};
-ghost use Rattle.layout.specs.Layout.{read, answer, replaced_of};
+ghost use Rattle.layout.specs.Layout.{read, answer};
 ghost use Rattle.submit.specs.Internal.{fields_at, Inside};
-ghost use Rattle.submit.specs.Submit.{submit, submitted, blank as blankMessage, octets_taken, submit_read_says, texts_read, readable, data_septets, text_with, submitting};
+ghost use Rattle.submit.specs.Submit.{submit, submitted, blank, read_with, nothing_read, readable, data_septets, text_with, submitting};
 
-use crate::reading::{SubmitFields, SubmitFound};
+use crate::reading::SubmitFields;
 use crate::writing::SubmitValues;
 use address::SMSAddress;
 use coding::{UserData, UserDataCoding};
 use gsm7::decode::TextPut;
 use layout::MTI_SUBMIT;
-use octets::{Outcome, Refusal, Written};
+use octets::Refusal;
 use time::Time;
 use validity_period::{VALIDITY_PERIOD_FORMAT_ABSOLUTE, ValidityPeriod};
 
 // The readable form of user data: octets, and how many there are.
-#[derive(Clone, Copy)]
+// An array with its length: there is no heap, and a length past the array is what refusal 1 is of.
+#[derive(Clone, Copy, Debug)]
 pub struct SubmitText {
     pub octets: [u8; 510],
     pub length: usize,
 }
 
-#[derive(Clone, Copy)]
+#[derive(Clone, Copy, Debug)]
 pub struct SmsSubmit {
     pub tp_rp: bool,
     pub tp_udhi: bool,
@@ -42,8 +42,7 @@ pub struct SmsSubmit {
     pub tp_rd: bool,
     pub tp_vpf: u8,
     pub tp_mr: u8,
-    pub has_destination_address: bool,
-    pub tp_destination_address: SMSAddress,
+    pub tp_destination_address: Option<SMSAddress>,
     pub tp_pid: u8,
     pub tp_dcs: u8,
     pub tp_validity_period: ValidityPeriod,
@@ -51,44 +50,67 @@ pub struct SmsSubmit {
     pub validity_period_octets: [u8; 7],
     pub tp_user_data_length: u8,
     pub tp_user_data_raw: UserData,
-    pub has_user_data_header: bool,
-    pub tp_user_data_header: UserData,
+    pub tp_user_data_header: Option<UserData>,
     pub tp_user_data: SubmitText,
 }
 
-// What reading gives: the message, the number of octets read, and the number of escapes in its text that led to no character of the extension table; blank and 0 on a refusal.
-#[derive(Clone, Copy)]
+// What reading gives: the message, the number of octets read, and the number of escapes in its text that led to no character of the extension table.
+#[derive(Clone, Copy, Debug)]
 pub struct SubmitRead {
-    pub outcome: Outcome,
     pub message: SmsSubmit,
     pub octets_read: usize,
     pub replaced_escapes: usize,
 }
 
+// No text.
+impl Default for SubmitText {
+    ghost is_default = { λ t. t ≡ text_with [] };
+
+    fn default() -> SubmitText {
+        SubmitText {
+            octets: [0u8; 510],
+            length: 0,
+        }
+    }
+}
+
 // The blank message.
-fn blank() -> SmsSubmit
-    ensures { result ≡ blankMessage }
-{
-    SmsSubmit {
-        tp_rp: false,
-        tp_udhi: false,
-        tp_srr: false,
-        tp_mti: 0,
-        tp_rd: false,
-        tp_vpf: 0,
-        tp_mr: 0,
-        has_destination_address: false,
-        tp_destination_address: address::no_address(),
-        tp_pid: 0,
-        tp_dcs: 0,
-        tp_validity_period: ValidityPeriod::None,
-        validity_period_digits: time::no_time(),
-        validity_period_octets: [0u8; 7],
-        tp_user_data_length: 0,
-        tp_user_data_raw: coding::no_data(),
-        has_user_data_header: false,
-        tp_user_data_header: coding::no_data(),
-        tp_user_data: no_text(),
+impl Default for SmsSubmit {
+    ghost is_default = { λ r. r ≡ blank };
+
+    fn default() -> SmsSubmit {
+        SmsSubmit {
+            tp_rp: false,
+            tp_udhi: false,
+            tp_srr: false,
+            tp_mti: 0,
+            tp_rd: false,
+            tp_vpf: 0,
+            tp_mr: 0,
+            tp_destination_address: None,
+            tp_pid: 0,
+            tp_dcs: 0,
+            tp_validity_period: ValidityPeriod::None,
+            validity_period_digits: time::no_time(),
+            validity_period_octets: [0u8; 7],
+            tp_user_data_length: 0,
+            tp_user_data_raw: coding::no_data(),
+            tp_user_data_header: None,
+            tp_user_data: SubmitText::default(),
+        }
+    }
+}
+
+// The blank message, of no octets: what stands where reading is refused.
+impl Default for SubmitRead {
+    ghost is_default = { λ r. r ≡ nothing_read };
+
+    fn default() -> SubmitRead {
+        SubmitRead {
+            message: SmsSubmit::default(),
+            octets_read: 0,
+            replaced_escapes: 0,
+        }
     }
 }
 
@@ -138,20 +160,10 @@ fn put_readable(
     }
 }
 
-// No text.
-fn no_text() -> SubmitText
-    ensures { result ≡ text_with [] }
-{
-    SubmitText {
-        octets: [0u8; 510],
-        length: 0,
-    }
-}
-
 // The message of fields that are there.
 fn message(data: &[u8], f: SubmitFields) -> SubmitRead
-    requires { Inside «data».now 2 (SubmitFound.Whole f) }
-    ensures { result ≡ record { outcome = Outcome.Done; message = submitted (fields_at «data».now f); octets_read = f.«data» + f.octets; replaced_escapes = replaced_in_all (texts_read «data».now (submitted (fields_at «data».now f))) } }
+    requires { Inside «data».now 2 (Ok f) }
+    ensures { result ≡ read_with «data».now (submitted (fields_at «data».now f)) (f.«data» + f.octets) }
 {
     let first = f.first;
     let dcs = f.dcs;
@@ -170,7 +182,6 @@ fn message(data: &[u8], f: SubmitFields) -> SubmitRead
     let put = put_readable(coding::user_data_coding(dcs), udl, h, ud, &mut octets);
     let replaced_escapes = in_address + put.replaced;
     SubmitRead {
-        outcome: Outcome::Done,
         message: SmsSubmit {
             tp_rp: first / 128 % 2 == 1,
             tp_udhi: first / 64 % 2 == 1,
@@ -179,8 +190,7 @@ fn message(data: &[u8], f: SubmitFields) -> SubmitRead
             tp_rd: first / 4 % 2 == 1,
             tp_vpf: format,
             tp_mr: f.mr,
-            has_destination_address: true,
-            tp_destination_address: destination,
+            tp_destination_address: Some(destination),
             tp_pid: f.pid,
             tp_dcs: dcs,
             tp_validity_period: validity_period::period_in(format, vp),
@@ -188,8 +198,7 @@ fn message(data: &[u8], f: SubmitFields) -> SubmitRead
             validity_period_octets: validity_period::enhanced_in(format, vp),
             tp_user_data_length: udl,
             tp_user_data_raw: coding::data_with(ud),
-            has_user_data_header: first / 64 % 2 == 1,
-            tp_user_data_header: coding::data_with(&ud[..h]),
+            tp_user_data_header: (first / 64 % 2 == 1).then_some(coding::data_with(&ud[..h])),
             tp_user_data: SubmitText {
                 octets,
                 length: put.end,
@@ -201,18 +210,11 @@ fn message(data: &[u8], f: SubmitFields) -> SubmitRead
 }
 
 // Reads a message.
-pub fn decode_sms_submit_tpdu(data: &[u8]) -> SubmitRead
-    ensures { submit_read_says result ≡ (answer blankMessage (read submit «data».now), octets_taken (read submit «data».now), replaced_of (texts_read «data».now) (read submit «data».now)) }
+pub fn decode_sms_submit_tpdu(data: &[u8]) -> Result<SubmitRead, Refusal>
+    ensures { result ≡ answer (read_with «data».now) (read submit «data».now) }
 {
-    match reading::fields_of(data) {
-        SubmitFound::Refused(r) => SubmitRead {
-            outcome: Outcome::Refused(r),
-            message: blank(),
-            octets_read: 0,
-            replaced_escapes: 0,
-        },
-        SubmitFound::Whole(f) => message(data, f),
-    }
+    let fields = reading::fields_of(data)?;
+    Ok(message(data, fields))
 }
 
 // A length that counts: that of what is absent doesn't.
@@ -224,24 +226,32 @@ fn length_if(there: bool, length: usize) -> usize
 
 impl SmsSubmit {
     // Writes the message to the start of a lent output.
-    pub fn encode(self, out: &mut [u8]) -> Written
-        ensures { (written_says result, out.new) ≡ lend refuses (submitting self) out.old }
+    pub fn encode(self, out: &mut [u8]) -> Result<usize, Refusal>
+        ensures { (result, out.new) ≡ lend (submitting self) out.old }
     {
         let period = self.tp_validity_period;
         let vpf = self.tp_vpf;
-        let n = length_if(
-            self.has_destination_address,
-            self.tp_destination_address.address_length,
-        );
+        let n = self
+            .tp_destination_address
+            .map_or(0, |to| to.address_length);
         let absolute = period.format() == VALIDITY_PERIOD_FORMAT_ABSOLUTE;
         let m = length_if(absolute, self.validity_period_digits.length);
         let k = self.tp_user_data_raw.length;
-        let h = length_if(self.has_user_data_header, self.tp_user_data_header.length);
+        let h = self.tp_user_data_header.map_or(0, |header| header.length);
         let t = self.tp_user_data.length;
         let fit = (n <= 290) & ((m <= 14) & ((k <= 255) & ((h <= 255) & (t <= 510))));
         if !fit {
-            return Written::Refused(Refusal::LengthTooLarge);
+            return Err(Refusal::LengthTooLarge);
         }
+        if self.tp_mti != MTI_SUBMIT {
+            return Err(Refusal::WrongMessageType);
+        }
+        if vpf != period.format() {
+            return Err(Refusal::ValidityFormatDisagrees);
+        }
+        let Some(to) = self.tp_destination_address else {
+            return Err(Refusal::NoDestination);
+        };
         let values = SubmitValues {
             first: layout::first_octet(
                 MTI_SUBMIT,
@@ -253,26 +263,19 @@ impl SmsSubmit {
                 self.tp_rd,
             ),
             mr: self.tp_mr,
-            ton: self.tp_destination_address.ton,
-            npi: self.tp_destination_address.npi,
+            ton: to.ton,
+            npi: to.npi,
             pid: self.tp_pid,
             dcs: self.tp_dcs,
             period,
             udl: self.tp_user_data_length,
         };
-        let text = self.tp_destination_address.address;
-        let digits = self.validity_period_digits.digits;
-        let enhanced = self.validity_period_octets;
-        let data = self.tp_user_data_raw.octets;
         writing::encode_fields(
-            self.tp_mti,
-            vpf,
-            self.has_destination_address,
             values,
-            &text[..n],
-            &digits[..m],
-            enhanced,
-            &data[..k],
+            &to.address[..to.address_length],
+            &self.validity_period_digits.digits[..m],
+            self.validity_period_octets,
+            &self.tp_user_data_raw.octets[..k],
             out,
         )
     }

@@ -6,10 +6,10 @@ ghost use Rattle.submit.specs.Layout.{header_size, fields};
 ghost use Rattle.submit.specs.Internal.{after_coding, found_says, Inside};
 
 use layout::MTI_SUBMIT;
-use octets::{Octet, Place, Refusal, Span};
+use octets::{Place, Refusal};
 
 // The fields of one octet, and where the others start: the address, so many octets of validity, and so many octets of user data, the first `header` of them the header.
-#[derive(Clone, Copy)]
+#[derive(Clone, Copy, Debug, PartialEq, Eq)]
 pub struct SubmitFields {
     pub first: u8,
     pub mr: u8,
@@ -22,13 +22,6 @@ pub struct SubmitFields {
     pub data: usize,
     pub octets: usize,
     pub header: usize,
-}
-
-// The fields if they are all there, or the refusal.
-#[derive(Clone, Copy)]
-pub enum SubmitFound {
-    Whole(SubmitFields),
-    Refused(Refusal),
 }
 
 // The octets that a header takes; none without TP-UDHI.
@@ -53,30 +46,30 @@ fn after_coding(
     pid: u8,
     dcs: u8,
     place: Place,
-) -> SubmitFound
+) -> Result<SubmitFields, Refusal>
     requires { (address + address_size (drop address «data».now) ≤ length «data».now) × (place.at ≤ length «data».now) }
     ensures { (found_says «data».now result ≡ read_from (after_coding first mr (canonical_address (cut addressKind (drop address «data».now))) pid dcs) «data».now place.at) × Inside «data».now address result }
 {
     let validity_octets = validity_period::validity_octets(first / 8 % 4);
-    let Span::There(validity, place2) = place.span(data, validity_octets) else {
-        return SubmitFound::Refused(Refusal::OctetsEnd);
+    let Some((validity, place2)) = place.span(data, validity_octets) else {
+        return Err(Refusal::OctetsEnd);
     };
-    let Octet::Read(udl, place3) = place2.octet(data) else {
-        return SubmitFound::Refused(Refusal::OctetsEnd);
+    let Some((udl, place3)) = place2.octet(data) else {
+        return Err(Refusal::OctetsEnd);
     };
     let octets = coding::user_data_octets(coding::user_data_coding(dcs), udl);
-    let Span::There(start, place4) = place3.span(data, octets) else {
-        return SubmitFound::Refused(Refusal::OctetsEnd);
+    let Some((start, place4)) = place3.span(data, octets) else {
+        return Err(Refusal::OctetsEnd);
     };
     let end = place4.at;
     let header = header_size(first / 64 % 2 == 1, &data[start..end]);
     if octets < header {
-        return SubmitFound::Refused(Refusal::HeaderNotWhole);
+        return Err(Refusal::HeaderNotWhole);
     }
     if !user_data_header::in_count(coding::user_data_coding(dcs), udl, header) {
-        return SubmitFound::Refused(Refusal::HeaderPassesCount);
+        return Err(Refusal::HeaderPassesCount);
     }
-    SubmitFound::Whole(SubmitFields {
+    Ok(SubmitFields {
         first,
         mr,
         address,
@@ -92,27 +85,27 @@ fn after_coding(
 }
 
 // The fields of a message.
-pub fn fields_of(data: &[u8]) -> SubmitFound
+pub fn fields_of(data: &[u8]) -> Result<SubmitFields, Refusal>
     ensures { (found_says «data».now result ≡ read_from fields «data».now 0) × Inside «data».now 2 result }
 {
     let start = Place { at: 0 };
-    let Octet::Read(first, place) = start.octet(data) else {
-        return SubmitFound::Refused(Refusal::OctetsEnd);
+    let Some((first, place)) = start.octet(data) else {
+        return Err(Refusal::OctetsEnd);
     };
     if first % 4 != MTI_SUBMIT {
-        return SubmitFound::Refused(Refusal::WrongMessageType);
+        return Err(Refusal::WrongMessageType);
     }
-    let Octet::Read(mr, place2) = place.octet(data) else {
-        return SubmitFound::Refused(Refusal::OctetsEnd);
+    let Some((mr, place2)) = place.octet(data) else {
+        return Err(Refusal::OctetsEnd);
     };
-    let Span::There(address, place3) = address::address_span(data, place2) else {
-        return SubmitFound::Refused(Refusal::OctetsEnd);
+    let Some((address, place3)) = address::address_span(data, place2) else {
+        return Err(Refusal::OctetsEnd);
     };
-    let Octet::Read(pid, place4) = place3.octet(data) else {
-        return SubmitFound::Refused(Refusal::OctetsEnd);
+    let Some((pid, place4)) = place3.octet(data) else {
+        return Err(Refusal::OctetsEnd);
     };
-    let Octet::Read(dcs, place5) = place4.octet(data) else {
-        return SubmitFound::Refused(Refusal::OctetsEnd);
+    let Some((dcs, place5)) = place4.octet(data) else {
+        return Err(Refusal::OctetsEnd);
     };
     after_coding(data, first, mr, address, pid, dcs, place5)
 }

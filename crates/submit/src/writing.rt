@@ -1,15 +1,12 @@
 // SMS-SUBMIT (TS 23.040 §9.2.2.2), written from its fields' values.
-ghost use Rattle.std.specs.Prelude.{◌≡◌, true, ◌+◌, ◌/◌, ◌≤◌, length};
-ghost use Rattle.octets.specs.Answers.{gives, refuses, written_says};
+ghost use Rattle.std.specs.Prelude.{◌≡◌, true, ◌+◌, ◌/◌, ◌≤◌, length, Ok, Err};
 ghost use Rattle.octets.specs.Lent.{Wrote, lend};
 ghost use Rattle.address.specs.Writing.{address_making};
 ghost use Rattle.address.specs.Internal.{check_of};
 ghost use Rattle.validity_period.specs.Validity.{format_of, period_size, period_octets, time_holds};
 ghost use Rattle.submit.specs.Internal.{octets_in, making};
 
-use address::writing::AddressCheck;
-use layout::MTI_SUBMIT;
-use octets::{Checked, Refusal, Written};
+use octets::Refusal;
 use validity_period::ValidityPeriod;
 
 // The fields of one octet, type and plan of the address, and the validity period.
@@ -35,7 +32,7 @@ fn put_fields(
     data: &[u8],
     out: &mut [u8],
 ) -> usize
-    requires { (check_of (address_making v.ton v.npi text.now) ≡ gives count) × (time_holds v.period digits.now ≡ true) × (length enhanced.now ≡ 7) × (7 + (count + 1) / 2 + period_size (format_of v.period) + length «data».now ≤ length out.old) }
+    requires { (check_of (address_making v.ton v.npi text.now) ≡ Ok count) × (time_holds v.period digits.now ≡ true) × (length enhanced.now ≡ 7) × (7 + (count + 1) / 2 + period_size (format_of v.period) + length «data».now ≤ length out.old) }
     ensures { Wrote 0 (octets_in v text.now (period_octets v.period digits.now enhanced.now) «data».now) out.old result out.new }
 {
     let period = v.period;
@@ -51,43 +48,24 @@ fn put_fields(
 
 // Writes the values to the start of a lent output: checks in order, then the size, then the octets.
 pub fn encode_fields(
-    mti: u8,
-    vpf: u8,
-    there: bool,
     v: SubmitValues,
     text: &[u8],
     digits: &[u8],
     enhanced: [u8; 7],
     data: &[u8],
     out: &mut [u8],
-) -> Written
-    ensures { (written_says result, out.new) ≡ lend refuses (making mti vpf there v text.now digits.now enhanced «data».now) out.old }
+) -> Result<usize, Refusal>
+    ensures { (result, out.new) ≡ lend (making v text.now digits.now enhanced «data».now) out.old }
 {
     let period = v.period;
-    if mti != MTI_SUBMIT {
-        return Written::Refused(Refusal::WrongMessageType);
+    coding::check_user_data(v.dcs, v.udl, data.len())?;
+    let count = address::writing::check_address(v.ton, v.npi, text)?;
+    if !validity_period::check_period(period, digits) {
+        return Err(Refusal::NotATime);
     }
-    if vpf != period.format() {
-        return Written::Refused(Refusal::ValidityFormatDisagrees);
+    let validity = validity_period::validity_octets(period.format());
+    if out.len() < 7 + (count + 1) / 2 + validity + data.len() {
+        return Err(Refusal::OutputTooShort);
     }
-    if !there {
-        return Written::Refused(Refusal::NoDestination);
-    }
-    if let Checked::Against(r) = coding::check_user_data(v.dcs, v.udl, data.len()) {
-        return Written::Refused(r);
-    }
-    match address::writing::check_address(v.ton, v.npi, text) {
-        AddressCheck::Refused(r) => Written::Refused(r),
-        AddressCheck::Fine(count) => {
-            if !validity_period::check_period(period, digits) {
-                return Written::Refused(Refusal::NotATime);
-            }
-            if out.len()
-                < 7 + (count + 1) / 2 + validity_period::validity_octets(vpf) + data.len()
-            {
-                return Written::Refused(Refusal::OutputTooShort);
-            }
-            Written::Done(put_fields(v, text, count, digits, &enhanced, data, out))
-        }
-    }
+    Ok(put_fields(v, text, count, digits, &enhanced, data, out))
 }

@@ -1,5 +1,6 @@
 -- What a writer makes of a record within a limit: its lengths, its outcome, its UDHI, then its fields.
 -- Assumes nothing.
+use Rattle.std.specs.Prelude.{Some}
 use Prim.Native.Nat.{ℕ, ◌≤◌, ◌<◌}
 use mathlib.Core.Path.{◌≡◌}
 use mathlib.Core.Bool.{true, false}
@@ -29,6 +30,6 @@ module _ (limit : ℕ) (r : SmsSubmitReport) where
       unfolding submit_reporting_within checked
       udhi_large h = rw (fit, agrees, lt-leb r.tp_udhi 1 h)
 
-      pub by_fields : r.tp_udhi ≤ 1 → submit_reporting_within limit r ≡ making limit 1 true (eqb r.tp_udhi 1) r.tp_failure_cause r.tp_parameter_indicator (digits_of r.tp_service_centre_timestamp) (fields_in r).parameters
+      pub by_fields : r.tp_udhi ≤ 1 → submit_reporting_within limit r ≡ making limit 1 (eqb r.tp_udhi 1) r.tp_failure_cause r.tp_parameter_indicator (Some (digits_of r.tp_service_centre_timestamp)) (fields_in r).parameters
       unfolding submit_reporting_within making checked
       by_fields h = rw (fit, agrees, le-leb r.tp_udhi 1 h)

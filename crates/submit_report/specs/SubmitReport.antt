@@ -1,6 +1,6 @@
 -- SMS-SUBMIT-REPORT (TS 23.040 §9.2.2.2a): its two layouts, what its writers make of a record, and what is no part of one.
-use Rattle.std.specs.Prelude.{ℕ, ◌≡◌, refl, true, List, [], ◌∷◌, leb, eqb}
-use Rattle.octets.specs.Answers.{Said, outcome_says, refuses, fine}
+use Rattle.std.specs.Prelude.{ℕ, ◌≡◌, refl, true, List, [], ◌∷◌, leb, eqb, Err, Some, None, Option}
+use Rattle.octets.specs.Answers.{fine}
 use Rattle.octets.specs.Checks.{◌unless◌, found, checked, all_fit}
 use Rattle.octets.specs.Choice.{flag}
 use Rattle.octets.specs.Lent.{Making}
@@ -9,15 +9,14 @@ use Rattle.coding.specs.Coding.{coding_of, character_set, data_octets, data_with
 use Rattle.coding.specs.declared.UserData.{UserData}
 use Rattle.time.specs.Time.{is_time, time_in, time_octets, digits_of, cleared_time, capital_time, TypedTime}
 use Rattle.time.specs.declared.Time.{Time}
+use Rattle.gsm7.specs.Reading.{replaced_in_all}
 use Rattle.layout.specs.Layout.{indicator_size, kept, Layout, records, stops, reached, halted, after, reading, read_from, read, fields_of, canonical_of}
 use Rattle.parameters.specs.Checking.{data_within}
 use Rattle.parameters.specs.Layout.{parameters}
 use Rattle.parameters.specs.Outcome.{outcome_agrees}
-use Rattle.parameters.specs.declared.OptionalOctet.{OptionalOctet}
-use Rattle.parameters.specs.declared.OptionalOctet.TheVariants.{Absent, Present}
 use Rattle.parameters.specs.declared.RpOutcome.{RpOutcome}
 use Rattle.parameters.specs.declared.RpOutcome.TheVariants.{RpAck, RpError}
-use Rattle.report.specs.Report.{Fields, format, blank as blankFields, stopped as stoppedFields, layout_of as reportLayout, octets_of, checks_within}
+use Rattle.report.specs.Report.{Fields, format, blank as blankFields, stopped as stoppedFields, layout_of as reportLayout, texts_read, octets_of, checks_within}
 use Rattle.submit_report.specs.declared.SmsSubmitReport.{SmsSubmitReport}
 use Rattle.submit_report.specs.declared.SubmitReportRead.{SubmitReportRead}
 
@@ -51,13 +50,13 @@ layout_of outcome = records submit_reported (reportLayout 1 true outcome)
 -- 05 is stopped, and stands as octets that are no report, since they have no time; an RP-ERROR with UDHI, cause 80, an extended indicator 81, a time and PID 11
 known_reports : (read (layout_of RpError) (0x05 ∷ []) ≡ reached stopped 1) × (canonical_of (layout_of RpError) (0x05 ∷ []) ≡ 0x01 ∷ 0xff ∷ 0x00 ∷ []) × (read (layout_of RpError) (0x01 ∷ 0xff ∷ 0x00 ∷ []) ≡ halted OctetsEnd) × (read (layout_of RpAck) (0x00 ∷ []) ≡ halted WrongMessageType)
     × (read (layout_of RpError) (0x41 ∷ 0x80 ∷ 0x81 ∷ 0x00 ∷ 0x42 ∷ 0x20 ∷ 0x51 ∷ 0x21 ∷ 0x03 ∷ 0x54 ∷ 0x00 ∷ 0x11 ∷ [])
-    ≡ reached (submit_reported (record { outcome = RpError; udhi = true; cause = Present 0x80; indicator = 0x81; scts = 0x42 ∷ 0x20 ∷ 0x51 ∷ 0x21 ∷ 0x03 ∷ 0x54 ∷ 0x00 ∷ []; parameters = record { pid = Present 0x11; dcs = Absent; udl = Absent; ud = [] } })) 12)
+    ≡ reached (submit_reported (record { outcome = RpError; udhi = true; cause = Some 0x80; indicator = 0x81; scts = 0x42 ∷ 0x20 ∷ 0x51 ∷ 0x21 ∷ 0x03 ∷ 0x54 ∷ 0x00 ∷ []; parameters = record { pid = Some 0x11; dcs = None; udl = None; ud = [] } })) 12)
 unfolding format read read_from reading after stops canonical_of fields_of parameters kept indicator_size
 known_reports = (refl, refl, refl, refl, refl)
 
--- what an answer of a reader says: its outcome and the record, and beside them how many escapes were replaced
-abbrev pub submit_report_read_says : SubmitReportRead → (Said Unit × SmsSubmitReport) × ℕ
-submit_report_read_says r = ((outcome_says r.outcome, r.message), r.replaced_escapes)
+-- what a reader gives of a record: it, and how many escapes in its texts were replaced
+abbrev pub read_with : List ℕ → SmsSubmitReport → ℕ → SubmitReportRead
+read_with s r at = record { message = r; replaced_escapes = replaced_in_all (texts_read s r) }
 
 -- ---- writing
 
@@ -77,7 +76,7 @@ abbrev pub lengths_of : SmsSubmitReport → List (ℕ × ℕ)
 lengths_of r = (r.tp_service_centre_timestamp.length, 14) ∷ (r.tp_user_data.length, 255) ∷ []
 
 -- what a writer makes of a record within a limit of user data: 1; 29; 4; 13 and 14; 12; 7, 8 and 15
-unfoldable pub submit_reporting_within : ℕ → SmsSubmitReport → Making (Said ℕ)
+unfoldable pub submit_reporting_within : ℕ → SmsSubmitReport → Making ℕ
 submit_reporting_within limit r =
     checked
     ((LengthTooLarge unless all_fit (lengths_of r)) ∷ (OutcomeDisagrees unless outcome_agrees r.rp_outcome r.tp_failure_cause) ∷ (UdhiTooLarge unless leb r.tp_udhi 1)
@@ -85,21 +84,21 @@ submit_reporting_within limit r =
     (octets_of 1 (fields_in r))
 
 -- the ported writer: within 140
-abbrev pub submit_reporting : SmsSubmitReport → Making (Said ℕ)
+abbrev pub submit_reporting : SmsSubmitReport → Making ℕ
 submit_reporting = submit_reporting_within 140
 
 -- the limits of the standard's two tables (TS 23.040 §9.2.2.2a): 152 in an RP-ACK, 151 in an RP-ERROR, which a cause means
-abbrev pub standard_limit : OptionalOctet → ℕ
-standard_limit Absent = 152
-standard_limit (Present cause) = 151
+abbrev pub standard_limit : Option ℕ → ℕ
+standard_limit None = 152
+standard_limit (Some cause) = 151
 
 -- the writer to the standard: within these
-abbrev pub submit_reporting_to_standard : SmsSubmitReport → Making (Said ℕ)
+abbrev pub submit_reporting_to_standard : SmsSubmitReport → Making ℕ
 submit_reporting_to_standard r = submit_reporting_within (standard_limit r.tp_failure_cause) r
 
 -- user data of 152 and 153 octets in an RP-ACK, of 151 and 152 in an RP-ERROR with cause D3
-known_limits : (found (data_within (standard_limit Absent) (Present 0x04) (Present 152) 152) ≡ fine) × (found (data_within (standard_limit Absent) (Present 0x04) (Present 153) 153) ≡ refuses UserDataTooLong)
-    × (found (data_within (standard_limit (Present 0xd3)) (Present 0x04) (Present 151) 151) ≡ fine) × (found (data_within (standard_limit (Present 0xd3)) (Present 0x04) (Present 152) 152) ≡ refuses UserDataTooLong)
+known_limits : (found (data_within (standard_limit None) (Some 0x04) (Some 152) 152) ≡ fine) × (found (data_within (standard_limit None) (Some 0x04) (Some 153) 153) ≡ Err UserDataTooLong)
+    × (found (data_within (standard_limit (Some 0xd3)) (Some 0x04) (Some 151) 151) ≡ fine) × (found (data_within (standard_limit (Some 0xd3)) (Some 0x04) (Some 152) 152) ≡ Err UserDataTooLong)
 unfolding data_within coding_of character_set data_octets
 known_limits = (refl, refl, refl, refl)
 

@@ -1,56 +1,36 @@
 // The fields of a line, which stand between spaces.
-use crate::slices::{between, find};
+ghost use Rattle.std.specs.Prelude.{length};
+ghost use Rattle.std.specs.Iterator.{at_most};
 
-// How many fields were gone over, and the place that was come to.
-#[derive(Clone, Copy)]
-struct GoneOver {
-    count: usize,
-    place: usize,
+use crate::slices::find;
+
+// The fields of what is left of a line, from the left.
+#[derive(Drop)]
+pub struct Fields<'a> {
+    rest: &'a [u8],
 }
 
-// Goes over n fields of a line to where the next begins; to the end of the line if there are no more.
-fn go_over(line: &[u8], n: usize) -> GoneOver {
-    let mut count = 0;
-    let mut last = b' ';
-    let mut i = 0;
-    while i < line.len() {
-        if last == b' ' && line[i] != b' ' {
-            if count == n {
-                return GoneOver { count, place: i };
-            }
-            count += 1;
-        }
-        last = line[i];
-        i += 1;
+impl<'a> Iterator for Fields<'a> {
+    type Item = &'a [u8];
+
+    ghost remaining = { λ f. at_most (length f.rest.now) };
+
+    fn next(&mut self) -> Option<&'a [u8]> {
+        let line = self.rest;
+        let start = line.iter().position(|c| *c != b' ')?;
+        let end = find(line, start + 1, b' ').unwrap_or(line.len());
+        self.rest = &line[end..];
+        Some(&line[start..end])
     }
-    GoneOver { count, place: i }
 }
 
-// Where field n of a line begins, counted from 0; the end of the line if there are fewer.
-pub fn field_start(line: &[u8], n: usize) -> usize {
-    go_over(line, n).place
-}
-
-// How many fields a line has.
-pub fn field_count(line: &[u8]) -> usize {
-    go_over(line, line.len()).count
-}
-
-// The field that begins at a place.
-pub fn field_from(line: &[u8], start: usize) -> &[u8] {
-    between(line, start, find(line, start, b' '))
-}
-
-// Field n of a line, counted from 0; no octets if there are fewer.
-pub fn field(line: &[u8], n: usize) -> &[u8] {
-    field_from(line, field_start(line, n))
-}
-
-// The last field of a line; no octets if it has none.
-pub fn last_field(line: &[u8]) -> &[u8] {
-    let count = field_count(line);
-    if count == 0 {
-        return between(line, 0, 0);
+impl<'a> Fields<'a> {
+    pub fn of(line: &'a [u8]) -> Self {
+        Fields { rest: line }
     }
-    field(line, count - 1)
+}
+
+// Field n of a line, counted from 0.
+pub fn field(line: &[u8], n: usize) -> Option<&[u8]> {
+    Fields::of(line).nth(n)
 }

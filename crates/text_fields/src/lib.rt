@@ -1,6 +1,5 @@
-// Octets cut and compared, lists of texts, and the fields of a line.
+// The fields of a line, and octets cut and searched where std has no method for it.
 #![tactic(auto)]
 
 pub mod fields;
-pub mod lists;
 pub mod slices;

@@ -8,7 +8,8 @@ ghost use Rattle.octets.specs.Lent.{Wrote};
 ghost use Rattle.time.specs.Time.{hex_digit, is_hex, hex_value, time_digits, time_in, time_octets, is_time};
 
 // A time as a record holds it: digits, and how many there are.
-#[derive(Clone, Copy)]
+// An array with its length: there is no heap, and a length past the array is what refusal 1 is of.
+#[derive(Clone, Copy, Debug)]
 pub struct Time {
     pub digits: [u8; 14],
     pub length: usize,
@@ -41,17 +42,7 @@ fn hex_value(c: u8) -> u8
 pub fn is_time(digits: &[u8]) -> bool
     ensures { result ≡ is_time digits.now }
 {
-    if digits.len() != 14 {
-        return false;
-    }
-    let mut i = 0;
-    while i < 14 {
-        if !is_hex(digits[i]) {
-            return false;
-        }
-        i += 1;
-    }
-    true
+    digits.len() == 14 && digits.iter().all(|c| is_hex(*c))
 }
 
 // Writes the seven octets of a time from `at` on; the place after them.
@@ -59,12 +50,10 @@ pub fn encode_time(digits: &[u8], out: &mut [u8], at: usize) -> usize
     requires { (is_time digits.now ≡ true) × (at + 7 ≤ length out.old) }
     ensures { Wrote at (time_octets digits.now) out.old result out.new }
 {
-    let mut i = 0;
-    while i < 7 {
+    for i in 0..7 {
         let first = hex_value(digits[2 * i]);
         let second = hex_value(digits[2 * i + 1]);
         out[at + i] = first + 16 * second;
-        i += 1;
     }
     at + 7
 }
@@ -75,12 +64,10 @@ pub fn decode_time(data: &[u8], at: usize) -> [u8; 14]
     ensures { result ≡ time_digits (take 7 (drop at «data».now)) }
 {
     let mut digits = [0u8; 14];
-    let mut i = 0;
-    while i < 7 {
+    for i in 0..7 {
         let octet = data[at + i];
         digits[2 * i] = hex_digit(octet % 16);
         digits[2 * i + 1] = hex_digit(octet / 16);
-        i += 1;
     }
     digits
 }

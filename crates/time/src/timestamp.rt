@@ -1,40 +1,10 @@
 // A time from its calendar values and zone (TS 23.040 §9.2.3.11).
 ghost use Rattle.std.specs.Prelude.{◌≡◌, [], ◌∷◌, ◌≤◌, nat_abs};
-ghost use Rattle.octets.specs.declared.Refusal.TheVariants.{CalendarOutOfRange, ZoneOutOfRange};
 ghost use Rattle.time.specs.Internal.{decimal_octet};
 ghost use Rattle.time.specs.Time.{time_digits};
-ghost use Rattle.time.specs.Timestamp.{in_calendar, timestamp_says, refused_digits, zone_sign, timestamp};
+ghost use Rattle.time.specs.Timestamp.{in_calendar, zone_sign, timestamp};
 
-use octets::{Outcome, Refusal};
-
-// How `timestamp_digits` ended, and the digits; zero octets on a refusal.
-#[derive(Clone, Copy)]
-pub struct TimestampDigits {
-    pub outcome: Outcome,
-    pub digits: [u8; 14],
-}
-
-// A refusal, with no digits.
-fn refused(why: Refusal) -> TimestampDigits
-    ensures { timestamp_says result ≡ refused_digits why }
-{
-    TimestampDigits {
-        outcome: Outcome::Refused(why),
-        digits: [0; 14],
-    }
-}
-
-fn out_of_calendar() -> TimestampDigits
-    ensures { timestamp_says result ≡ refused_digits CalendarOutOfRange }
-{
-    refused(Refusal::CalendarOutOfRange)
-}
-
-fn out_of_zones() -> TimestampDigits
-    ensures { timestamp_says result ≡ refused_digits ZoneOutOfRange }
-{
-    refused(Refusal::ZoneOutOfRange)
-}
+use octets::Refusal;
 
 // Every calendar value is in its range.
 fn in_calendar(year: u8, month: u8, day: u8, hour: u8, minute: u8, second: u8) -> bool
@@ -93,6 +63,7 @@ fn digits_of(year: u8, month: u8, day: u8, hour: u8, minute: u8, second: u8, zon
 }
 
 // The fourteen digits of a time from its calendar values and zone: two decimal digits each, and the sign of the zone in its first digit.
+// Seven values, as the Rust takes them.
 pub fn timestamp_digits(
     year: u8,
     month: u8,
@@ -101,19 +72,16 @@ pub fn timestamp_digits(
     minute: u8,
     second: u8,
     time_zone_quarter_hours: i8,
-) -> TimestampDigits
-    ensures { timestamp_says result ≡ timestamp year month day hour minute second time_zone_quarter_hours }
+) -> Result<[u8; 14], Refusal>
+    ensures { result ≡ timestamp year month day hour minute second time_zone_quarter_hours }
 {
     if !in_calendar(year, month, day, hour, minute, second) {
-        return out_of_calendar();
+        return Err(Refusal::CalendarOutOfRange);
     }
     let quarters = quarter_hours(time_zone_quarter_hours);
     if 79 < quarters {
-        return out_of_zones();
+        return Err(Refusal::ZoneOutOfRange);
     }
     let zone = decimal_octet(quarters) + zone_sign(time_zone_quarter_hours);
-    TimestampDigits {
-        outcome: Outcome::Done,
-        digits: digits_of(year, month, day, hour, minute, second, zone),
-    }
+    Ok(digits_of(year, month, day, hour, minute, second, zone))
 }

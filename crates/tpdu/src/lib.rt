@@ -12,15 +12,14 @@ pub use canonical::{
 pub use coding::{UserData, UserDataCoding, user_data_coding};
 pub use columns::{Strings, from_columns, to_columns};
 pub use concatenation::{Concatenated, pack_gsm7_concatenated};
-pub use cursor::from_place::OctetRead;
 pub use cursor::{Cursor, submit_behind};
 pub use deliver::{DeliverRead, SmsDeliver};
 pub use deliver_report::{DeliverReportRead, SmsDeliverReport};
 pub use gsm7::decode::{Unpacked, unpack_gsm7};
 pub use gsm7::packing::{Packed, pack_gsm7};
-pub use header_elements::{ElementsRead, HeaderElements, read_header_elements};
-pub use octets::{Outcome, Refusal, Written};
-pub use parameters::{OptionalOctet, RpOutcome};
+pub use header_elements::{HeaderElements, read_header_elements};
+pub use octets::Refusal;
+pub use parameters::RpOutcome;
 pub use part_number::Reference;
 pub use reassembly::{
     MESSAGE_OCTETS, MessageDropped, MessageTaken, PartAccepted, STORE_OCTETS, accept_part,
@@ -32,7 +31,7 @@ pub use status_report::{SmsStatusReport, StatusReportRead};
 pub use submit::{SmsSubmit, SubmitRead, SubmitText, decode_sms_submit_tpdu};
 pub use submit_report::{SmsSubmitReport, SubmitReportRead};
 pub use time::Time;
-pub use time::timestamp::{TimestampDigits, timestamp_digits};
+pub use time::timestamp::timestamp_digits;
 pub use ucs2::{gsm7_to_ucs2, ucs2_to_gsm7};
 pub use user_data_header::{UnpackedWithHeader, pack_gsm7_with_header, unpack_gsm7_with_header};
 pub use validity_period::ValidityPeriod;

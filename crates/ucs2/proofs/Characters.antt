@@ -1,5 +1,6 @@
 -- Characters as UCS2 and as septets: which have them, and what each conversion keeps.
 -- Assumes nothing.
+use Rattle.std.specs.Prelude.{Ok, Err}
 use Prim.Native.Nat.{ℕ, zero, suc, ◌+◌, ◌*◌, ◌%◌, ◌<◌, ◌≤◌}
 use mathlib.Core.Path.{◌≡◌, refl, sym, ◌∙◌, ap, ap₂, subst}
 use mathlib.Core.List.{List, [], ◌∷◌, ◌++◌, map}
@@ -9,7 +10,7 @@ use native.Mathlib.Omega.{arith}
 use borrow.Author.Tests.{leb-true, ne_eqb}
 use lib.Dec.{leb}
 use lib.ListN.{length, get_or}
-use Rattle.octets.specs.Answers.{Said, gives, refuses}
+use Rattle.octets.specs.Answers.{Said}
 use Rattle.octets.specs.Each.{Octets}
 use Rattle.octets.specs.declared.Refusal.TheVariants.{NotInAlphabet}
 use Rattle.octets.proofs.Table.{below}
@@ -64,12 +65,12 @@ entries_of [] ss e = ([], refl, (cc))
 entries_of (c ∷ cs) ss e = by_code (code_of c) (code_says_lem c) (codes_of cs) (λ ts q. entries_of cs ts q) e
   where
     by_code : (a : Said (List ℕ)) → Says c a → (r : Option (List ℕ)) → ((ts : List ℕ) → r ≡ some ts → Entries cs ts) → before a r ≡ some ss → Entries (c ∷ cs) ss
-    by_code (gives ks) says none ih e = let z : ◌≡◌ {A = ℕ} 0 1 = cc in absurd (omega arith)
-    by_code (gives ks) says (some ts) ih e =
+    by_code (Ok ks) says none ih e = let z : ◌≡◌ {A = ℕ} 0 1 = cc in absurd (omega arith)
+    by_code (Ok ks) says (some ts) ih e =
         let p : ks ++ ts ≡ ss = cc in
         let w = ih ts refl in
         (says.0 ∷ w.0, rw (says.1, w.1), rw (says.2, w.2) p)
-    by_code (refuses why) says r ih e = let z : ◌≡◌ {A = ℕ} 0 1 = cc in absurd (omega arith)
+    by_code (Err why) says r ih e = let z : ◌≡◌ {A = ℕ} 0 1 = cc in absurd (omega arith)
 
 entries_coded : (es : List Entry) → codes_of (map character_of es) ≡ some (coded es)
 unfolding codes_of before coded
@@ -98,12 +99,12 @@ codes_digits cs ss e = let w = entries_of cs ss e in subst (Digits 7) w.2 (coded
 abbrev pub InTables : ℕ → Type 0
 InTables c = (e : Entry) × (character_of e ≡ c)
 
-pub absent_means : (c : ℕ) → (code_of c ≡ refuses NotInAlphabet) ↔ (InTables c → ⊥)
+pub absent_means : (c : ℕ) → (code_of c ≡ Err NotInAlphabet) ↔ (InTables c → ⊥)
 absent_means c = (λ e w. let p = sym (entry_coded w.0) ∙ ap code_of w.1 ∙ e in let z : ◌≡◌ {A = ℕ} 0 1 = cc in omega arith, λ n. by_code n (code_of c) (code_says_lem c))
   where
-    by_code : (InTables c → ⊥) → (a : Said (List ℕ)) → Says c a → a ≡ refuses NotInAlphabet
-    by_code n (gives ks) says = absurd (n (says.0, says.1))
-    by_code n (refuses why) says = ap refuses says
+    by_code : (InTables c → ⊥) → (a : Said (List ℕ)) → Says c a → a ≡ Err NotInAlphabet
+    by_code n (Ok ks) says = absurd (n (says.0, says.1))
+    by_code n (Err why) says = ap Err says
 
 -- ESC is in neither; nor is a character past the euro sign: a surrogate, a byte order mark
 pub escape_absent : InTables 0x1b → ⊥
@@ -131,13 +132,13 @@ codes_none (c ∷ cs) = (by_code (code_of c) refl (code_says_lem c) (codes_of cs
     later w = (suc w.0, omega (arith, w.1), w.2)
 
     by_code : (a : Said (List ℕ)) → code_of c ≡ a → Says c a → (r : Option (List ℕ)) → (r ≡ none) ↔ OneAbsent cs → before a r ≡ none → OneAbsent (c ∷ cs)
-    by_code (gives ks) q says none ih e = later (ih.0 refl)
-    by_code (gives ks) q says (some ss) ih e = let z : ◌≡◌ {A = ℕ} 0 1 = cc in absurd (omega arith)
-    by_code (refuses why) q says r ih e = (0, omega arith, (absent_means c).0 (q ∙ ap refuses says))
+    by_code (Ok ks) q says none ih e = later (ih.0 refl)
+    by_code (Ok ks) q says (some ss) ih e = let z : ◌≡◌ {A = ℕ} 0 1 = cc in absurd (omega arith)
+    by_code (Err why) q says r ih e = (0, omega arith, (absent_means c).0 (q ∙ ap Err says))
 
     after_none : (a : Said (List ℕ)) → before a none ≡ none
-    after_none (gives ks) = refl
-    after_none (refuses why) = refl
+    after_none (Ok ks) = refl
+    after_none (Err why) = refl
 
     back : (codes_of cs ≡ none) ↔ OneAbsent cs → (i : ℕ) → i < length (c ∷ cs) → (InTables (get_or (c ∷ cs) i 0) → ⊥) → before (code_of c) (codes_of cs) ≡ none
     back ih zero l n = rw ((absent_means c).1 n)

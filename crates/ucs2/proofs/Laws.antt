@@ -1,5 +1,6 @@
 -- What the two conversions give, case by case; UCS2 that converts comes back unchanged, septets come back with each replaced escape as the character shown; and both are tied to the text readers and packers.
 -- Assumes nothing.
+use Rattle.std.specs.Prelude.{Ok, Err}
 use Prim.Native.Nat.{ℕ, ◌%◌, ◌<◌, ◌≤◌}
 use mathlib.Core.Path.{◌≡◌, refl, sym, ◌∙◌, ap, ap₂}
 use mathlib.Core.Bool.{Bool, true, false}
@@ -11,15 +12,15 @@ use native.Mathlib.Nat.{zero-add}
 use borrow.Author.Tests.{lt-ltb, le-ltb, ltb-true, ltb-false, eq-eqb, ne_eqb, eqb-true, eqb-false}
 use lib.Dec.{eqb, ltb}
 use lib.ListN.{length}
-use Rattle.octets.specs.Answers.{Said, gives}
 use Rattle.octets.specs.Each.{Octets}
 use Rattle.octets.specs.Lent.{Making, refused, made}
 use Rattle.octets.specs.declared.Refusal.{Refusal}
 use Rattle.octets.specs.declared.Refusal.TheVariants.{LengthTooLarge, NotInAlphabet, TooFewOctets, TooManySeptets, OddOctets, InNeitherTable}
 use Rattle.septets.specs.Septets.{septets_in, octet_count, packed_septets}
 use Rattle.septets.proofs.Inverse.{unpack_pack, length_packed, length_septets, septets_septets}
-use Rattle.gsm7.specs.Packing.{SaidCounts, packed_as, packed_after, packing}
-use Rattle.gsm7.specs.Reading.{replaced_in, text_given, text_refused, unpacked}
+use Rattle.gsm7.specs.Packing.{packed_as, packed_after, packing}
+use Rattle.gsm7.specs.declared.packing.Packed.{Packed}
+use Rattle.gsm7.specs.Reading.{replaced_in, text_given, unpacked}
 use Rattle.gsm7.specs.Writing.{septets_of}
 use Rattle.gsm7.proofs.PackingCases.{after_many, after_done}
 use Rattle.gsm7.proofs.Reading.{unpacked_long, unpacked_few, unpacked_done}
@@ -59,7 +60,7 @@ module _ (ucs2 : List ℕ) where
       gsm7_done h = gsm7_some ∙ rw zero-add at (after_done [] ss (omega arith))
 
 -- the cases, each with what is then made
-data Converting (ucs2 : List ℕ) : Making SaidCounts → Type 0 where
+data Converting (ucs2 : List ℕ) : Making Packed → Type 0 where
   odd : (length ucs2 % 2 ≡ 0 → ⊥) → Converting ucs2 (refused OddOctets)
   absent : length ucs2 % 2 ≡ 0 → codes_of (characters_in ucs2) ≡ none → Converting ucs2 (refused InNeitherTable)
   many : Converting ucs2 (refused TooManySeptets)
@@ -84,21 +85,21 @@ converting ucs2 = by_even (eqb (length ucs2 % 2) 0) refl
 pub refused_with_31 : (ucs2 : List ℕ) → (to_gsm7 ucs2 ≡ refused InNeitherTable) ↔ ((length ucs2 % 2 ≡ 0) × OneAbsent (characters_in ucs2))
 refused_with_31 ucs2 = (of_case (converting ucs2), λ w. gsm7_absent ucs2 w.0 ((codes_none (characters_in ucs2)).1 w.1))
   where
-    of_case : {m : Making SaidCounts} → Converting ucs2 m → m ≡ refused InNeitherTable → (length ucs2 % 2 ≡ 0) × OneAbsent (characters_in ucs2)
+    of_case : {m : Making Packed} → Converting ucs2 m → m ≡ refused InNeitherTable → (length ucs2 % 2 ≡ 0) × OneAbsent (characters_in ucs2)
     of_case (odd h) p = let z : ◌≡◌ {A = ℕ} 0 1 = cc in absurd (omega arith)
     of_case (absent even e) p = (even, (codes_none (characters_in ucs2)).0 e)
     of_case many p = let z : ◌≡◌ {A = ℕ} 0 1 = cc in absurd (omega arith)
     of_case (done even ss e few) p = let z : ◌≡◌ {A = ℕ} 0 1 = cc in absurd (omega arith)
 
 -- where it gives octets
-abbrev Converted : List ℕ → List ℕ → SaidCounts → Type 0
+abbrev Converted : List ℕ → List ℕ → Packed → Type 0
 Converted ucs2 xs a =
     (length ucs2 % 2 ≡ 0) × ((ss : List ℕ) × (codes_of (characters_in ucs2) ≡ some ss) × (length ss ≤ 255) × (xs ≡ packed_septets 0 ss) × (a ≡ packed_as (packed_septets 0 ss) (length ss)))
 
-gsm7_made : (ucs2 xs : List ℕ) (a : SaidCounts) → to_gsm7 ucs2 ≡ made xs a → Converted ucs2 xs a
+gsm7_made : (ucs2 xs : List ℕ) (a : Packed) → to_gsm7 ucs2 ≡ made xs a → Converted ucs2 xs a
 gsm7_made ucs2 xs a = of_case (converting ucs2)
   where
-    of_case : {m : Making SaidCounts} → Converting ucs2 m → m ≡ made xs a → Converted ucs2 xs a
+    of_case : {m : Making Packed} → Converting ucs2 m → m ≡ made xs a → Converted ucs2 xs a
     of_case (odd h) p = let z : ◌≡◌ {A = ℕ} 0 1 = cc in absurd (omega arith)
     of_case (absent even e) p = let z : ◌≡◌ {A = ℕ} 0 1 = cc in absurd (omega arith)
     of_case many p = let z : ◌≡◌ {A = ℕ} 0 1 = cc in absurd (omega arith)
@@ -119,14 +120,14 @@ module _ (os : List ℕ) (n : ℕ) where
     unfolding to_ucs2
     ucs2_few h = rw (le-ltb 255 n few, lt-ltb _ _ h)
 
-    pub ucs2_done : octet_count 0 n ≤ length os → to_ucs2 os n ≡ made ucs2_shown (gives (length ucs2_shown))
+    pub ucs2_done : octet_count 0 n ≤ length os → to_ucs2 os n ≡ made ucs2_shown (length ucs2_shown)
     unfolding to_ucs2
     ucs2_done h = rw (le-ltb 255 n few, le-ltb _ _ h)
 
-  data Showing : Making (Said ℕ) → Type 0 where
+  data Showing : Making ℕ → Type 0 where
     long : 255 < n → Showing (refused LengthTooLarge)
     short : n ≤ 255 → length os < octet_count 0 n → Showing (refused TooFewOctets)
-    shows : n ≤ 255 → octet_count 0 n ≤ length os → Showing (made ucs2_shown (gives (length ucs2_shown)))
+    shows : n ≤ 255 → octet_count 0 n ≤ length os → Showing (made ucs2_shown (length ucs2_shown))
 
   showing : Showing (to_ucs2 os n)
   showing = by_count (ltb 255 n) refl (ltb (length os) (octet_count 0 n)) refl
@@ -136,10 +137,10 @@ module _ (os : List ℕ) (n : ℕ) where
       by_count false q true r = rw (ucs2_few (ltb-false _ _ q) (ltb-true _ _ r)) (short (ltb-false _ _ q) (ltb-true _ _ r))
       by_count false q false r = rw (ucs2_done (ltb-false _ _ q) (ltb-false _ _ r)) (shows (ltb-false _ _ q) (ltb-false _ _ r))
 
-  ucs2_made : (us : List ℕ) (a : Said ℕ) → to_ucs2 os n ≡ made us a → (n ≤ 255) × (octet_count 0 n ≤ length os) × (us ≡ ucs2_shown)
+  ucs2_made : (us : List ℕ) (a : ℕ) → to_ucs2 os n ≡ made us a → (n ≤ 255) × (octet_count 0 n ≤ length os) × (us ≡ ucs2_shown)
   ucs2_made us a = of_case showing
     where
-      of_case : {m : Making (Said ℕ)} → Showing m → m ≡ made us a → (n ≤ 255) × (octet_count 0 n ≤ length os) × (us ≡ ucs2_shown)
+      of_case : {m : Making ℕ} → Showing m → m ≡ made us a → (n ≤ 255) × (octet_count 0 n ≤ length os) × (us ≡ ucs2_shown)
       of_case (long h) p = let z : ◌≡◌ {A = ℕ} 0 1 = cc in absurd (omega arith)
       of_case (short few h) p = let z : ◌≡◌ {A = ℕ} 0 1 = cc in absurd (omega arith)
       of_case (shows few h) p = (few, h, (cc))
@@ -147,17 +148,16 @@ module _ (os : List ℕ) (n : ℕ) where
 -- ---- there and back
 
 -- UCS2 that converts comes back unchanged
-pub ucs2_back : (ucs2 : List ℕ) → Octets ucs2 → (xs : List ℕ) (said : Said Unit) (octets septets : ℕ) → to_gsm7 ucs2 ≡ made xs (said, octets, septets)
-    → to_ucs2 xs septets ≡ made ucs2 (gives (length ucs2))
-ucs2_back ucs2 o xs said octets septets p =
-    let (even, (ss, e, few, ex, ea)) = gsm7_made ucs2 xs (said, octets, septets) p in
-    let en : septets ≡ length ss = ap (λ (a : SaidCounts). a.2) ea in
+pub ucs2_back : (ucs2 : List ℕ) → Octets ucs2 → (xs : List ℕ) (told : Packed) → to_gsm7 ucs2 ≡ made xs told → to_ucs2 xs told.septets ≡ made ucs2 (length ucs2)
+ucs2_back ucs2 o xs told p =
+    let (even, (ss, e, few, ex, ea)) = gsm7_made ucs2 xs told p in
+    let en : told.septets ≡ length ss = ap (λ (a : Packed). a.septets) ea in
     let enough : octet_count 0 (length ss) ≤ length (packed_septets 0 ss) = omega (arith, length_packed 0 ss) in
     let back : ucs2_shown (packed_septets 0 ss) (length ss) ≡ ucs2 =
     ap (λ (l : List ℕ). ucs2_of (characters_of l)) (unpack_pack 0 ss (codes_digits (characters_in ucs2) ss e)) ∙ ap ucs2_of (codes_shown (characters_in ucs2) ss e) ∙ of_in ucs2 o even in
     ap₂ to_ucs2 ex en ∙ ucs2_done (packed_septets 0 ss) (length ss) few enough ∙ rw back
 
-module _ (os : List ℕ) (n : ℕ) (us : List ℕ) (a : Said ℕ) (p : to_ucs2 os n ≡ made us a) where
+module _ (os : List ℕ) (n : ℕ) (us : List ℕ) (a : ℕ) (p : to_ucs2 os n ≡ made us a) where
   -- septets come back packed, with each replaced escape as the character shown: no more of them, and they show the same characters
   pub septets_back : let ss = as_shown (septets_in os 0 n) in
       (to_gsm7 us ≡ made (packed_septets 0 ss) (packed_as (packed_septets 0 ss) (length ss))) × (length ss ≤ n) × (characters_of ss ≡ characters_of (septets_in os 0 n))
@@ -177,19 +177,19 @@ module _ (os : List ℕ) (n : ℕ) (us : List ℕ) (a : Said ℕ) (p : to_ucs2 o
       rw (same, length_septets) at septets_back.0
 
   -- ---- the characters are those of the text that the text reader gives, and as many escapes are replaced
-  pub shown_as_text : unpacked os 0 n ≡ text_given (utf8_of (characters_in us)) (replaced_in (septets_in os 0 n))
+  pub shown_as_text : unpacked os 0 n ≡ Ok (text_given (utf8_of (characters_in us)) (replaced_in (septets_in os 0 n)))
   shown_as_text =
       let (few, enough, eu) = ucs2_made os n us a p in
       let read = septets_in os 0 n in
-      unpacked_done os 0 n few enough ∙ ap (λ (text : List ℕ). text_given text (replaced_in read)) (characters_shown read ∙ ap utf8_of (sym (ap characters_in eu ∙ in_of (characters_of read))))
+      unpacked_done os 0 n few enough ∙ ap (λ (text : List ℕ). Ok (text_given text (replaced_in read))) (characters_shown read ∙ ap utf8_of (sym (ap characters_in eu ∙ in_of (characters_of read))))
 
 -- and where it refuses, the text reader refuses too
-pub refused_as_text : (os : List ℕ) (n : ℕ) (why : Refusal) → to_ucs2 os n ≡ refused why → unpacked os 0 n ≡ text_refused why
+pub refused_as_text : (os : List ℕ) (n : ℕ) (why : Refusal) → to_ucs2 os n ≡ refused why → unpacked os 0 n ≡ Err why
 refused_as_text os n why = of_case (showing os n)
   where
-    of_case : {m : Making (Said ℕ)} → Showing os n m → m ≡ refused why → unpacked os 0 n ≡ text_refused why
-    of_case (long h) p = let e : LengthTooLarge ≡ why = cc in unpacked_long os 0 n h ∙ ap text_refused e
-    of_case (short few h) p = let e : TooFewOctets ≡ why = cc in unpacked_few os 0 n few h ∙ ap text_refused e
+    of_case : {m : Making ℕ} → Showing os n m → m ≡ refused why → unpacked os 0 n ≡ Err why
+    of_case (long h) p = let e : LengthTooLarge ≡ why = cc in unpacked_long os 0 n h ∙ ap Err e
+    of_case (short few h) p = let e : TooFewOctets ≡ why = cc in unpacked_few os 0 n few h ∙ ap Err e
     of_case (shows few h) p = let z : ◌≡◌ {A = ℕ} 0 1 = cc in absurd (omega arith)
 
 -- ---- UCS2 of an even number of octets is packed as the same characters as UTF-8 are
@@ -208,7 +208,7 @@ module _ (ucs2 : List ℕ) (o : Octets ucs2) (even : length ucs2 % 2 ≡ 0) wher
   both = (gsm7_even ucs2 even ∙ ap packed_codes (codes_text ucs2 o), refl)
 
   -- it converts exactly when these pack, and to the same octets and counts
-  pub packs_as_text : (xs : List ℕ) (a : SaidCounts) → (to_gsm7 ucs2 ≡ made xs a) ↔ (packing [] text ≡ made xs a)
+  pub packs_as_text : (xs : List ℕ) (a : Packed) → (to_gsm7 ucs2 ≡ made xs a) ↔ (packing [] text ≡ made xs a)
   packs_as_text xs a = rw (both.0, both.1) (alike (septets_of text))
     where
       alike : (r : Option (List ℕ)) → (packed_codes r ≡ made xs a) ↔ (packed_after [] r ≡ made xs a)

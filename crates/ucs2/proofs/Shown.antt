@@ -10,8 +10,7 @@ use native.Mathlib.Omega.{arith}
 use borrow.Author.Tests.{eqb-true, eqb-false, ne_eqb}
 use lib.Dec.{eqb}
 use lib.ListN.{length, length-append}
-use Rattle.octets.specs.Answers.{gives}
-use Rattle.std.specs.Prelude.{if◌then◌else◌}
+use Rattle.std.specs.Prelude.{if◌then◌else◌, Ok}
 use Rattle.septets.specs.Septets.{Digits}
 use Rattle.gsm7.specs.declared.decode.Extension.{Extension}
 use Rattle.gsm7.specs.Alphabet.{extension, row_with, character, character_or, escaped}
@@ -48,16 +47,16 @@ characters_shown =
 
 -- ---- they have septets: those read, with each replaced escape as the character shown
 
-code_space : code_of 0x20 ≡ gives (0x20 ∷ [])
+code_space : code_of 0x20 ≡ Ok (0x20 ∷ [])
 unfolding code_of
 code_space = refl
 
 -- of a code that follows an escape and is not in the extension table
-code_alone : (t : ℕ) → t < 128 → code_of (character t) ≡ gives ((if eqb t 0x1b then 0x20 else t) ∷ [])
+code_alone : (t : ℕ) → t < 128 → code_of (character t) ≡ Ok ((if eqb t 0x1b then 0x20 else t) ∷ [])
 unfolding character
 code_alone t h = by_test (eqb t 0x1b) refl
   where
-    by_test : (b : Bool) → eqb t 0x1b ≡ b → code_of (character t) ≡ gives ((if b then 0x20 else t) ∷ [])
+    by_test : (b : Bool) → eqb t 0x1b ≡ b → code_of (character t) ≡ Ok ((if b then 0x20 else t) ∷ [])
     by_test true e = ap (λ (k : ℕ). code_of (character k)) (eqb-true t 0x1b e) ∙ code_space
     by_test false e = alphabet_one_to_one t h (eqb-false t 0x1b e)
 
@@ -68,7 +67,7 @@ standing_before t h ss = by_row (row_with (λ (e : Extension). e.code) t extensi
   where
     by_row : (o : Option Extension) → Stands (λ (e : Extension). e.code) t extension o → before (code_of (character_or (character t) o)) (some ss) ≡ some (standing t o ++ ss)
     by_row none s = rw (code_alone t h)
-    by_row (some e) s = rw (ap (λ (x : Extension). code_of x.character) (sym s.2) ∙ extension_coded s.0 s.1 ∙ ap (λ (x : Extension). gives (0x1b ∷ x.code ∷ [])) s.2, s.3)
+    by_row (some e) s = rw (ap (λ (x : Extension). code_of x.character) (sym s.2) ∙ extension_coded s.0 s.1 ∙ ap (λ (x : Extension). Ok (0x1b ∷ x.code ∷ [])) s.2, s.3)
 
 pub shown_codes : (ss : List ℕ) → Digits 7 ss → codes_of (characters_of ss) ≡ some (as_shown ss)
 unfolding codes_of characters_of after_escape as_shown escape_as_shown before

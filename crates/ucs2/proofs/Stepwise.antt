@@ -1,6 +1,7 @@
 -- What is left to convert, one character at a time.
 -- Assumes nothing.
-use Prim.Native.Nat.{ℕ, suc, ◌+◌, ◌*◌, ◌/◌, ◌%◌, ◌<◌, ◌≤◌}
+use Rattle.std.specs.Prelude.{Ok, Err}
+use Prim.Native.Nat.{ℕ, zero, suc, ◌+◌, ◌*◌, ◌/◌, ◌%◌, ◌<◌, ◌≤◌}
 use mathlib.Core.Path.{◌≡◌, refl, sym, ◌∙◌}
 use mathlib.Core.Bool.{true}
 use mathlib.Core.List.{List, [], ◌∷◌, ◌++◌}
@@ -10,8 +11,8 @@ use native.Mathlib.Nat.{zero-add, add-zero}
 use native.Mathlib.Numerals.{add-one, add-two}
 use borrow.Author.Tests.{eq-eqb, ne_eqb}
 use lib.ListN.{length, get_or, take, drop, replicate, length-drop}
-use lib.Seq.{drop-cons}
-use Rattle.octets.specs.Answers.{gives, refuses}
+use lib.Seq.{drop-cons, get_or-take, get_or-drop}
+use Rattle.std.specs.Simd.{first_chunks}
 use Rattle.octets.specs.Lent.{Wrote}
 use Rattle.octets.specs.declared.Refusal.{Refusal}
 use Rattle.octets.proofs.Laws.{sets_zeros, take_pad}
@@ -35,6 +36,16 @@ lone [] h = refl
 lone (x ∷ []) h = refl
 lone (x ∷ y ∷ os) h = absurd (omega arith)
 
+-- a pair of octets is the two at its place
+pub pair_at : (k : ℕ) (os : List ℕ) (i : ℕ) → i < k → (get_or (get_or (first_chunks 2 k os) i []) 0 0 ≡ get_or os (2 * i) 0) × (get_or (get_or (first_chunks 2 k os) i []) 1 0 ≡ get_or os (2 * i + 1) 0)
+pair_at zero os i h = absurd (omega arith)
+pair_at (suc k) os zero h = (get_or-take 2 os 0 0 (omega arith), get_or-take 2 os 1 0 (omega arith))
+pair_at (suc k) os (suc i) h =
+    let r = pair_at k (drop 2 os) i (omega arith) in
+    let e : 2 * suc i ≡ 2 + 2 * i = omega arith in
+    let f : 2 * suc i + 1 ≡ 2 + (2 * i + 1) = omega arith in
+    (r.0 ∙ rw (e, get_or-drop), r.1 ∙ rw (f, get_or-drop))
+
 module _ (os : List ℕ) (i : ℕ) where
   pub codes_end : length os ≤ i + 1 → codes_of (characters_in (drop i os)) ≡ some []
   unfolding codes_of
@@ -51,12 +62,12 @@ module _ (os : List ℕ) (i : ℕ) where
         let h₂ : suc i < length os = omega arith in
         rw (drop-cons os i 0 h₁, drop-cons os (suc i) 0 h₂, add-one, add-two)
 
-    pub codes_absent : {why : Refusal} → code_of next ≡ refuses why → codes_of (characters_in (drop i os)) ≡ none
+    pub codes_absent : {why : Refusal} → code_of next ≡ Err why → codes_of (characters_in (drop i os)) ≡ none
     unfolding before
     codes_absent p = codes_next ∙ rw p
 
     -- the turn of a loop that stores the septets of the next character
-    pub codes_more : {array after : List ℕ} {count place : ℕ} (ks : List ℕ) → code_of next ≡ gives ks → Wrote count ks array place after
+    pub codes_more : {array after : List ℕ} {count place : ℕ} (ks : List ℕ) → code_of next ≡ Ok ks → Wrote count ks array place after
         → {whole : Option (List ℕ × ℕ)} → settled array count (codes_of (characters_in (drop i os))) ≡ whole → settled after place (codes_of (characters_in (drop (i + 2) os))) ≡ whole
     codes_more ks p written inv = sym (settled_before ks written (codes_of (characters_in (drop (i + 2) os)))) ∙ rw (codes_next, p) at inv
 

@@ -2,63 +2,56 @@
 #![tactic(auto)]
 
 ghost use Rattle.std.specs.Prelude.{◌≡◌, ◌+◌, ◌/◌, ◌%◌, ◌≤◌, [], ◌∷◌, length};
-ghost use Rattle.octets.specs.Answers.{refuses, written_says};
 ghost use Rattle.octets.specs.Lent.{lend, Wrote};
 ghost use Rattle.septets.specs.Septets.{septets_in};
 ghost use Rattle.gsm7.specs.Alphabet.{alphabet as defaultAlphabet};
 ghost use Rattle.gsm7.specs.Internal.{Codes, ScannedAs, four_characters};
-ghost use Rattle.gsm7.specs.Packing.{packed_says, not_packed};
 ghost use Rattle.ucs2.specs.Ucs2.{characters_in, ucs2_of, codes_of, characters_of, to_gsm7, to_ucs2};
 
 use gsm7::decode::GSM7_ESCAPE;
-use gsm7::encode::Scanned;
 use gsm7::packing::Packed;
-use octets::{Refusal, Written};
+use octets::Refusal;
 use septets::BitPlace;
 
 // The septets of UCS2 characters by a table of codes, counted past the array's end.
-fn scan_characters(table: &[u8; 256], ucs2: &[u8], codes: &mut [u8; 255]) -> Scanned
+fn scan_characters(table: &[u8; 256], ucs2: &[u8], codes: &mut [u8; 255]) -> Result<usize, Refusal>
     requires { Codes table.now × (length codes.old ≡ 255) }
     ensures { ScannedAs (codes_of (characters_in ucs2.now)) result codes.old codes.new }
 {
     let mut count = 0;
-    let mut i = 0;
-    while i + 1 < ucs2.len() {
-        let high = ucs2[i];
-        let low = ucs2[i + 1];
+    let (pairs, _) = ucs2.as_chunks::<2>();
+    for &[high, low] in pairs {
         if high == 0 {
             let code = table[low as usize];
             if code < 128 {
                 count = gsm7::encode::add(codes, count, code);
-                i += 2;
                 continue;
             }
         }
         let c = high as u16 * 256 + low as u16;
         let next = gsm7::encode::add_character(table, codes, count, c);
         if next == count {
-            return Scanned::NotCoded;
+            return Err(Refusal::NotInAlphabet);
         }
         count = next;
-        i += 2;
     }
-    Scanned::Counted(count)
+    Ok(count)
 }
 
 // UCS2 user data as packed septets: how many of them there are, and how many octets they take. A header before the text is the caller's to cut off.
-pub fn ucs2_to_gsm7(ucs2: &[u8], out: &mut [u8]) -> Packed
-    ensures { (packed_says result, out.new) ≡ lend not_packed (to_gsm7 ucs2.now) out.old }
+pub fn ucs2_to_gsm7(ucs2: &[u8], out: &mut [u8]) -> Result<Packed, Refusal>
+    ensures { (result, out.new) ≡ lend (to_gsm7 ucs2.now) out.old }
 {
     if ucs2.len() % 2 != 0 {
-        return gsm7::packing::not_packed(Refusal::OddOctets);
+        return Err(Refusal::OddOctets);
     }
     let table = gsm7::encode::CODES;
     let mut codes = [0u8; 255];
-    let Scanned::Counted(count) = scan_characters(&table, ucs2, &mut codes) else {
-        return gsm7::packing::not_packed(Refusal::InNeitherTable);
+    let Ok(count) = scan_characters(&table, ucs2, &mut codes) else {
+        return Err(Refusal::InNeitherTable);
     };
     if 255 < count {
-        return gsm7::packing::not_packed(Refusal::TooManySeptets);
+        return Err(Refusal::TooManySeptets);
     }
     gsm7::packing::pack_codes(&ucs2[..0], &codes[..count], out)
 }
@@ -93,6 +86,7 @@ fn put_characters(data: &[u8], septets: usize, ucs2: &mut [u8; 510]) -> usize
     let mut end = 0;
     let mut consumed = 0;
     let mut place = BitPlace { octet: 0, shift: 0 };
+    // A `while`: one, two or four septets a turn, and left early at a last escape.
     while consumed < septets {
         let window = place.window(data);
         let code = septets::septet_in(window, 0);
@@ -120,19 +114,19 @@ fn put_characters(data: &[u8], septets: usize, ucs2: &mut [u8; 510]) -> usize
 }
 
 // The counted septets as UCS2; how many octets it has. A header before the text, with its fill bits, is the caller's to cut off.
-pub fn gsm7_to_ucs2(data: &[u8], septets: usize, out: &mut [u8]) -> Written
-    ensures { (written_says result, out.new) ≡ lend refuses (to_ucs2 «data».now septets) out.old }
+pub fn gsm7_to_ucs2(data: &[u8], septets: usize, out: &mut [u8]) -> Result<usize, Refusal>
+    ensures { (result, out.new) ≡ lend (to_ucs2 «data».now septets) out.old }
 {
     if 255 < septets {
-        return Written::Refused(Refusal::LengthTooLarge);
+        return Err(Refusal::LengthTooLarge);
     }
     if data.len() < (septets * 7 + 7) / 8 {
-        return Written::Refused(Refusal::TooFewOctets);
+        return Err(Refusal::TooFewOctets);
     }
     let mut ucs2 = [0u8; 510];
     let n = put_characters(data, septets, &mut ucs2);
     if out.len() < n {
-        return Written::Refused(Refusal::OutputTooShort);
+        return Err(Refusal::OutputTooShort);
     }
-    Written::Done(octets::put_octets(out, 0, &ucs2[..n]))
+    Ok(octets::put_octets(out, 0, &ucs2[..n]))
 }

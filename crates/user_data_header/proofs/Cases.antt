@@ -1,5 +1,6 @@
 -- What reading and packing with a header give, case by case.
 -- Assumes nothing.
+use Rattle.std.specs.Prelude.{Ok, Err}
 use Prim.Native.Nat.{ℕ, ◌-◌, ◌*◌, ◌<◌, ◌≤◌}
 use mathlib.Core.Path.{◌≡◌}
 use mathlib.Core.List.{List}
@@ -7,7 +8,6 @@ use native.Mathlib.Nat.{le_refl, zero-add}
 use borrow.Author.Tests.{lt-ltb, le-ltb, eq-eqb, ne_eqb}
 use lib.ListN.{length, take, drop, replicate, length-drop}
 use lib.Seq.{take_all, length-take-le}
-use Rattle.octets.specs.Answers.{fine}
 use Rattle.octets.specs.Arrays.{pad}
 use Rattle.octets.specs.Lent.{refused, Wrote}
 use Rattle.octets.specs.declared.Refusal.TheVariants.{LengthTooLarge, HeaderNotWhole, HeaderPassesCount, TooFewOctets}
@@ -16,30 +16,31 @@ use Rattle.gsm7.specs.Reading.{text_of, replaced_in}
 use Rattle.gsm7.specs.Packing.{packing}
 use Rattle.gsm7.proofs.DecodingLaws.{text_fits}
 use Rattle.octets.proofs.Laws.{sets_zeros}
-use Rattle.user_data_header.specs.Header.{SaidHeader, header_octets, header_given, header_refused, unpacked_with_header, packing_with_header}
+use Rattle.user_data_header.specs.declared.UnpackedWithHeader.{UnpackedWithHeader}
+use Rattle.user_data_header.specs.Header.{header_octets, header_given, unpacked_with_header, packing_with_header}
 
 -- a header of h octets, which take s septets, as the calls tell them
 module _ (os : List ℕ) (n : ℕ) where
-  pub read_long : 255 < n → unpacked_with_header os n ≡ header_refused LengthTooLarge
+  pub read_long : 255 < n → unpacked_with_header os n ≡ Err LengthTooLarge
   unfolding unpacked_with_header
   read_long many = rw (lt-ltb 255 n many)
 
   module _ (few : n ≤ 255) {h : ℕ} (h-is : h ≡ header_octets os) where
-    pub read_short : length os < h → unpacked_with_header os n ≡ header_refused HeaderNotWhole
+    pub read_short : length os < h → unpacked_with_header os n ≡ Err HeaderNotWhole
     unfolding unpacked_with_header
     read_short short = rw (le-ltb 255 n few, ← h-is, lt-ltb _ _ short)
 
     module _ (whole : h ≤ length os) {s : ℕ} (s-is : s ≡ header_septets h) where
-      pub read_over : n < s → unpacked_with_header os n ≡ header_refused HeaderPassesCount
+      pub read_over : n < s → unpacked_with_header os n ≡ Err HeaderPassesCount
       unfolding unpacked_with_header
       read_over over = rw (le-ltb 255 n few, ← h-is, ← s-is, le-ltb _ _ whole, lt-ltb _ _ over)
 
       module _ (fits : s ≤ n) where
-        pub read_few : length os - h < octet_count (s * 7 - h * 8) (n - s) → unpacked_with_header os n ≡ header_refused TooFewOctets
+        pub read_few : length os - h < octet_count (s * 7 - h * 8) (n - s) → unpacked_with_header os n ≡ Err TooFewOctets
         unfolding unpacked_with_header
         read_few short = rw (le-ltb 255 n few, ← h-is, ← s-is, le-ltb _ _ whole, le-ltb _ _ fits, length-drop, lt-ltb _ _ short)
 
-        pub read_done : octet_count (s * 7 - h * 8) (n - s) ≤ length os - h → let ss = septets_in (drop h os) (s * 7 - h * 8) (n - s) in unpacked_with_header os n ≡ header_given (take h os) (text_of ss) (replaced_in ss)
+        pub read_done : octet_count (s * 7 - h * 8) (n - s) ≤ length os - h → let ss = septets_in (drop h os) (s * 7 - h * 8) (n - s) in unpacked_with_header os n ≡ Ok (header_given (take h os) (text_of ss) (replaced_in ss))
         unfolding unpacked_with_header
         read_done enough = rw (le-ltb 255 n few, ← h-is, ← s-is, le-ltb _ _ whole, le-ltb _ _ fits, length-drop, le-ltb _ _ enough)
 
@@ -55,7 +56,7 @@ module _ (header text : List ℕ) where
 -- a header of h octets, and the text of what runs from there to the end, in their arrays
 pub both_stored : (os : List ℕ) (h fill septets : ℕ) → h ≤ length os → septets ≤ 255 → {n m : ℕ} {header array : List ℕ} → header ≡ pad 255 (take h os)
     → (let ss = septets_in (take (length os - h) (drop h os)) fill septets in Wrote 0 (text_of ss) (replicate 510 0) n array × (m ≡ replaced_in ss))
-    → (let ss = septets_in (drop h os) fill septets in ◌≡◌ {A = SaidHeader} (fine, header, h, array, n, m) (header_given (take h os) (text_of ss) (replaced_in ss)))
+    → (let ss = septets_in (drop h os) fill septets in ◌≡◌ {A = UnpackedWithHeader} (record { header = header; header_length = h; text = array; text_length = n; replaced_escapes = m }) (header_given (take h os) (text_of ss) (replaced_in ss)))
 unfolding header_given
 both_stored os h fill septets whole few e w =
     let text = text_of (septets_in (drop h os) fill septets) in

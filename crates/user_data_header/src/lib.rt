@@ -3,62 +3,23 @@
 
 ghost use Rattle.std.specs.Prelude.{◌≡◌, ◌≤◌, ◌<◌, length, take, drop};
 ghost use Rattle.octets.specs.Lent.{lend};
-ghost use Rattle.octets.specs.declared.Refusal.TheVariants.{LengthTooLarge, HeaderNotWhole, HeaderPassesCount, TooFewOctets};
 ghost use Rattle.septets.specs.Septets.{septets_in};
 ghost use Rattle.gsm7.specs.Reading.{text_of, replaced_in};
-ghost use Rattle.gsm7.specs.Packing.{packed_says, not_packed};
-ghost use Rattle.user_data_header.specs.Header.{header_octets, in_count, unpacked_with_header_says, header_given, header_refused, unpacked_with_header, packing_with_header};
+ghost use Rattle.user_data_header.specs.Header.{header_octets, in_count, header_given, unpacked_with_header, packing_with_header};
 
 use coding::UserDataCoding;
 use gsm7::packing::Packed;
-use octets::{Outcome, Refusal};
+use octets::Refusal;
 
 // A header, its length octet included, and the text after it, with the number of escapes in it that led to no character of the extension table.
-#[derive(Clone, Copy)]
+// Arrays with their lengths: there is no heap.
+#[derive(Clone, Copy, Debug)]
 pub struct UnpackedWithHeader {
-    pub outcome: Outcome,
     pub header: [u8; 255],
     pub header_length: usize,
     pub text: [u8; 510],
     pub text_length: usize,
     pub replaced_escapes: usize,
-}
-
-fn refused(why: Refusal) -> UnpackedWithHeader
-    ensures { unpacked_with_header_says result ≡ header_refused why }
-{
-    UnpackedWithHeader {
-        outcome: Outcome::Refused(why),
-        header: [0u8; 255],
-        header_length: 0,
-        text: [0u8; 510],
-        text_length: 0,
-        replaced_escapes: 0,
-    }
-}
-
-fn too_long() -> UnpackedWithHeader
-    ensures { unpacked_with_header_says result ≡ header_refused LengthTooLarge }
-{
-    refused(Refusal::LengthTooLarge)
-}
-
-fn header_not_whole() -> UnpackedWithHeader
-    ensures { unpacked_with_header_says result ≡ header_refused HeaderNotWhole }
-{
-    refused(Refusal::HeaderNotWhole)
-}
-
-fn header_passes_count() -> UnpackedWithHeader
-    ensures { unpacked_with_header_says result ≡ header_refused HeaderPassesCount }
-{
-    refused(Refusal::HeaderPassesCount)
-}
-
-fn too_few_octets() -> UnpackedWithHeader
-    ensures { unpacked_with_header_says result ≡ header_refused TooFewOctets }
-{
-    refused(Refusal::TooFewOctets)
 }
 
 // The octets of a header: its first octet counts those that follow. (Empty data give 1, which is more than they have.)
@@ -84,12 +45,11 @@ pub fn in_count(coding: UserDataCoding, udl: u8, h: usize) -> bool
 // A header of `h` octets, and the text of the septets that start `fill` bits after it, which are all there.
 fn header_and_text(data: &[u8], h: usize, fill: usize, septets: usize) -> UnpackedWithHeader
     requires { (h ≤ length «data».now) × (h ≤ 255) × (fill < 8) × (septets ≤ 255) }
-    ensures { unpacked_with_header_says result ≡ header_given (take h «data».now) (text_of (septets_in (drop h «data».now) fill septets)) (replaced_in (septets_in (drop h «data».now) fill septets)) }
+    ensures { result ≡ header_given (take h «data».now) (text_of (septets_in (drop h «data».now) fill septets)) (replaced_in (septets_in (drop h «data».now) fill septets)) }
 {
     let mut text = [0u8; 510];
     let put = gsm7::decode::unpack_septets(&data[h..], fill, septets, &mut text, 0);
     UnpackedWithHeader {
-        outcome: Outcome::Done,
         header: octets::stored_octets(&data[..h]),
         header_length: h,
         text,
@@ -99,34 +59,34 @@ fn header_and_text(data: &[u8], h: usize, fill: usize, septets: usize) -> Unpack
 }
 
 // The header of user data and the text after it; `septets` is their TP-User-Data-Length.
-pub fn unpack_gsm7_with_header(data: &[u8], septets: usize) -> UnpackedWithHeader
-    ensures { unpacked_with_header_says result ≡ unpacked_with_header «data».now septets }
+pub fn unpack_gsm7_with_header(data: &[u8], septets: usize) -> Result<UnpackedWithHeader, Refusal>
+    ensures { result ≡ unpacked_with_header «data».now septets }
 {
     if 255 < septets {
-        return too_long();
+        return Err(Refusal::LengthTooLarge);
     }
     let h = header_octets(data);
     if data.len() < h {
-        return header_not_whole();
+        return Err(Refusal::HeaderNotWhole);
     }
     let in_header = septets::header_septets(h);
     if septets < in_header {
-        return header_passes_count();
+        return Err(Refusal::HeaderPassesCount);
     }
     let fill = in_header * 7 - h * 8;
     let in_text = septets - in_header;
     if data.len() - h < (fill + in_text * 7 + 7) / 8 {
-        return too_few_octets();
+        return Err(Refusal::TooFewOctets);
     }
-    header_and_text(data, h, fill, in_text)
+    Ok(header_and_text(data, h, fill, in_text))
 }
 
 // User data: the header, fill bits to the septet boundary, and the text. The header is whole, as long as its first octet says.
-pub fn pack_gsm7_with_header(header: &[u8], text: &[u8], out: &mut [u8]) -> Packed
-    ensures { (packed_says result, out.new) ≡ lend not_packed (packing_with_header header.now text.now) out.old }
+pub fn pack_gsm7_with_header(header: &[u8], text: &[u8], out: &mut [u8]) -> Result<Packed, Refusal>
+    ensures { (result, out.new) ≡ lend (packing_with_header header.now text.now) out.old }
 {
     if header.len() != header_octets(header) {
-        return gsm7::packing::not_packed(Refusal::HeaderNotWhole);
+        return Err(Refusal::HeaderNotWhole);
     }
     gsm7::packing::pack_septets(header, text, out)
 }

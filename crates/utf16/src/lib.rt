@@ -5,8 +5,7 @@ ghost use Rattle.std.specs.Prelude.{◌≡◌, ◌+◌, ◌*◌, ◌<◌, ◌≤
 ghost use Rattle.utf16.specs.Characters.{utf8 as utf8_of, character_of, first_character, replacement as theReplacement};
 
 use output::Output;
-use output::hexadecimal::put_hex_octet;
-use text_fields::slices::between;
+use text_fields::slices::first;
 
 // A character, and how many octets it took.
 #[derive(Clone, Copy)]
@@ -138,49 +137,39 @@ fn escape_letter(octet: u8) -> u8 {
     }
 }
 
-// An octet that is spelled out in hexadecimal.
-fn put_hex_escape(out: &mut Output, at: usize, octet: u8) -> usize {
-    let next = output::put(out, at, b"\\x");
-    put_hex_octet(out, next, octet)
-}
-
 // An octet of a text, spelled out if it must be.
-fn put_escaped(out: &mut Output, at: usize, octet: u8) -> usize {
-    let letter = escape_letter(octet);
-    match letter {
-        0 => output::put(out, at, &[octet]),
-        b'x' => put_hex_escape(out, at, octet),
-        _ => output::put(out, at, &[b'\\', letter]),
+fn put_escaped(out: &mut Output, octet: u8) {
+    match escape_letter(octet) {
+        0 => out.put(&[octet]),
+        b'x' => {
+            out.put(b"\\x");
+            out.put_hex_octet(octet);
+        }
+        letter => out.put(&[b'\\', letter]),
     }
 }
 
 // A text given as UTF-8.
-pub fn put_utf8(out: &mut Output, at: usize, text: &[u8]) -> usize {
-    let mut place = at;
-    let mut i = 0;
-    while i < text.len() {
-        place = put_escaped(out, place, text[i]);
-        i += 1;
+pub fn put_utf8(out: &mut Output, text: &[u8]) {
+    for &octet in text {
+        put_escaped(out, octet);
     }
-    place
 }
 
-fn put_character(out: &mut Output, at: usize, c: u32) -> usize
+fn put_character(out: &mut Output, c: u32)
     requires { c < 0x110000 }
 {
     let made = utf8(c);
     let octets = made.octets;
-    put_utf8(out, at, between(&octets, 0, made.length))
+    put_utf8(out, first(&octets, made.length));
 }
 
 // A text given as UTF-16, high octets first.
-pub fn put_utf16(out: &mut Output, at: usize, octets: &[u8]) -> usize {
-    let mut place = at;
+pub fn put_utf16(out: &mut Output, octets: &[u8]) {
     let mut i = 0;
     while i < octets.len() {
         let c = first_character(&octets[i..]);
-        place = put_character(out, place, c.code);
+        put_character(out, c.code);
         i += c.size;
     }
-    place
 }

@@ -19,7 +19,7 @@ pub const VALIDITY_PERIOD_FORMAT_RELATIVE: u8 = 2;
 pub const VALIDITY_PERIOD_FORMAT_ABSOLUTE: u8 = 3;
 
 // TP-Validity-Period (§9.2.3.12). The digits of an absolute one and the seven octets of an enhanced one stand beside it.
-#[derive(Clone, Copy)]
+#[derive(Clone, Copy, Debug, PartialEq, Eq)]
 pub enum ValidityPeriod {
     None,
     Relative(u8),

@@ -1,26 +1,22 @@
 // Times and relative validity periods, as people write them.
-ghost use Rattle.std.specs.Prelude.{◌<◌};
+ghost use Rattle.std.specs.Prelude.{◌<◌, IfSome};
 
-use crate::refusals::refusal_number;
 use output::Output;
 use output::hexadecimal::digit_value;
-use text_fields::lists::entry;
-use text_fields::slices::between;
 
-// What two digits count as that are no number: more than any of them.
-const NO_NUMBER: u8 = 255;
+// The value of a decimal digit.
+fn decimal_digit(c: u8) -> Option<u8>
+    ensures { IfSome result (λ d. d < 10) }
+{
+    match c {
+        b'0'..=b'9' => Some(c - b'0'),
+        _ => None,
+    }
+}
 
 // The number of two decimal digits.
-fn number(tens: u8, ones: u8) -> u8 {
-    let t = digit_value(tens);
-    let o = digit_value(ones);
-    if 9 < t {
-        return NO_NUMBER;
-    }
-    if 9 < o {
-        return NO_NUMBER;
-    }
-    t * 10 + o
+fn number(tens: u8, ones: u8) -> Option<u8> {
+    Some(decimal_digit(tens)? * 10 + decimal_digit(ones)?)
 }
 
 // ---- times: fourteen digits, YYMMDDhhmmssZZ
@@ -34,143 +30,105 @@ fn zone_sign(tens: u8) -> u8 {
 }
 
 // The quarters of an hour of a zone, without its sign.
-fn zone_quarters(tens: u8, ones: u8) -> u8 {
-    let t = digit_value(tens);
-    let o = digit_value(ones);
-    if 15 < t {
-        return NO_NUMBER;
-    }
-    if 9 < o {
-        return NO_NUMBER;
-    }
-    t % 8 * 10 + o
-}
-
-// The number of pair i.
-fn pair(digits: &[u8; 14], i: usize) -> u8
-    requires { i < 7 }
+fn zone_quarters(tens: u8, ones: u8) -> Option<u8>
+    ensures { IfSome result (λ q. q < 80) }
 {
-    number(digits[2 * i], digits[2 * i + 1])
+    Some(digit_value(tens)? % 8 * 10 + decimal_digit(ones)?)
 }
 
-// Whether a date and a time are in the calendar's ranges.
-fn is_date_and_time(year: u8, month: u8, day: u8, hour: u8, minute: u8, second: u8) -> bool {
-    let read = tpdu::timestamp_digits(year, month, day, hour, minute, second, 0);
-    let outcome = read.outcome;
-    refusal_number(outcome) == 0
-}
-
-// Whether digits are a date, a time and a zone.
-fn is_calendar_time(digits: &[u8; 14]) -> bool {
-    if zone_quarters(digits[12], digits[13]) == NO_NUMBER {
-        return false;
+// Whether digits begin with a date and a time in the calendar's ranges.
+fn is_date_and_time(digits: &[u8; 14]) -> bool {
+    let mut values = [0u8; 6];
+    for (value, pair) in values.iter_mut().zip(digits.chunks_exact(2)) {
+        let Some(n) = number(pair[0], pair[1]) else {
+            return false;
+        };
+        *value = n;
     }
-    is_date_and_time(
-        pair(digits, 0),
-        pair(digits, 1),
-        pair(digits, 2),
-        pair(digits, 3),
-        pair(digits, 4),
-        pair(digits, 5),
-    )
-}
-
-// The digits of pair i.
-fn two_digits(digits: &[u8], i: usize) -> &[u8]
-    requires { i < 7 }
-{
-    between(digits, 2 * i, 2 * i + 2)
+    let [year, month, day, hour, minute, second] = values;
+    tpdu::timestamp_digits(year, month, day, hour, minute, second, 0).is_ok()
 }
 
 // Date and time: `2024-02-15 12:30:45`. Each pair of digits stands after what separates it from the one before.
-fn put_date_and_time(out: &mut Output, at: usize, digits: &[u8]) -> usize {
-    let separators = b"20\n-\n-\n \n:\n:\n";
-    let mut place = at;
-    let mut i = 0;
-    while i < 6 {
-        let next = output::put(out, place, entry(separators, i));
-        place = output::put(out, next, two_digits(digits, i));
-        i += 1;
+fn put_date_and_time(out: &mut Output, digits: &[u8; 14]) {
+    let separators = ["20", "-", "-", " ", ":", ":"];
+    for (separator, pair) in separators.iter().zip(digits.chunks_exact(2)) {
+        out.put_text(separator);
+        out.put(pair);
     }
-    place
 }
 
 // A zone: ` +01:00`.
-fn put_zone(out: &mut Output, at: usize, tens: u8, ones: u8) -> usize {
-    let quarters = zone_quarters(tens, ones);
+fn put_zone(out: &mut Output, sign: u8, quarters: u8)
+    requires { quarters < 80 }
+{
     let hours = quarters / 4;
     let minutes = quarters % 4 * 15;
-    let zone = [
+    out.put(&[
         b' ',
-        zone_sign(tens),
+        sign,
         b'0' + hours / 10,
         b'0' + hours % 10,
         b':',
         b'0' + minutes / 10,
         b'0' + minutes % 10,
-    ];
-    output::put(out, at, &zone)
+    ]);
 }
 
 // A time as `2024-02-15 12:30:45 +00:00`, or its digits as they are.
-pub fn put_calendar_time(out: &mut Output, at: usize, digits: [u8; 14]) -> usize {
-    if !is_calendar_time(&digits) {
-        let next = output::put(out, at, &digits);
-        return output::put(out, next, b" (no calendar time)");
+pub fn put_calendar_time(out: &mut Output, digits: [u8; 14]) {
+    match zone_quarters(digits[12], digits[13]) {
+        Some(quarters) if is_date_and_time(&digits) => {
+            put_date_and_time(out, &digits);
+            put_zone(out, zone_sign(digits[12]), quarters);
+        }
+        _ => {
+            out.put(&digits);
+            out.put(b" (no calendar time)");
+        }
     }
-    let next = put_date_and_time(out, at, &digits);
-    put_zone(out, next, digits[12], digits[13])
 }
 
 // ---- relative validity periods
 
-// The units of a period, by their places in the list of names; the plural stands after each.
-const MINUTE: usize = 0;
-
-const HOUR: usize = 2;
-
-const DAY: usize = 4;
-
-const WEEK: usize = 6;
-
 // A number of units: `1 hour`, `2 days`.
-fn put_count(out: &mut Output, at: usize, n: u64, unit: usize) -> usize
-    requires { unit < 8 }
-{
-    let units = b" minute\n minutes\n hour\n hours\n day\n days\n week\n weeks\n";
-    let number = output::put_decimal(out, at, n);
-    let name = if n == 1 { unit } else { unit + 1 };
-    output::put(out, number, entry(units, name))
+fn put_count(out: &mut Output, n: u64, unit: &str) {
+    out.put_decimal(n);
+    out.put(b" ");
+    out.put_text(unit);
+    if n != 1 {
+        out.put(b"s");
+    }
 }
 
 // Minutes as hours and minutes.
-fn put_minutes(out: &mut Output, at: usize, minutes: u64) -> usize {
+fn put_minutes(out: &mut Output, minutes: u64) {
     if minutes < 60 {
-        return put_count(out, at, minutes, MINUTE);
+        return put_count(out, minutes, "minute");
     }
-    let hours = put_count(out, at, minutes / 60, HOUR);
-    if minutes % 60 == 0 {
-        return hours;
+    put_count(out, minutes / 60, "hour");
+    if minutes % 60 != 0 {
+        out.put(b" ");
+        put_count(out, minutes % 60, "minute");
     }
-    let space = output::put(out, hours, b" ");
-    put_count(out, space, minutes % 60, MINUTE)
 }
 
 // A period by its octet (TS 23.040 §9.2.3.12.1).
-fn put_period_length(out: &mut Output, at: usize, v: u8) -> usize {
+fn put_period_length(out: &mut Output, v: u8) {
+    let n = u64::from(v);
     match v {
-        0..=143 => put_minutes(out, at, (v as u64 + 1) * 5),
-        144..=167 => put_minutes(out, at, 12 * 60 + (v as u64 - 143) * 30),
-        168..=196 => put_count(out, at, v as u64 - 166, DAY),
-        _ => put_count(out, at, v as u64 - 192, WEEK),
+        0..=143 => put_minutes(out, (n + 1) * 5),
+        144..=167 => put_minutes(out, 12 * 60 + (n - 143) * 30),
+        168..=196 => put_count(out, n - 166, "day"),
+        _ => put_count(out, n - 192, "week"),
     }
 }
 
 // A relative validity period: `relative 170 (4 days)`.
-pub fn put_relative(out: &mut Output, at: usize, v: u8) -> usize {
-    let format = output::put(out, at, b"relative ");
-    let value = output::put_decimal(out, format, v as u64);
-    let opened = output::put(out, value, b" (");
-    let period = put_period_length(out, opened, v);
-    output::put(out, period, b")")
+pub fn put_relative(out: &mut Output, v: u8) {
+    out.put(b"relative ");
+    out.put_decimal(u64::from(v));
+    out.put(b" (");
+    put_period_length(out, v);
+    out.put(b")");
 }

@@ -1,142 +1,105 @@
 // What an octet means: coding schemes, statuses and causes.
 use output::Output;
-use output::hexadecimal::put_hex_octet;
-use text_fields::lists::{entry, meaning};
 use tpdu::UserDataCoding;
 
-// The place of a TP-DCS's coding (TS 23.038 §4) in a list of the names of codings.
-pub fn coding_number(dcs: u8) -> usize {
-    match tpdu::user_data_coding(dcs) {
-        UserDataCoding::Gsm7Bit => 0,
-        UserDataCoding::EightBit => 1,
-        UserDataCoding::Ucs2 => 2,
-        UserDataCoding::Compressed => 3,
-    }
-}
-
-// The name of a coding, up to its TP-DCS.
-fn put_coding_name(out: &mut Output, at: usize, dcs: u8) -> usize {
-    let names = b"7-bit (DCS \n8-bit (DCS \nUCS2 (DCS \ncompressed (DCS \n";
-    output::put(out, at, entry(names, coding_number(dcs)))
-}
-
-// A coding with its TP-DCS: `7-bit (DCS 00)`.
-pub fn put_coding(out: &mut Output, at: usize, dcs: u8) -> usize {
-    let name = put_coding_name(out, at, dcs);
-    let octet = put_hex_octet(out, name, dcs);
-    output::put(out, octet, b")")
-}
-
-// The meaning of an octet in a list of meanings, or that it is reserved.
-fn put_meaning(out: &mut Output, at: usize, list: &[u8], octet: u8) -> usize {
-    let words = meaning(list, octet);
-    if words.len() == 0 {
-        return output::put(out, at, b"Reserved");
-    }
-    output::put(out, at, words)
-}
-
-// An octet in hexadecimal and a space.
-fn put_hex_and_space(out: &mut Output, at: usize, octet: u8) -> usize {
-    let next = put_hex_octet(out, at, octet);
-    output::put(out, next, b" ")
+// A coding with its TP-DCS (TS 23.038 §4): `7-bit (DCS 00)`.
+pub fn put_coding(out: &mut Output, dcs: u8) {
+    out.put_text(match tpdu::user_data_coding(dcs) {
+        UserDataCoding::Gsm7Bit => "7-bit",
+        UserDataCoding::EightBit => "8-bit",
+        UserDataCoding::Ucs2 => "UCS2",
+        UserDataCoding::Compressed => "compressed",
+    });
+    out.put(b" (DCS ");
+    out.put_hex_octet(dcs);
+    out.put(b")");
 }
 
 // What a group of 32 statuses says of the transaction.
-fn put_status_group(out: &mut Output, at: usize, status: u8) -> usize {
-    let groups = b"\
-        transaction completed: \n\
-        temporary error, still trying: \n\
-        permanent error, not trying any more: \n\
-        temporary error, not trying any more: \n";
-    output::put(out, at, entry(groups, status as usize / 32))
-}
-
-// The statuses that the standard gives a meaning.
-fn put_standard_status(out: &mut Output, at: usize, status: u8) -> usize {
-    let list = b"\
-        \x00Short message received by the SME\n\
-        \x01Short message forwarded by the SC to the SME but the SC is unable to confirm delivery\n\
-        \x02Short message replaced by the SC\n\
-        \x20Congestion\n\
-        \x21SME busy\n\
-        \x22No response from SME\n\
-        \x23Service rejected\n\
-        \x24Quality of service not available\n\
-        \x25Error in SME\n\
-        \x40Remote procedure error\n\
-        \x41Incompatible destination\n\
-        \x42Connection rejected by SME\n\
-        \x43Not obtainable\n\
-        \x44Quality of service not available\n\
-        \x45No interworking available\n\
-        \x46SM Validity Period Expired\n\
-        \x47SM Deleted by originating SME\n\
-        \x48SM Deleted by SC Administration\n\
-        \x49SM does not exist\n";
-    put_meaning(out, at, list, status)
+fn status_group(status: u8) -> &'static str {
+    match status {
+        0x00..=0x1F => "transaction completed: ",
+        0x20..=0x3F => "temporary error, still trying: ",
+        0x40..=0x5F => "permanent error, not trying any more: ",
+        0x60..=0x7F => "temporary error, not trying any more: ",
+        _ => "",
+    }
 }
 
 // The statuses from 60 to 6F mean the same as those from 20 to 2F.
-fn put_status_meaning(out: &mut Output, at: usize, status: u8) -> usize {
+fn status_meaning(status: u8) -> &'static str {
     match status {
-        0x10..=0x1F | 0x30..=0x3F | 0x50..=0x5F | 0x70..=0x7F => {
-            output::put(out, at, b"Values specific to each SC")
+        0x00 => "Short message received by the SME",
+        0x01 => {
+            "Short message forwarded by the SC to the SME but the SC is unable to confirm delivery"
         }
-        0x60..=0x6F => put_standard_status(out, at, status - 0x40),
-        _ => put_standard_status(out, at, status),
+        0x02 => "Short message replaced by the SC",
+        0x20 | 0x60 => "Congestion",
+        0x21 | 0x61 => "SME busy",
+        0x22 | 0x62 => "No response from SME",
+        0x23 | 0x63 => "Service rejected",
+        0x24 | 0x64 => "Quality of service not available",
+        0x25 | 0x65 => "Error in SME",
+        0x40 => "Remote procedure error",
+        0x41 => "Incompatible destination",
+        0x42 => "Connection rejected by SME",
+        0x43 => "Not obtainable",
+        0x44 => "Quality of service not available",
+        0x45 => "No interworking available",
+        0x46 => "SM Validity Period Expired",
+        0x47 => "SM Deleted by originating SME",
+        0x48 => "SM Deleted by SC Administration",
+        0x49 => "SM does not exist",
+        0x10..=0x1F | 0x30..=0x3F | 0x50..=0x5F | 0x70..=0x7F => "Values specific to each SC",
+        _ => "Reserved",
     }
 }
 
 // A TP-Status and what it means (TS 23.040 §9.2.3.15).
-pub fn put_status(out: &mut Output, at: usize, status: u8) -> usize {
-    let octet = put_hex_and_space(out, at, status);
-    let group = put_status_group(out, octet, status);
-    put_status_meaning(out, group, status)
+pub fn put_status(out: &mut Output, status: u8) {
+    out.put_hex_octet(status);
+    out.put(b" ");
+    out.put_text(status_group(status));
+    out.put_text(status_meaning(status));
 }
 
-// The causes that the standard gives a meaning: those of TP-PID and TP-DCS, of commands and messages, of the service
-// centre, and of the mobile station.
-fn put_standard_cause(out: &mut Output, at: usize, cause: u8) -> usize {
-    let list = b"\
-        \x80Telematic interworking not supported\n\
-        \x81Short message Type 0 not supported\n\
-        \x82Cannot replace short message\n\
-        \x8FUnspecified TP-PID error\n\
-        \x90Data coding scheme (alphabet) not supported\n\
-        \x91Message class not supported\n\
-        \x9FUnspecified TP-DCS error\n\
-        \xA0Command cannot be actioned\n\
-        \xA1Command unsupported\n\
-        \xAFUnspecified TP-Command error\n\
-        \xB0TPDU not supported\n\
-        \xC0SC busy\n\
-        \xC1No SC subscription\n\
-        \xC2SC system failure\n\
-        \xC3Invalid SME address\n\
-        \xC4Destination SME barred\n\
-        \xC5SM Rejected-Duplicate SM\n\
-        \xC6TP-VPF not supported\n\
-        \xC7TP-VP not supported\n\
-        \xD0(U)SIM SMS storage full\n\
-        \xD1No SMS storage capability in (U)SIM\n\
-        \xD2Error in MS\n\
-        \xD3Memory Capacity Exceeded\n\
-        \xD4(U)SIM Application Toolkit Busy\n\
-        \xD5(U)SIM data download error\n\
-        \xFFUnspecified error cause\n";
-    put_meaning(out, at, list, cause)
-}
-
-fn put_cause_meaning(out: &mut Output, at: usize, cause: u8) -> usize {
+// The causes: those of TP-PID and TP-DCS, of commands and messages, of the service centre, and of the mobile station.
+fn cause_meaning(cause: u8) -> &'static str {
     match cause {
-        0xE0..=0xFE => output::put(out, at, b"Values specific to an application"),
-        _ => put_standard_cause(out, at, cause),
+        0x80 => "Telematic interworking not supported",
+        0x81 => "Short message Type 0 not supported",
+        0x82 => "Cannot replace short message",
+        0x8F => "Unspecified TP-PID error",
+        0x90 => "Data coding scheme (alphabet) not supported",
+        0x91 => "Message class not supported",
+        0x9F => "Unspecified TP-DCS error",
+        0xA0 => "Command cannot be actioned",
+        0xA1 => "Command unsupported",
+        0xAF => "Unspecified TP-Command error",
+        0xB0 => "TPDU not supported",
+        0xC0 => "SC busy",
+        0xC1 => "No SC subscription",
+        0xC2 => "SC system failure",
+        0xC3 => "Invalid SME address",
+        0xC4 => "Destination SME barred",
+        0xC5 => "SM Rejected-Duplicate SM",
+        0xC6 => "TP-VPF not supported",
+        0xC7 => "TP-VP not supported",
+        0xD0 => "(U)SIM SMS storage full",
+        0xD1 => "No SMS storage capability in (U)SIM",
+        0xD2 => "Error in MS",
+        0xD3 => "Memory Capacity Exceeded",
+        0xD4 => "(U)SIM Application Toolkit Busy",
+        0xD5 => "(U)SIM data download error",
+        0xE0..=0xFE => "Values specific to an application",
+        0xFF => "Unspecified error cause",
+        _ => "Reserved",
     }
 }
 
 // A TP-Failure-Cause and what it means (TS 23.040 §9.2.3.22).
-pub fn put_cause(out: &mut Output, at: usize, cause: u8) -> usize {
-    let octet = put_hex_and_space(out, at, cause);
-    put_cause_meaning(out, octet, cause)
+pub fn put_cause(out: &mut Output, cause: u8) {
+    out.put_hex_octet(cause);
+    out.put(b" ");
+    out.put_text(cause_meaning(cause));
 }

@@ -23,6 +23,6 @@ pub returns : goal.returns
 unfolding address_span span_at
 returns c =
     let a = c.args in
-    let r = octet_read a.«data».now a.place (sym c.in-Read.ensures) in
-    let first : c.in-Read.length ≡ get_or (drop a.place.at a.«data».now) 0 0 = r.1 ∙ sym (get_or-drop a.place.at a.«data».now 0 0 ∙ ap (λ (i : ℕ). get_or a.«data».now i 0) (add-zero _)) in
+    let r = octet_read a.«data».now a.place (sym c.in-Some.ensures) in
+    let first : c.in-Some.length ≡ get_or (drop a.place.at a.«data».now) 0 0 = r.1 ∙ sym (get_or-drop a.place.at a.«data».now 0 0 ∙ ap (λ (i : ℕ). get_or a.«data».now i 0) (add-zero _)) in
     c.span.ensures ∙ rw first

@@ -37,7 +37,7 @@ read : (value : List ℕ) (count i x : ℕ) → i < count → x ≡ get_or (semi
 read value count i x h e = get_or-take count (semi_octets value) i 0 h ∙ sym e
 
 pub loop-i-init : goal.loop-i-init
-loop-i-init c = (omega arith, omega arith, refl, left_start _ _ _)
+loop-i-init c = (omega arith, refl, left_start _ _ _)
 
 pub character_from_semi_octet-requires : goal.character_from_semi_octet-requires
 character_from_semi_octet-requires c = let s = c.semi_octet-semi.ensures.1 in omega (arith, c.if-semi-eq15.false)
@@ -46,33 +46,30 @@ pub loop-i-preserved-then-semi-eq15 : goal.loop-i-preserved-then-semi-eq15
 loop-i-preserved-then-semi-eq15 c =
     let a = c.args in
     let l = c.loop-i in
-    let h = c.loop-i-test.true in
     let size = long a.value.now a.count c.requires.1 in
-    let e = skipped (take a.count (semi_octets a.value.now)) l.i (omega arith) (read a.value.now a.count l.i _ h c.semi_octet-semi.ensures.0 ∙ c.if-semi-eq15.true) in
-    (omega arith, omega arith, l.invariant.2, rw e at l.invariant.3)
+    let e = skipped (take a.count (semi_octets a.value.now)) l.i (omega arith) (read a.value.now a.count l.i _ (omega arith) c.semi_octet-semi.ensures.0 ∙ c.if-semi-eq15.true) in
+    (omega arith, l.invariant.1, rw e at l.invariant.2)
 
 pub loop-i-preserved : goal.loop-i-preserved
 loop-i-preserved c =
     let a = c.args in
     let l = c.loop-i in
-    let h = c.loop-i-test.true in
     let size = long a.value.now a.count c.requires.1 in
-    let r = read a.value.now a.count l.i _ h c.semi_octet-semi.ensures.0 in
+    let r = read a.value.now a.count l.i _ (omega arith) c.semi_octet-semi.ensures.0 in
     let e = shown (take a.count (semi_octets a.value.now)) l.i (omega arith) (λ q. c.if-semi-eq15.false (sym r ∙ q)) in (
       omega arith,
-      omega arith,
-      simp length-set l.invariant.2,
-      left_step _ l.invariant.3 (wrote_one _ _ _) (e ∙ rw (c.character_from_semi_octet.ensures, r)),
+      simp length-set l.invariant.1,
+      left_step _ l.invariant.2 (wrote_one _ _ _) (e ∙ rw (c.character_from_semi_octet.ensures, r)),
     )
 
 pub shape_of-text : goal.shape_of-text
-shape_of-text c = c.loop-i.invariant.2
+shape_of-text c = c.loop-i.invariant.1
 
 pub returns : goal.returns
 returns c =
     let a = c.args in
     let l = c.loop-i in
     let size = long a.value.now a.count c.requires.1 in
-    let none_left : digits_in (drop l.i (take a.count (semi_octets a.value.now))) ≡ [] = nothing (take a.count (semi_octets a.value.now)) l.i (omega (arith, c.loop-i-test.false)) in
-    let done = left_end l.invariant.3 none_left in
+    let none_left : digits_in (drop l.i (take a.count (semi_octets a.value.now))) ≡ [] = nothing (take a.count (semi_octets a.value.now)) l.i (omega arith) in
+    let done = left_end l.invariant.2 none_left in
     record { place = done.0; list = done.1 }

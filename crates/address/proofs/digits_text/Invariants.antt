@@ -15,7 +15,4 @@ digits_in ds = map digit_character (without_f ds)
 abbrev pub invariant-loop-i : goal.invariant-loop-i
 invariant-loop-i l =
     let whole = digits_in (take l.count (semi_octets l.value)) in
-    (l.i ≤ l.count) × (l.n ≤ l.i) × (length l.text ≡ length l.initial.text) × Left (sets l.initial.text 0 whole) (0 + length whole) l.text l.n (digits_in (drop l.i (take l.count (semi_octets l.value))))
-
-abbrev pub decreases-loop-i : goal.decreases-loop-i
-decreases-loop-i l = l.count - l.i
+    (l.n ≤ l.i) × (length l.text ≡ length l.initial.text) × Left (sets l.initial.text 0 whole) (0 + length whole) l.text l.n (digits_in (drop l.i (take l.count (semi_octets l.value))))

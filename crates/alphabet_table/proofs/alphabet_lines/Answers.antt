@@ -1,14 +1,14 @@
 -- `alphabet_table::alphabet_lines` meets its contract: the lines of both tables, one after the other, where they fit.
+use Rattle.std.specs.Prelude.{Err}
 use mathlib.Core.Path.{refl}
 use native.Mathlib.Omega.{arith}
-use Rattle.octets.specs.Answers.{refuses}
 use Rattle.octets.proofs.Laws.{wrote_then, kept_by, lent_short, lent_written}
 use Rattle.alphabet_table.specs.AlphabetLines.{alphabet_lines}
 use Rattle.alphabet_table.proofs.Lines.{length_septets, length_all}
 use Rattle.alphabet_table.proofs.alphabet_lines.Goals as goal
 
 pub returns-then-out-lt-ALPHABET_OCTETS : goal.returns-then-out-lt-ALPHABET_OCTETS
-returns-then-out-lt-ALPHABET_OCTETS c = lent_short refuses _ refl (omega (arith, length_all, c.if-out-lt-ALPHABET_OCTETS.true))
+returns-then-out-lt-ALPHABET_OCTETS c = lent_short _ refl (omega (arith, length_all, c.if-out-lt-ALPHABET_OCTETS.true))
 
 pub put_escapes-requires : goal.put_escapes-requires
 put_escapes-requires c =
@@ -17,6 +17,4 @@ put_escapes-requires c =
 
 pub returns : goal.returns
 unfolding alphabet_lines
-returns c =
-    let k = c.before.before.before.before.before.before.before in
-    lent_written _ refl (omega (arith, length_all, k.if-out-lt-ALPHABET_OCTETS.false)) (wrote_then k.put_septets-at.ensures c.put_escapes.ensures)
+returns c = lent_written _ refl (omega (arith, length_all, c.if-out-lt-ALPHABET_OCTETS.false)) (wrote_then c.put_septets-at.ensures c.put_escapes.ensures)

@@ -1,4 +1,4 @@
-use Prim.Native.Nat.{◌+◌, ◌*◌, ◌-◌, ◌≤◌}
+use Prim.Native.Nat.{◌+◌, ◌*◌}
 use mathlib.Core.Path.{◌≡◌}
 use lib.ListN.{length, drop}
 use lib.Seq.{sets}
@@ -9,8 +9,5 @@ use Rattle.alphabet_table.proofs.put_escapes.Given as goal
 
 abbrev pub invariant-loop-place : goal.invariant-loop-place
 invariant-loop-place l =
-    (l.place ≤ 10) × (l.next ≡ l.at + 10 * l.place) × (length l.out ≡ length l.initial.out)
+    (l.next ≡ l.at + 10 * l.place)
     × Left (sets l.initial.out l.at (escape_lines extension)) (l.at + length (escape_lines extension)) l.out l.next (escape_lines (drop l.place extension))
-
-abbrev pub decreases-loop-place : goal.decreases-loop-place
-decreases-loop-place l = 10 - l.place

@@ -1,4 +1,4 @@
-use Prim.Native.Nat.{◌+◌, ◌*◌, ◌-◌, ◌≤◌}
+use Prim.Native.Nat.{◌+◌, ◌*◌}
 use mathlib.Core.Path.{◌≡◌}
 use lib.ListN.{length, drop}
 use lib.Seq.{sets}
@@ -8,8 +8,5 @@ use Rattle.alphabet_table.proofs.put_septets.Given as goal
 
 abbrev pub invariant-loop-septet : goal.invariant-loop-septet
 invariant-loop-septet l =
-    (length l.table ≡ 128) × (length l.out ≡ length l.initial.out) × (l.septet ≤ 128) × (l.at ≡ 8 * l.septet)
+    (l.at ≡ 8 * l.septet)
     × Left (sets l.initial.out 0 (septet_lines 0 l.table)) (0 + length (septet_lines 0 l.table)) l.out l.at (septet_lines l.septet (drop l.septet l.table))
-
-abbrev pub decreases-loop-septet : goal.decreases-loop-septet
-decreases-loop-septet l = 128 - l.septet

@@ -1,12 +1,19 @@
 -- `canonical::canonical_submit_report_error` meets its contract: the reader's answer, then the writer's.
-use mathlib.Core.Path.{ap}
+use mathlib.Core.Path.{refl}
+use Rattle.std.proofs.lemmas.Result.{err_from_is_err_and}
+use Rattle.layout.specs.Layout.{read}
+use Rattle.layout.proofs.Rewriting.{refused_whole, written_whole}
 use Rattle.parameters.specs.declared.RpOutcome.TheVariants.{RpError}
-use Rattle.submit_report.specs.SubmitReport.{layout_of, blank, submit_reporting}
-use Rattle.canonical.proofs.WrittenBack.{not_read, written_back}
+use Rattle.submit_report.specs.SubmitReport.{layout_of, read_with, submit_reporting}
 use Rattle.canonical.proofs.canonical_submit_report_error.Goals as goal
 
-pub returns-in-Refused : goal.returns-in-Refused
-returns-in-Refused c = not_read blank submit_reporting (layout_of RpError) _ _ (ap (λ z. z.0) c.decode_for_rp_error-read.ensures) c.in-Refused.is
+pub returns-in_err-read : goal.returns-in_err-read
+returns-in_err-read c =
+    let s = c.args.«data».now in
+    let p = err_from_is_err_and c.from_residual.result c.from_residual.ensures.1 in
+    rw (p.1, p.2) (refused_whole (read_with s) submit_reporting (read (layout_of RpError) s) _ c.in_err-read.ensures)
 
-pub returns-in-Done : goal.returns-in-Done
-returns-in-Done c = written_back blank submit_reporting (layout_of RpError) _ _ (ap (λ z. z.0) c.decode_for_rp_error-read.ensures) c.in-Done.is c.encode.ensures
+pub returns : goal.returns
+returns c =
+    let s = c.args.«data».now in
+    written_whole (read_with s) submit_reporting (read (layout_of RpError) s) _ (λ a. a.message) (λ r n. refl) c.in_ok-read.ensures c.encode.ensures

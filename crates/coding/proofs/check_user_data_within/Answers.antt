@@ -1,8 +1,9 @@
 -- `coding::check_user_data_within` meets its contract: the tests are the definition's.
+use Rattle.std.specs.Prelude.{Err}
 use Prim.Native.Nat.{ℕ, ◌≤◌, ◌<◌}
 use mathlib.Core.Path.{◌≡◌, sym, ◌∙◌}
 use borrow.Author.Tests.{eq-eqb, ne_eqb, le-leb, lt-leb}
-use Rattle.octets.specs.Answers.{refuses, fine}
+use Rattle.octets.specs.Answers.{fine}
 use Rattle.octets.specs.Checks.{found}
 use Rattle.octets.specs.declared.Refusal.TheVariants.{UserDataLengthDisagrees, UserDataTooLong}
 use Rattle.coding.specs.declared.UserDataCoding.{UserDataCoding}
@@ -15,11 +16,11 @@ module _ (limit dcs udl n : ℕ) {coding : UserDataCoding} {octets : ℕ} (e : o
   given : octets ≡ data_octets (coding_of dcs) udl
   given = size_told dcs udl e c
 
-  disagrees : (n ≡ octets → ⊥) → refuses UserDataLengthDisagrees ≡ found (data_within limit dcs udl n)
+  disagrees : (n ≡ octets → ⊥) → Err UserDataLengthDisagrees ≡ found (data_within limit dcs udl n)
   disagrees h = rw (ne_eqb n (data_octets (coding_of dcs) udl) (λ p. h (p ∙ sym given)))
 
   module _ (h : n ≡ octets) where
-    too_long : limit < n → refuses UserDataTooLong ≡ found (data_within limit dcs udl n)
+    too_long : limit < n → Err UserDataTooLong ≡ found (data_within limit dcs udl n)
     too_long l = rw (eq-eqb n (data_octets (coding_of dcs) udl) (h ∙ given), lt-leb n limit l)
 
     all_fine : n ≤ limit → fine ≡ found (data_within limit dcs udl n)

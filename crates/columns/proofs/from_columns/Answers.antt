@@ -1,4 +1,5 @@
 -- `columns::from_columns` meets its contract: the number of strings, their lengths, their octets; then 23.
+use Rattle.std.specs.Prelude.{Ok, Some}
 use Prim.Native.Nat.{ℕ, ◌+◌, ◌-◌, ◌≤◌}
 use mathlib.Core.Path.{◌≡◌, refl, sym, ◌∙◌, ap, subst}
 use mathlib.Core.Bool.{true}
@@ -7,13 +8,12 @@ use mathlib.Core.Option.{some}
 use native.Mathlib.Omega.{arith}
 use lib.ListN.{length, take, drop, length-drop}
 use lib.Seq.{sets, length-sets}
-use Rattle.octets.specs.Answers.{fine}
+use Rattle.octets.specs.Answers.{Said}
 use Rattle.octets.specs.Lent.{Wrote}
 use Rattle.octets.specs.declared.Refusal.TheVariants.{BlockNotWhole}
-use Rattle.columns.specs.declared.Number.{Number}
-use Rattle.columns.specs.declared.Lengths.{Lengths}
+use Rattle.columns.specs.declared.Strings.{Strings}
 use Rattle.columns.specs.Blocks.{joined, sum, allowed, dealt, lengths_at}
-use Rattle.columns.specs.Answers.{SaidStrings, refused_both, made_both, reading, lend_both}
+use Rattle.columns.specs.Answers.{refused_both, made_both, reading, lend_both}
 use Rattle.columns.specs.Internal.{NumberAs, LengthsAs}
 use Rattle.columns.proofs.Laws.{lengths_are}
 use Rattle.columns.proofs.Stepwise.{same_number}
@@ -22,13 +22,12 @@ use Rattle.columns.proofs.from_columns.Goals as goal
 
 -- where the number of strings and their lengths are read
 record Told (b : List ℕ) (count at total body : ℕ) : Type 0 where
-  counted : NumberAs b 0 (Number.Read count at)
+  counted : NumberAs b 0 (Some (count, at))
   few : count ≤ 1000
-  measured_as : LengthsAs b at count (Lengths.Read total body)
+  measured_as : LengthsAs b at count (Some (total, body))
 
-told : {b : List ℕ} {count at total body : ℕ} {n : Number} {l : Lengths}
-    → n ≡ Number.Read count at → NumberAs b 0 n → count ≤ 1000 → l ≡ Lengths.Read total body → LengthsAs b at count l → Told b count at total body
-told {b} {count} {at} is_n counts few is_l measures = record { counted = subst (NumberAs b 0) is_n counts; few = few; measured_as = subst (LengthsAs b at count) is_l measures }
+told : {b : List ℕ} {count at total body : ℕ} → NumberAs b 0 (Some (count, at)) → count ≤ 1000 → LengthsAs b at count (Some (total, body)) → Told b count at total body
+told counts few measures = record { counted = counts; few = few; measured_as = measures }
 
 module _ {b : List ℕ} {count at total body : ℕ} (t : Told b count at total body) where
   -- the lengths, and what follows them
@@ -81,72 +80,50 @@ module _ {b : List ℕ} {count at total body : ℕ} (t : Told b count at total b
           (lengths_allowed b t.counted.0 t.few known.there rest_size, omega (arith, known.total_is, known.inside, all), omega (arith, known.total_is, octets_fit))
 
       both : {octets octets' : List ℕ} {next : ℕ} → total ≤ length octets → Wrote 0 (joined (dealt 255 (take count list') rest)) octets next octets'
-          → ◌≡◌ {A = SaidStrings × List ℕ × List ℕ} ((fine, count, total), octets', list') (lend_both (reading b) octets list)
+          → ◌≡◌ {A = Said Strings × List ℕ × List ℕ} (Ok (record { strings = count; octets = total }), octets', list') (lend_both (reading b) octets list)
       both {octets} {octets'} octets_fit w =
           let is : octets' ≡ sets octets 0 (joined (dealt 255 known.ns rest)) = rw first at w.list in
-          both_done octets list read (omega (arith, octets_size, octets_fit)) (omega (arith, known.size, list_fits)) refl known.size octets_size is stored
+          both_done octets list read (omega (arith, octets_size, octets_fit)) (omega (arith, known.size, list_fits)) known.size octets_size is stored
 
 pub returns-in_default : goal.returns-in_default
 returns-in_default c =
-    let b = c.args.block.now in
-    let bad = subst (NumberAs b 0) c.in_default.is c.number_at.ensures in
-    rw c.refused.ensures (both_refused _ _ BlockNotWhole (count_large b (λ n rest e. omega (arith, bad n rest e))))
+    let bad = c.in_default.ensures in
+    both_refused _ _ BlockNotWhole (count_large c.args.block.now (λ n rest e. omega (arith, bad n rest e)))
 
 pub returns-then-count-gt1000 : goal.returns-then-count-gt1000
 returns-then-count-gt1000 c =
     let b = c.args.block.now in
-    let counted = subst (NumberAs b 0) c.in-Read.is c.number_at.ensures in
-    rw c.refused-then-count-gt1000.ensures (both_refused _ _ BlockNotWhole (count_large b (λ n rest e. omega (arith, same_number b counted.0 e, c.if-count-gt1000.true))))
-
-pub measure-requires : goal.measure-requires
-measure-requires c =
-    let counted = subst (NumberAs c.args.block.now 0) c.in-Read.is c.number_at.ensures in
-    (c.if-count-gt1000.false, counted.3)
+    let counted = c.in-Some.ensures in
+    both_refused _ _ BlockNotWhole (count_large b (λ n rest e. omega (arith, same_number b counted.0 e, c.if-count-gt1000.true)))
 
 pub returns-in_default-measure : goal.returns-in_default-measure
 returns-in_default-measure c =
-    let b = c.args.block.now in
-    let counted = subst (NumberAs b 0) c.in-Read.is c.number_at.ensures in
-    let bad = subst (LengthsAs b c.in-Read.at c.in-Read.count) c.in_default-measure.is c.measure.ensures in
-    rw c.refused-in_default-measure.ensures (both_refused _ _ BlockNotWhole (lengths_missing b counted.0 c.if-count-gt1000.false bad))
-
-pub overflow_sub-block : goal.overflow_sub-block
-overflow_sub-block c = (known (told c.in-Read.is c.number_at.ensures c.if-count-gt1000.false c.in-Read-measure.is c.measure.ensures)).inside
+    let counted = c.in-Some.ensures in
+    both_refused _ _ BlockNotWhole (lengths_missing _ counted.0 c.if-count-gt1000.false c.in_default-measure.ensures)
 
 pub returns-then-block-body : goal.returns-then-block-body
 returns-then-block-body c =
-    let t = told c.in-Read.is c.number_at.ensures c.if-count-gt1000.false c.in-Read-measure.is c.measure.ensures in
-    rw c.refused-then-block-body.ensures
-    (both_refused _ _ BlockNotWhole (not_whole t c.if-block-body.true))
+    let t = told c.in-Some.ensures c.if-count-gt1000.false c.in-Some-measure.ensures in
+    both_refused _ _ BlockNotWhole (not_whole t c.if-block-body.true)
 
 pub returns-then-octets-total : goal.returns-then-octets-total
 returns-then-octets-total c =
-    let t = told c.in-Read.is c.number_at.ensures c.if-count-gt1000.false c.in-Read-measure.is c.measure.ensures in
+    let t = told c.in-Some.ensures c.if-count-gt1000.false c.in-Some-measure.ensures in
     let all = c.if-block-body.false in
-    rw c.refused-then-octets-total.ensures (octets_short _ _ (read t all) (omega (arith, octets_size t all)))
+    octets_short _ _ (read t all) (omega (arith, octets_size t all))
 
 pub returns-then-lengths-count : goal.returns-then-lengths-count
 returns-then-lengths-count c =
-    let t = told c.in-Read.is c.number_at.ensures c.if-count-gt1000.false c.in-Read-measure.is c.measure.ensures in
+    let t = told c.in-Some.ensures c.if-count-gt1000.false c.in-Some-measure.ensures in
     let all = c.if-block-body.false in
-    rw c.refused-then-lengths-count.ensures (list_short _ _ (read t all) (omega (arith, octets_size t all)) (omega (arith, (known t).size)))
-
-pub slice_bounds-take_strings-end : goal.slice_bounds-take_strings-end
-slice_bounds-take_strings-end c =
-    let t = told c.in-Read.is c.number_at.ensures c.if-count-gt1000.false c.in-Read-measure.is c.measure.ensures in
-    omega (arith, kept t c.if-block-body.false c.if-lengths-count.false c.put_lengths.ensures)
-
-pub slice_bounds-take_strings-end-2 : goal.slice_bounds-take_strings-end-2
-slice_bounds-take_strings-end-2 c =
-    let t = told c.in-Read.is c.number_at.ensures c.if-count-gt1000.false c.in-Read-measure.is c.measure.ensures in
-    first_size t c.if-block-body.false c.if-lengths-count.false c.put_lengths.ensures
+    list_short _ _ (read t all) (omega (arith, octets_size t all)) (omega (arith, (known t).size))
 
 pub take_strings-requires : goal.take_strings-requires
 take_strings-requires c =
-    let t = told c.in-Read.is c.number_at.ensures c.if-count-gt1000.false c.in-Read-measure.is c.measure.ensures in
+    let t = told c.in-Some.ensures c.if-count-gt1000.false c.in-Some-measure.ensures in
     asked t c.if-block-body.false c.if-lengths-count.false c.put_lengths.ensures _ c.if-octets-total.false
 
 pub returns : goal.returns
 returns c =
-    let t = told c.in-Read.is c.number_at.ensures c.if-count-gt1000.false c.in-Read-measure.is c.measure.ensures in
+    let t = told c.in-Some.ensures c.if-count-gt1000.false c.in-Some-measure.ensures in
     both t c.if-block-body.false c.if-lengths-count.false c.put_lengths.ensures c.if-octets-total.false c.take_strings.ensures

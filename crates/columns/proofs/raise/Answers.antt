@@ -1,26 +1,14 @@
 -- `columns::raise` meets its contract: the first k places are raised.
-use Prim.Native.Nat.{ℕ}
-use mathlib.Core.Path.{◌≡◌, subst}
+use Prim.Native.Nat.{◌<◌}
 use native.Mathlib.Omega.{arith}
-use Rattle.columns.specs.Internal.{Raised}
-use Rattle.columns.proofs.Places.{has_none}
-use Rattle.columns.proofs.Stepwise.{raised_start, raised_next}
+use lib.ListN.{length, drop, length-take, get_or-append}
+use lib.Seq.{set-append_left}
+use Rattle.columns.proofs.Stepwise.{raised_next}
 use Rattle.columns.proofs.raise.Goals as goal
 
-pub loop-k-init : goal.loop-k-init
-loop-k-init c = (omega arith, raised_start _ c.requires.0)
-
--- a place that is not raised yet is as it was
-pub overflow_add-places : goal.overflow_add-places
-overflow_add-places c =
-    let l = c.loop-k in
-    omega (arith, l.invariant.1.each l.k, has_none l.k l.k (omega arith), c.requires.2 l.k c.loop-k-test.true)
-
-pub loop-k-preserved : goal.loop-k-preserved
-loop-k-preserved c = (omega arith, raised_next c.loop-k.invariant.1 (omega arith))
-
-pub returns : goal.returns
-returns c =
-    let l = c.loop-k in
-    let e : l.k ≡ c.args.n = omega arith in
-    subst (λ (m : ℕ). Raised m c.args.places.now l.places) e l.invariant.1
+pub loop-place-preserved : goal.loop-place-preserved
+loop-place-preserved c =
+    let l = c.loop-place in
+    let h : l.place-index < length l.place-items = omega arith in
+    let less : l.place-index < 255 = omega (arith, length-take c.args.n c.args.places.now, c.requires) in
+    rw (← get_or-append l.place-items (drop c.args.n c.args.places.now) 0 l.place-index h, ← set-append_left l.place-items (drop c.args.n c.args.places.now)) (raised_next l.invariant less)

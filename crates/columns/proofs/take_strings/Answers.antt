@@ -5,29 +5,23 @@ use Rattle.columns.proofs.Places.{at_most_at}
 use Rattle.columns.proofs.StringByString.{taking_start, taking_next, taking_end, string_inside, places_inside, places_raised}
 use Rattle.columns.proofs.take_strings.Goals as goal
 
-pub column_starts-places-requires : goal.column_starts-places-requires
-column_starts-places-requires c = (c.requires.0, omega (arith, c.requires.1))
-
-pub loop-i-init : goal.loop-i-init
-loop-i-init c = let p = c.requires in taking_start ((allowed_means _).0 p.0).1 p.1 p.2 c.column_starts-places.ensures
+pub loop-n-init : goal.loop-n-init
+loop-n-init c = let p = c.requires in taking_start ((allowed_means _).0 p.0).1 p.1 p.2 c.column_starts-places.ensures
 
 pub take_string-at-requires : goal.take_string-at-requires
 take_string-at-requires c =
-    let l = c.loop-i in
+    let l = c.loop-n in
     let t = l.invariant in
     let ns = c.args.lengths.now in
-    (t.starts.size, at_most_at 255 ns t.few l.i, omega (arith, t.here, t.kept, t.room, string_inside ns l.i), λ k h. omega (arith, t.whole, places_inside ns l.i t.starts t.few c.loop-i-test.true k h))
+    (t.starts.size, at_most_at 255 ns t.few l.n-index, omega (arith, t.here, t.room, string_inside ns l.n-index), λ k h. omega (arith, t.whole, places_inside ns l.n-index t.starts t.few c.loop-n-test.true k h))
 
 pub raise-requires : goal.raise-requires
-raise-requires c = let l = c.loop-i in places_raised _ l.i l.invariant.starts l.invariant.few c.loop-i-test.true (omega (arith, l.invariant.whole))
+raise-requires c = let l = c.loop-n in places_raised _ l.n-index l.invariant.starts l.invariant.few c.loop-n-test.true (omega (arith, l.invariant.whole))
 
-pub loop-i-preserved : goal.loop-i-preserved
-loop-i-preserved c =
-    let l = c.loop-i in
-    taking_next l.invariant c.loop-i-test.true c.take_string-at.ensures c.raise.ensures
-
-pub shape_of-octets : goal.shape_of-octets
-shape_of-octets c = c.loop-i.invariant.kept
+pub loop-n-preserved : goal.loop-n-preserved
+loop-n-preserved c =
+    let l = c.loop-n in
+    taking_next l.invariant c.loop-n-test.true c.take_string-at.ensures c.raise.ensures
 
 pub returns : goal.returns
-returns c = taking_end c.loop-i.invariant c.loop-i-test.false
+returns c = taking_end c.loop-n.invariant c.loop-n-test.false

@@ -14,7 +14,7 @@ all reference total text = numbered reference total 1 (parts_of (codes_of text))
 
 abbrev pub invariant-loop-from : goal.invariant-loop-from
 invariant-loop-from l =
-    (length l.codes ≡ 255) × (length l.out ≡ length l.initial.out) × Putting l.reference l.total (sets l.initial.out 0 (all l.reference l.total l.text)) (0 + length (all l.reference l.total l.text)) l.text l.from l.number l.out l.at
+    (length l.codes ≡ 255) × Putting l.reference l.total (sets l.initial.out 0 (all l.reference l.total l.text)) (0 + length (all l.reference l.total l.text)) l.text l.from l.number l.out l.at
 
 abbrev pub decreases-loop-from : goal.decreases-loop-from
 decreases-loop-from l = length l.text - l.from

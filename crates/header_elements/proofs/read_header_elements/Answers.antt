@@ -10,7 +10,7 @@ use Rattle.header_elements.proofs.read_header_elements.Goals as goal
 
 pub returns-then-there-end : goal.returns-then-there-end
 unfolding elements_read elements_in
-returns-then-there-end c = c.refused.ensures ∙ rw (← c.header_octets-end.ensures.0, lt-ltb _ _ c.if-there-end.true)
+returns-then-there-end c = rw (← c.header_octets-end.ensures.0, lt-ltb _ _ c.if-there-end.true)
 
 pub returns : goal.returns
 unfolding elements_read elements_in

@@ -5,23 +5,11 @@ use mathlib.Core.List.{List, [], ◌∷◌, ◌++◌}
 use native.Mathlib.Omega.{arith}
 use lib.ListN.{length, get_or}
 use lib.Seq.{sets}
-use Rattle.octets.proofs.Laws.{kept_by, wrote_then}
+use Rattle.octets.proofs.Laws.{wrote_then}
 use Rattle.message_store.specs.Part.{Key}
 use Rattle.message_store.specs.Store.{key_octets}
 use Rattle.message_store.proofs.Keys.{key_octets_are}
 use Rattle.message_store.proofs.put_key.Goals as goal
-
-pub put_octets-at-requires : goal.put_octets-at-requires
-put_octets-at-requires c = omega (arith, c.requires.0)
-
-pub put_octets-requires : goal.put_octets-requires
-put_octets-requires c =
-    let w = c.put_octets-at.ensures in
-    let p = c.requires in
-    omega (arith, w.place, kept_by w, p.0, p.1)
-
-pub shape_of-octets : goal.shape_of-octets
-shape_of-octets c = kept_by c.put_octets.ensures ∙ kept_by c.put_octets-at.ensures
 
 pub returns : goal.returns
 returns c =

@@ -1,7 +1,4 @@
-use Prim.Native.Nat.{ℕ, ◌+◌, ◌-◌, ◌*◌, ◌≤◌}
-use mathlib.Core.Path.{◌≡◌}
-use mathlib.Core.List.{List, []}
-use lib.ListN.{length}
+use Rattle.std.proofs.Common.{◌≡◌, ◌+◌, ◌-◌, ◌*◌, ◌≤◌, ℕ, List, [], length}
 use lib.Seq.{sets}
 use Rattle.octets.proofs.Laws.{Left}
 use Rattle.message_store.specs.Store.{coding_in, holdings, missing_from, shown_parts}
@@ -15,8 +12,5 @@ all slot total = shown_parts (coding_in slot) (holdings 1 total slot)
 
 abbrev pub invariant-loop-n : goal.invariant-loop-n
 invariant-loop-n l =
-    (1 ≤ l.n) × (l.n ≤ l.total + 1) × (length l.shown ≡ length l.initial.shown) × (l.at + 510 ≤ l.n * 510) × (missing_from l.n (holdings l.n (l.total + 1 - l.n) l.slot) ≡ [])
+    (l.at + 510 ≤ l.n * 510) × (missing_from l.n (holdings l.n (l.total + 1 - l.n) l.slot) ≡ [])
     × Left (sets l.initial.shown 0 (all l.slot l.total)) (0 + length (all l.slot l.total)) l.shown l.at (rest l.slot l.total l.n)
-
-abbrev pub decreases-loop-n : goal.decreases-loop-n
-decreases-loop-n l = l.total + 1 - l.n

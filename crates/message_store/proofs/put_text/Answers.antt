@@ -9,9 +9,6 @@ use Rattle.message_store.proofs.put_text.Goals as goal
 abbrev part : ℕ → List ℕ → Part
 part udl octets = record { udl = udl; octets = octets }
 
-pub header_septets-in_header-requires : goal.header_septets-in_header-requires
-header_septets-in_header-requires c = c.header_octets-h.ensures.1
-
 pub returns-then-septets-in_header : goal.returns-then-septets-in_header
 returns-then-septets-in_header c = text_none (part c.args.udl c.args.«data».now) c.requires.1 (omega (arith, c.ranges)) c.header_octets-h.ensures.0 c.header_septets-in_header.ensures _ _ c.if-septets-in_header.true
 
@@ -20,15 +17,6 @@ slice_bounds-unpack_septets-start c = header_within (part c.args.udl c.args.«da
 
 pub slice_bounds-unpack_septets-count : goal.slice_bounds-unpack_septets-count
 slice_bounds-unpack_septets-count c = header_within (part c.args.udl c.args.«data».now) c.requires.1 (omega (arith, c.ranges)) c.header_octets-h.ensures.0 c.header_septets-in_header.ensures c.if-septets-in_header.false
-
-pub overflow_mul-in_header : goal.overflow_mul-in_header
-overflow_mul-in_header c = omega (arith, c.header_septets-in_header.ensures, c.header_octets-h.ensures.1)
-
-pub overflow_mul-h : goal.overflow_mul-h
-overflow_mul-h c = omega (arith, c.header_septets-in_header.ensures, c.header_octets-h.ensures.1)
-
-pub overflow_sub-in_header : goal.overflow_sub-in_header
-overflow_sub-in_header c = omega (arith, c.header_septets-in_header.ensures, c.header_octets-h.ensures.1)
 
 pub unpack_septets-put-requires : goal.unpack_septets-put-requires
 unpack_septets-put-requires c = text_room (part c.args.udl c.args.«data».now) c.requires.1 (omega (arith, c.ranges)) c.header_octets-h.ensures.0 c.header_septets-in_header.ensures c.if-septets-in_header.false c.args.at c.requires.0

@@ -6,10 +6,10 @@ use Rattle.parameters.specs.Optional.{held}
 use Rattle.parameters.proofs.put_optional.Goals as goal
 
 pub put_octet-requires : goal.put_octet-requires
-put_octet-requires c = omega (arith, ap held c.in-Present.is)
+put_octet-requires c = omega (arith, ap held c.in-Some.is)
 
-pub returns-in-Absent : goal.returns-in-Absent
-returns-in-Absent c = rw c.in-Absent.is (record { place = sym (add-zero _); list = refl })
+pub returns-in-None : goal.returns-in-None
+returns-in-None c = rw c.in-None.is (record { place = sym (add-zero _); list = refl })
 
-pub returns-in-Present : goal.returns-in-Present
-returns-in-Present c = rw c.in-Present.is c.put_octet.ensures
+pub returns-in-Some : goal.returns-in-Some
+returns-in-Some c = rw c.in-Some.is c.put_octet.ensures

@@ -1,4 +1,5 @@
 -- `reassembly::find_by` meets its contract: by the address's length, the store, and the slots.
+use Rattle.std.specs.Prelude.{Ok}
 use Prim.Native.Nat.{ℕ, ◌≤◌}
 use mathlib.Core.List.{List}
 use mathlib.Core.Path.{◌≡◌, sym, ap, ◌∙◌}
@@ -6,7 +7,6 @@ use native.Mathlib.Omega.{arith}
 use borrow.Author.Rules.{rules}
 use lib.ListN.{length, take, replicate}
 use lib.Seq.{length-take-le}
-use Rattle.octets.specs.Answers.{gives}
 use Rattle.octets.specs.Lent.{Wrote}
 use Rattle.part_number.specs.declared.Reference.{Reference}
 use Rattle.address.specs.declared.SMSAddress.{SMSAddress}
@@ -14,6 +14,7 @@ use Rattle.message_store.specs.Part.{key_of}
 use Rattle.message_store.specs.Store.{key_octets}
 use Rattle.message_store.proofs.Keys.{key_cut}
 use Rattle.message_store.proofs.Slots.{fits_room}
+use Rattle.reassembly.specs.Internal.{slot_found}
 use Rattle.reassembly.proofs.Taking.{finds_unfit, finds}
 use Rattle.reassembly.proofs.find_by.Goals as goal
 
@@ -31,16 +32,7 @@ module _ (a : SMSAddress) (room : length a.address ≡ 290) (few : a.address_len
     cut = key_cut (key_of a r t) l n text_short w
 
 pub returns-then-not-fits_store : goal.returns-then-not-fits_store
-returns-then-not-fits_store c = finds_unfit _ _ _ _ (omega arith) (sym c.fits_store.ensures ∙ c.if-not-fits_store.true)
-
-pub slice_bounds-text-end : goal.slice_bounds-text-end
-slice_bounds-text-end c = let room : length c.args.address.address ≡ 290 = search rules depth 12 in text_fits c.args.address room (omega arith)
-
-pub slice_bounds-put_key-end-2 : goal.slice_bounds-put_key-end-2
-slice_bounds-put_key-end-2 c = let room : length c.args.address.address ≡ 290 = search rules depth 12 in sym (length-take-le _ _ (text_fits c.args.address room (omega arith)))
-
-pub put_key-length-requires : goal.put_key-length-requires
-put_key-length-requires c = let room : length c.args.address.address ≡ 290 = search rules depth 12 in (omega arith, text_short c.args.address room (omega arith))
+returns-then-not-fits_store c = ap slot_found (finds_unfit _ _ _ _ (omega arith) (sym c.fits_store.ensures ∙ c.if-not-fits_store.true))
 
 pub slice_bounds-key-end : goal.slice_bounds-key-end
 slice_bounds-key-end c = let room : length c.args.address.address ≡ 290 = search rules depth 12 in (cut c.args.address room (omega arith) c.args.reference c.args.total c.put_key-length.new.octets c.put_key-length.result c.put_key-length.ensures).0
@@ -55,4 +47,4 @@ pub returns : goal.returns
 returns c =
     let a = c.args in
     let room : length c.args.address.address ≡ 290 = search rules depth 12 in
-    ap gives c.find_message.ensures ∙ finds a.address a.reference a.total a.store.now (omega arith) (sym c.fits_store.ensures ∙ c.if-not-fits_store.false) _ (cut c.args.address room (omega arith) c.args.reference c.args.total c.put_key-length.new.octets c.put_key-length.result c.put_key-length.ensures).1
+    ap Ok c.find_message.ensures ∙ ap slot_found (finds a.address a.reference a.total a.store.now (omega arith) (sym c.fits_store.ensures ∙ c.if-not-fits_store.false) _ (cut c.args.address room (omega arith) c.args.reference c.args.total c.put_key-length.new.octets c.put_key-length.result c.put_key-length.ensures).1)

@@ -1,23 +1,19 @@
 -- `reassembly::place_part` meets its contract, case by case.
-use Rattle.reassembly.specs.Calls.{accepted_says}
+use mathlib.Core.Path.{refl}
+use Rattle.std.specs.Prelude.{Ok}
+use Rattle.message_store.proofs.Slots.{slot_found, slot_past}
 use Rattle.reassembly.proofs.Joining.{places_open, places_new, places_full}
 use Rattle.reassembly.proofs.place_part.Goals as goal
 
-pub returns-then-k-lt16 : goal.returns-then-k-lt16
-returns-then-k-lt16 c =
-    let found = c.find_message-k in
-    let joined = c.join in
-    places_open _ _ _ _ _ _ _ found.result found.ensures c.if-k-lt16.true (accepted_says joined.result, joined.new.slot) joined.ensures
+pub returns-in-Some : goal.returns-in-Some
+returns-in-Some c =
+    let (is, below) = slot_found _ c.in-Some.ensures in
+    places_open _ _ _ _ _ _ _ c.in-Some.k is below (c.join.result, c.join.new.slot) c.join.ensures
 
-pub returns-then-free-lt16 : goal.returns-then-free-lt16
-returns-then-free-lt16 c =
-    let found = c.find_message-k in
-    let free = c.find_free-free in
-    let begun = c.begin_message in
-    places_new _ _ _ _ _ _ _ found.result found.ensures c.if-k-lt16.false free.result free.ensures c.if-free-lt16.true (accepted_says begun.result, begun.new.slot) begun.ensures
+pub returns-in_default-find_free : goal.returns-in_default-find_free
+returns-in_default-find_free c = places_full _ _ _ _ _ _ _ _ refl (slot_past _ c.in_default.ensures) _ refl (slot_past _ c.in_default-find_free.ensures)
 
 pub returns : goal.returns
 returns c =
-    let found = c.find_message-k in
-    let free = c.find_free-free in
-    rw c.refused.ensures (places_full _ _ _ _ _ _ _ found.result found.ensures c.if-k-lt16.false free.result free.ensures c.if-free-lt16.false)
+    let (is, below) = slot_found _ c.in-Some-find_free.ensures in
+    places_new _ _ _ _ _ _ _ _ refl (slot_past _ c.in_default.ensures) c.in-Some-find_free.free is below (Ok c.begin_message.result, c.begin_message.new.slot) c.begin_message.ensures

@@ -40,19 +40,19 @@ pub overflow_add-number-in-loop-i : goal.overflow_add-number-in-loop-i
 overflow_add-number-in-loop-i c =
     let p = c.requires in
     let l = c.loop-i in
-    omega (arith, room _ _ p.3 _ _ _ _ l.invariant.1 c.loop-i-test.true l.invariant.0 p.2 p.0 p.1)
+    omega (arith, room _ _ p.3 _ _ _ _ l.invariant.1 (omega arith) l.invariant.0 p.2 p.0 p.1)
 
 pub loop-i-preserved : goal.loop-i-preserved
 loop-i-preserved c =
     let p = c.requires in
     let l = c.loop-i in
-    (omega arith, value _ _ p.3 _ _ _ _ l.invariant.1 c.loop-i-test.true l.invariant.0 p.2 p.0 p.1)
+    (omega arith, value _ _ p.3 _ _ _ _ l.invariant.1 (omega arith) l.invariant.0 p.2 p.0 p.1)
 
 pub returns : goal.returns
 returns c =
     let l = c.loop-i in
     let a = c.args in
-    let e : l.i ≡ 0 = omega (arith, c.loop-i-test.false) in
+    let e : l.i ≡ 0 = omega arith in
     let e₀ : a.at + 0 ≡ a.at = omega arith in
     let e₁ : a.n - 0 ≡ a.n = omega arith in
     rw (e, e₀, e₁) at l.invariant.1

@@ -6,6 +6,3 @@ use Rattle.septets.proofs.number_from.Given as goal
 
 abbrev pub invariant-loop-i : goal.invariant-loop-i
 invariant-loop-i l = (l.i ≤ l.n) × (l.number ≡ number_of l.w (take (l.n - l.i) (drop (l.at + l.i) l.digits)))
-
-abbrev pub decreases-loop-i : goal.decreases-loop-i
-decreases-loop-i l = l.i

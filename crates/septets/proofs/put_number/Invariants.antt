@@ -8,7 +8,4 @@ use Rattle.septets.proofs.put_number.Given as goal
 
 abbrev pub invariant-loop-j : goal.invariant-loop-j
 invariant-loop-j l =
-    (l.j ≤ l.n) × (length l.out ≡ length l.initial.out) × Left (sets l.initial.out l.at (lowest_digits 8 l.n l.number)) (l.at + length (lowest_digits 8 l.n l.number)) l.out (l.at + l.j) (lowest_digits 8 (l.n - l.j) l.rest)
-
-abbrev pub decreases-loop-j : goal.decreases-loop-j
-decreases-loop-j l = l.n - l.j
+    (length l.out ≡ length l.initial.out) × Left (sets l.initial.out l.at (lowest_digits 8 l.n l.number)) (l.at + length (lowest_digits 8 l.n l.number)) l.out (l.at + l.j) (lowest_digits 8 (l.n - l.j) l.rest)

@@ -1,27 +1,13 @@
 -- `shift_page::check_report` meets its contract: 1, 34 and 12, in this order.
 use mathlib.Core.Path.{sym, ◌∙◌}
-use borrow.Author.Rules.{rules}
-use lib.Seq.{length-take-le}
-use Rattle.shift_page.proofs.Checks.{lengths_against, recipient_against, time_against, report_fine, fitting}
+use Rattle.shift_page.proofs.Checks.{lengths_against, recipient_against, time_against, report_fine}
 use Rattle.shift_page.proofs.check_report.Goals as goal
 
 pub returns-then-not-n-m : goal.returns-then-not-n-m
 returns-then-not-n-m c = sym (lengths_against _ c.if-not-n-m.true)
 
-pub slice_bounds-recipient-end : goal.slice_bounds-recipient-end
-slice_bounds-recipient-end c = (fitting c.args.r (search rules depth 12) c.if-not-n-m.false).0
-
-pub slice_bounds-is_printable-end : goal.slice_bounds-is_printable-end
-slice_bounds-is_printable-end c = sym (length-take-le _ _ (fitting c.args.r (search rules depth 12) c.if-not-n-m.false).0)
-
 pub returns-then-not-is_printable : goal.returns-then-not-is_printable
 returns-then-not-is_printable c = sym (recipient_against _ c.if-not-n-m.false (sym c.is_printable.ensures ∙ c.if-not-is_printable.true))
-
-pub slice_bounds-digits-end : goal.slice_bounds-digits-end
-slice_bounds-digits-end c = (fitting c.args.r (search rules depth 12) c.if-not-n-m.false).1
-
-pub slice_bounds-is_time-end : goal.slice_bounds-is_time-end
-slice_bounds-is_time-end c = sym (length-take-le _ _ (fitting c.args.r (search rules depth 12) c.if-not-n-m.false).1)
 
 pub returns-then-not-is_time : goal.returns-then-not-is_time
 returns-then-not-is_time c = sym (time_against _ c.if-not-n-m.false (sym c.is_printable.ensures ∙ c.if-not-is_printable.false) (sym c.is_time.ensures ∙ c.if-not-is_time.true))

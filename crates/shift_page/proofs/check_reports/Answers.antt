@@ -1,23 +1,16 @@
 -- `shift_page::check_reports` meets its contract: the records that are left decide.
-use mathlib.Core.Path.{◌≡◌, refl, sym, ◌∙◌}
-use native.Mathlib.Omega.{arith}
-use borrow.Author.Rules.{rules}
-use lib.ListN.{length}
+use Rattle.std.proofs.Common.{sym, ◌∙◌}
+use Rattle.std.proofs.lemmas.Result.{err_from_is_err_and}
 use Rattle.shift_page.proofs.Checks.{report_passed, report_against, reports_end}
 use Rattle.shift_page.proofs.check_reports.Goals as goal
 
-pub loop-i-init : goal.loop-i-init
-loop-i-init c = let room : length c.args.reports ≡ 99 = search rules in (omega (arith, c.requires), refl)
+pub returns-in_err-check_report : goal.returns-in_err-check_report
+returns-in_err-check_report c =
+    let p = err_from_is_err_and c.from_residual.result c.from_residual.ensures.1 in
+    rw (p.1, p.2) (sym (c.loop-report.invariant ∙ report_against _ _ c.loop-report-test.true (sym c.in_err-check_report.ensures)))
 
-pub returns-in-Against : goal.returns-in-Against
-returns-in-Against c =
-    let l = c.loop-i in
-    sym (l.invariant.1 ∙ report_against _ _ l.i l.invariant.0 c.loop-i-test.true (sym c.in-Against.ensures))
-
-pub loop-i-preserved : goal.loop-i-preserved
-loop-i-preserved c =
-    let l = c.loop-i in
-    (l.invariant.0, l.invariant.1 ∙ report_passed _ _ l.i l.invariant.0 c.loop-i-test.true (sym c.in_default.ensures))
+pub loop-report-preserved : goal.loop-report-preserved
+loop-report-preserved c = c.loop-report.invariant ∙ report_passed _ _ c.loop-report-test.true (sym c.in_ok-check_report.ensures)
 
 pub returns : goal.returns
-returns c = let l = c.loop-i in sym (l.invariant.1 ∙ reports_end _ _ l.i l.invariant.0 c.loop-i-test.false)
+returns c = sym (c.loop-report.invariant ∙ reports_end _ _ c.loop-report-test.false)

@@ -2,18 +2,6 @@
 use Rattle.status_report.proofs.RecordRead.{message_is}
 use Rattle.status_report.proofs.message.Goals as goal
 
-pub address_at-read-requires : goal.address_at-read-requires
-address_at-read-requires c = c.requires.0
-
-pub time_at-timestamp-requires : goal.time_at-timestamp-requires
-time_at-timestamp-requires c = c.requires.1
-
-pub time_at-discharge_time-requires : goal.time_at-discharge_time-requires
-time_at-discharge_time-requires c = c.requires.2
-
-pub slice_bounds-data_with-end : goal.slice_bounds-data_with-end
-slice_bounds-data_with-end c = c.requires.3
-
 pub returns : goal.returns
 returns c =
     message_is c.args.«data».now (λ i. (c.type_inv.«data» i).fits) c.args.f c.requires

@@ -40,7 +40,7 @@ returns c =
     let coded = c.user_data_coding.ensures in
     let (whole, counted, size) = data_fits s f c.requires coded in
     let stored = text_stored c.user_data_coding.result f.udl f.header ud (omega (arith, few)) whole counted size text.0 in
-    read_is (f.«data» + f.octets) (message_is s (λ i. (c.type_inv.«data» i).fits) f c.requires
+    read_is s (f.«data» + f.octets) (message_is s (λ i. (c.type_inv.«data» i).fits) f c.requires
     _ address.0 _ c.period_in.ensures _ c.digits_in.ensures _ c.enhanced_in.ensures
-    _ c.data_with.ensures _ c.data_with-2.ensures _ (stored ∙ ap (λ (x : UserDataCoding). text_with (readable x f.udl f.header ud)) coded))
+    _ c.data_with.ensures _ (c.then_some.ensures ∙ rw c.data_with-2.ensures) _ (stored ∙ ap (λ (x : UserDataCoding). text_with (readable x f.udl f.header ud)) coded))
     (replaced_is s f address.1 c.requires (text.1 ∙ ap (λ (x : UserDataCoding). replaced_in (data_septets x f.udl f.header ud)) coded))

@@ -10,6 +10,3 @@ abbrev pub invariant-loop-i : goal.invariant-loop-i
 invariant-loop-i l =
     (length (take 7 (drop l.at l.«data»)) ≡ 7)
     × Left (sets l.initial.digits 0 (time_digits (take 7 (drop l.at l.«data»)))) (0 + length (time_digits (take 7 (drop l.at l.«data»)))) l.digits (2 * l.i) (time_digits (drop l.i (take 7 (drop l.at l.«data»))))
-
-abbrev pub decreases-loop-i : goal.decreases-loop-i
-decreases-loop-i l = 7 - l.i

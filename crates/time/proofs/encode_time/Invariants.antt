@@ -8,8 +8,5 @@ use Rattle.time.proofs.encode_time.Given as goal
 
 abbrev pub invariant-loop-i : goal.invariant-loop-i
 invariant-loop-i l =
-    (l.i ≤ 7) × (length l.digits ≡ 14) × (length l.out ≡ length l.initial.out)
+    (length l.digits ≡ 14) × (length l.out ≡ length l.initial.out)
     × Left (sets l.initial.out l.at (time_octets l.digits)) (l.at + length (time_octets l.digits)) l.out (l.at + l.i) (time_octets (drop (2 * l.i) l.digits))
-
-abbrev pub decreases-loop-i : goal.decreases-loop-i
-decreases-loop-i l = 7 - l.i

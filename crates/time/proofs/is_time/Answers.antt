@@ -1,32 +1,19 @@
--- `time::is_time` meets its contract: the digits that are left decide.
-use mathlib.Core.Path.{sym, ◌∙◌}
-use native.Mathlib.Omega.{arith}
+-- `time::is_time` meets its contract: fourteen digits, each of them hexadecimal.
+use Rattle.std.proofs.Common.{rules}
+use Rattle.std.specs.Prelude.{◌↔◌, ◌≡◌, true, IsTrue, EachIndex, slice_index}
+use mathlib.Core.Path.{◌∙◌}
 use borrow.Author.Tests.{eq-eqb, ne_eqb}
-use Rattle.octets.proofs.Each.{each_next, each_fails, each_end}
+use Rattle.octets.proofs.Each.{each_decides}
 use Rattle.time.specs.Time.{is_hex, is_time}
 use Rattle.time.proofs.is_time.Goals as goal
 
-pub returns-then-digits-ne14 : goal.returns-then-digits-ne14
+pub returns-then-digits-eq14 : goal.returns-then-digits-eq14
 unfolding is_time
-returns-then-digits-ne14 c = rw (ne_eqb _ _ c.if-digits-ne14.true)
+returns-then-digits-eq14 c =
+    let s = c.args.digits.now in
+    let h : IsTrue c.all.result ↔ EachIndex s (λ k. is_hex (slice_index s k) ≡ true) = search rules in
+    each_decides is_hex s c.all.result h ∙ rw (eq-eqb _ _ c.if-digits-eq14.true)
 
-pub loop-i-init : goal.loop-i-init
+pub returns-else-digits-eq14 : goal.returns-else-digits-eq14
 unfolding is_time
-loop-i-init c = (c.if-digits-ne14.false, rw (eq-eqb _ _ c.if-digits-ne14.false))
-
-pub returns-then-not-is_hex : goal.returns-then-not-is_hex
-returns-then-not-is_hex c =
-    let l = c.loop-i in
-    let s = c.args.digits.now in
-    sym (l.invariant.1 ∙ each_fails is_hex s l.i (omega arith) (sym c.is_hex.ensures ∙ c.if-not-is_hex.true))
-
-pub loop-i-preserved : goal.loop-i-preserved
-loop-i-preserved c =
-    let l = c.loop-i in
-    let s = c.args.digits.now in
-    (l.invariant.0, l.invariant.1 ∙ each_next is_hex s l.i (omega arith) (sym c.is_hex.ensures ∙ c.if-not-is_hex.false))
-
-pub returns : goal.returns
-returns c =
-    let l = c.loop-i in
-    sym (l.invariant.1 ∙ each_end is_hex c.args.digits.now l.i (omega arith))
+returns-else-digits-eq14 c = rw (ne_eqb _ _ c.if-digits-eq14.false)

@@ -5,7 +5,6 @@ use mathlib.Core.List.{List}
 use native.Mathlib.Omega.{arith}
 use lib.ListN.{length}
 use lib.Seq.{length-take-le}
-use Rattle.octets.specs.Answers.{gives, refuses}
 use Rattle.octets.specs.Lent.{made}
 use Rattle.octets.proofs.Laws.{kept_by, lent_refused, lent_short, lent_written}
 use Rattle.ucs2.specs.Ucs2.{to_ucs2}
@@ -33,7 +32,7 @@ module _ (c : lts.After-put_characters tie.the-claims reads.Pre reads.Post) wher
   fits : length shown ≤ 510
   fits = ucs2_fits octets start.args.septets few
 
-  makes : to_ucs2 octets start.args.septets ≡ made shown (gives (length shown))
+  makes : to_ucs2 octets start.args.septets ≡ made shown (length shown)
   makes = ucs2_done octets start.args.septets few (omega (arith, c.if-data-septets.false))
 
 -- the part of the array that is UCS2
@@ -41,28 +40,19 @@ within_array : (c : lts.After-put_characters tie.the-claims reads.Pre reads.Post
 within_array c = let w = c.put_characters-n.ensures in omega (arith, w.place, kept_by w, fits c)
 
 pub returns-then-septets-gt255 : goal.returns-then-septets-gt255
-returns-then-septets-gt255 c = lent_refused refuses _ _ (ucs2_long _ _ c.if-septets-gt255.true)
+returns-then-septets-gt255 c = lent_refused _ _ (ucs2_long _ _ c.if-septets-gt255.true)
 
 pub returns-then-data-septets : goal.returns-then-data-septets
-returns-then-data-septets c = lent_refused refuses _ _ (ucs2_few _ _ c.if-septets-gt255.false (omega (arith, c.if-data-septets.true)))
-
-pub put_characters-n-requires : goal.put_characters-n-requires
-put_characters-n-requires c = c.if-septets-gt255.false
+returns-then-data-septets c = lent_refused _ _ (ucs2_few _ _ c.if-septets-gt255.false (omega (arith, c.if-data-septets.true)))
 
 pub returns-then-out-n : goal.returns-then-out-n
-returns-then-out-n c = lent_short refuses _ (makes c.before.before) (omega (arith, c.if-out-n.true, c.put_characters-n.ensures.place))
+returns-then-out-n c = lent_short _ (makes c.before.before) (omega (arith, c.if-out-n.true, c.put_characters-n.ensures.place))
 
 pub slice_bounds-ucs2-end : goal.slice_bounds-ucs2-end
 slice_bounds-ucs2-end c = within_array c.before.before.before
 
 pub slice_bounds-put_octets-end : goal.slice_bounds-put_octets-end
 slice_bounds-put_octets-end c = sym (length-take-le _ _ (within_array c.before.before.before.before))
-
-pub put_octets-requires : goal.put_octets-requires
-put_octets-requires c =
-    let p = c.before.before.before.before in
-    let w = p.put_characters-n.ensures in
-    rw (stored_are 510 (fits p) w) (omega (arith, w.place, c.if-out-n.false))
 
 pub returns : goal.returns
 returns c =

@@ -9,25 +9,16 @@ use borrow.Author.Tests.{leb-true}
 use Rattle.octets.proofs.Choice.{and_true}
 use Rattle.octets.proofs.Laws.{left_start, left_step, left_end}
 use Rattle.septets.specs.Septets.{septet_at, bit_place, in_window}
-use Rattle.septets.proofs.BitPlaces.{places_here, septet_after, next_here, place_small}
+use Rattle.septets.proofs.BitPlaces.{places_here, septet_after, next_here}
 use Rattle.gsm7.specs.declared.decode.AfterEscape.{AfterEscape}
 use Rattle.gsm7.specs.Alphabet.{character}
 use Rattle.gsm7.specs.Internal.{four_plain, four_characters}
-use Rattle.gsm7.proofs.Reading.{septet_small}
 use Rattle.ucs2.specs.Ucs2.{ucs2_of}
 use Rattle.ucs2.proofs.Stepwise.{pair, rest, rest_done, rest_plain, rest_four, rest_escape, rest_last, rest_start}
 use Rattle.ucs2.proofs.put_characters.Goals as goal
 use Rattle.ucs2.proofs.put_characters.Tie as tie
 use Rattle.ucs2.proofs.put_characters.Lts as lts
 use Rattle.ucs2.proofs.put_characters.Reads as reads
-
--- the septet at a place is below 128
-small : {k : ℕ} (os : List ℕ) (i : ℕ) → k ≡ septet_at os 0 i → k < 128
-small os i e = rw e (septet_small os 0 i)
-
--- the place of the first septet of a step is one that can be moved
-here_small : (c : lts.In-loop tie.the-claims reads.Pre reads.Post goal.the-invariant-loop-consumed goal.the-decreases-loop-consumed) → let p = c.loop-consumed.place in (p.octet ≤ 255) × (p.shift < 8)
-here_small c = place_small 0 _ c.loop-consumed.invariant.3 (omega arith) (omega arith)
 
 -- a window is read, and its first septet
 module _ (c : lts.After-septet_in tie.the-claims reads.Pre reads.Post goal.the-invariant-loop-consumed goal.the-decreases-loop-consumed) where
@@ -82,20 +73,6 @@ module _ (c : lts.After-escaped_character tie.the-claims reads.Pre reads.Post go
 pub loop-consumed-init : goal.loop-consumed-init
 loop-consumed-init c = (omega arith, omega arith, rw rest_start (left_start _ _ _), refl)
 
-pub window-window-requires : goal.window-window-requires
-window-window-requires c = here_small c.before
-
-pub escaped_character-escaped-requires : goal.escaped_character-escaped-requires
-escaped_character-escaped-requires c = (small _ _ (second c.before.before), refl)
-
-pub next-requires : goal.next-requires
-next-requires c = here_small c.before.before.before.before.before.before.before.before.before.before
-
-pub next-place-requires : goal.next-place-requires
-next-place-requires c =
-    let s = escape_read c.before.before.before.before in
-    place_small 0 _ (next_here 0 _ (at_loop s).loop-consumed.invariant.3 c.next.ensures) (omega arith) (omega (arith, (start s).requires, s.before.before.loop-consumed-test.true))
-
 pub loop-consumed-preserved-then-code-eq-GSM7_ESCAPE : goal.loop-consumed-preserved-then-code-eq-GSM7_ESCAPE
 loop-consumed-preserved-then-code-eq-GSM7_ESCAPE c =
     let e = c.before.before.before.before.before in
@@ -105,15 +82,6 @@ loop-consumed-preserved-then-code-eq-GSM7_ESCAPE c =
     let two : 0 + (index s + 1 + 1) * 7 ≡ 0 + (index s + 2) * 7 = omega arith in
     (omega (arith, e.if-consumed-septets.false), omega (arith, w.place), left_step _ l.invariant.2 w (escape_next e), next_here 0 _ (next_here 0 _ l.invariant.3 c.next.ensures) c.next-place.ensures ∙ ap bit_place two)
 
-pub put_four-end-requires : goal.put_four-end-requires
-put_four-end-requires c = let t = c.before.before.before in (refl, omega (arith, (tested t).0))
-
-pub after_four-place-requires : goal.after_four-place-requires
-after_four-place-requires c = here_small c.before.before.before.before.before.before.before.before.before.before
-
-pub loop-consumed-smaller-then-consumed-septets-2 : goal.loop-consumed-smaller-then-consumed-septets-2
-loop-consumed-smaller-then-consumed-septets-2 c = omega (arith, (tested c.before.before.before.before.before).0)
-
 pub loop-consumed-preserved-then-consumed-septets-2 : goal.loop-consumed-preserved-then-consumed-septets-2
 unfolding ucs2_of
 loop-consumed-preserved-then-consumed-septets-2 c =
@@ -121,12 +89,6 @@ loop-consumed-preserved-then-consumed-septets-2 c =
     let w = c.put_four-end.ensures in
     let l = (at_loop (four_read t)).loop-consumed in
     ((tested t).0, omega (arith, w.place), left_step _ l.invariant.2 w (four_next t), c.after_four-place.ensures ∙ places_here 0 _ l.invariant.3 4)
-
-pub default_character-requires : goal.default_character-requires
-default_character-requires c = (small _ _ (first c.before.before.before.before.before.before.before), refl)
-
-pub next-place-requires-else-consumed-septets-2 : goal.next-place-requires-else-consumed-septets-2
-next-place-requires-else-consumed-septets-2 c = here_small c.before.before.before.before.before.before.before.before.before.before.before
 
 pub loop-consumed-preserved : goal.loop-consumed-preserved
 loop-consumed-preserved c =

@@ -2,12 +2,11 @@
 use mathlib.Core.Path.{◌∙◌}
 use native.Mathlib.Omega.{arith}
 use Rattle.octets.proofs.Laws.{lent_refused}
-use Rattle.gsm7.specs.Packing.{not_packed}
 use Rattle.user_data_header.proofs.Cases.{packing_bad, packing_good}
 use Rattle.user_data_header.proofs.pack_gsm7_with_header.Goals as goal
 
 pub returns-then-header-header_octets : goal.returns-then-header-header_octets
-returns-then-header-header_octets c = rw c.not_packed.ensures (lent_refused not_packed _ _ (packing_bad _ _ (rw (← c.header_octets.ensures.0) c.if-header-header_octets.true)))
+returns-then-header-header_octets c = lent_refused _ _ (packing_bad _ _ (rw (← c.header_octets.ensures.0) c.if-header-header_octets.true))
 
 pub pack_septets-requires : goal.pack_septets-requires
 pack_septets-requires c = omega (arith, c.header_octets.ensures.1)

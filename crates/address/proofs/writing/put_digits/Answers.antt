@@ -12,7 +12,7 @@ use Rattle.address.proofs.writing.put_digits.Invariants.{octets_of}
 use Rattle.address.proofs.writing.put_digits.Goals as goal
 
 pub loop-j-init : goal.loop-j-init
-loop-j-init c = (omega arith, omega arith, refl, rw add-zero (left_start _ _ _))
+loop-j-init c = (omega arith, refl, rw add-zero (left_start _ _ _))
 
 pub loop-j-preserved : goal.loop-j-preserved
 loop-j-preserved c =
@@ -20,13 +20,12 @@ loop-j-preserved c =
     let l = c.loop-j in
     let e = pairs_next (map digit_value text) l.j (rw length-map (omega arith)) in (
       l.invariant.0,
-      omega arith,
-      simp length-set l.invariant.2,
-      rw (← add_assoc) (left_step _ l.invariant.3 (wrote_one _ _ _) (e ∙ rw (c.semi_octet_or_f-first.ensures.0, c.semi_octet_or_f-second.ensures.0))),
+      simp length-set l.invariant.1,
+      rw (← add_assoc) (left_step _ l.invariant.2 (wrote_one _ _ _) (e ∙ rw (c.semi_octet_or_f-first.ensures.0, c.semi_octet_or_f-second.ensures.0))),
     )
 
 pub shape_of-out : goal.shape_of-out
-shape_of-out c = c.loop-j.invariant.2
+shape_of-out c = c.loop-j.invariant.1
 
 pub returns : goal.returns
 returns c =
@@ -34,4 +33,4 @@ returns c =
     let l = c.loop-j in
     let s = digits_size a.text.now in
     let h : length (octets_of a.text.now) ≤ l.j = rw s (omega arith) in
-    record { place = rw s (omega arith); list = (left_end l.invariant.3 (drop_of_length-le _ h)).1 }
+    record { place = rw s (omega arith); list = (left_end l.invariant.2 (drop_of_length-le _ h)).1 }

@@ -13,7 +13,4 @@ octets_of text = in_pairs (map digit_value text)
 
 abbrev pub invariant-loop-j : goal.invariant-loop-j
 invariant-loop-j l =
-    (l.octets ≡ (length l.text + 1) / 2) × (l.j ≤ l.octets) × (length l.out ≡ length l.initial.out) × Left (sets l.initial.out l.at (octets_of l.text)) (l.at + length (octets_of l.text)) l.out (l.at + l.j) (drop l.j (octets_of l.text))
-
-abbrev pub decreases-loop-j : goal.decreases-loop-j
-decreases-loop-j l = l.octets - l.j
+    (l.octets ≡ (length l.text + 1) / 2) × (length l.out ≡ length l.initial.out) × Left (sets l.initial.out l.at (octets_of l.text)) (l.at + length (octets_of l.text)) l.out (l.at + l.j) (drop l.j (octets_of l.text))

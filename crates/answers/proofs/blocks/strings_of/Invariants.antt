@@ -1,11 +1,8 @@
-use Prim.Native.Nat.{◌-◌, ◌≤◌}
-use mathlib.Core.Path.{◌≡◌}
-use lib.ListN.{length}
+-- `answers::blocks::strings_of` is safe and ends.
+use Rattle.std.proofs.Common.{◌≡◌, ◌≤◌, length}
 use Rattle.answers.proofs.blocks.strings_of.Given as goal
 
-abbrev pub invariant-loop-start : goal.invariant-loop-start
-invariant-loop-start l =
-    (l.filled ≤ 4096) × (length l.octets ≡ length l.initial.octets) × (length l.lengths ≡ length l.initial.lengths)
-
-abbrev pub decreases-loop-start : goal.decreases-loop-start
-decreases-loop-start l = length l.line - l.start
+abbrev pub invariant-loop-i : goal.invariant-loop-i
+invariant-loop-i l =
+    (goal.iterator-loop-i).can_next l.i-iterator × (goal.iterator-loop-i).is_finite l.i-iterator
+    × (l.filled ≤ length l.octets) × (length l.octets ≡ length l.initial.octets)

@@ -20,18 +20,15 @@ missed : (code : ℕ) {c : ℕ} → c ≡ character code → row_with (λ (e : E
 unfolding escaped replaced
 missed code e p = rw (e, p)
 
-pub loop-i-init : goal.loop-i-init
-loop-i-init c = (omega arith, refl)
-
 pub returns-then-e-code : goal.returns-then-e-code
 returns-then-e-code c =
     let l = c.loop-i in
-    found _ (l.invariant.1 ∙ row_here (λ (e : Extension). e.code) _ extension l.i c.loop-i-test.true c.extension_row-e.ensures c.if-e-code.true)
+    found _ (l.invariant ∙ row_here (λ (e : Extension). e.code) _ extension l.i (omega arith) c.extension_row-e.ensures c.if-e-code.true)
 
 pub loop-i-preserved : goal.loop-i-preserved
 loop-i-preserved c =
     let l = c.loop-i in
-    (omega arith, l.invariant.1 ∙ row_next (λ (e : Extension). e.code) _ extension l.i c.loop-i-test.true c.extension_row-e.ensures c.if-e-code.false)
+    l.invariant ∙ row_next (λ (e : Extension). e.code) _ extension l.i (omega arith) c.extension_row-e.ensures c.if-e-code.false
 
 pub default_character-requires : goal.default_character-requires
 default_character-requires c = c.requires
@@ -39,4 +36,4 @@ default_character-requires c = c.requires
 pub returns : goal.returns
 returns c =
     let l = c.loop-i in
-    missed _ c.default_character.ensures (l.invariant.1 ∙ row_end (λ (e : Extension). e.code) _ extension l.i (omega arith))
+    missed _ c.default_character.ensures (l.invariant ∙ row_end (λ (e : Extension). e.code) _ extension l.i (omega arith))

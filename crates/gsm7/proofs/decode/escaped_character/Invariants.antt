@@ -1,4 +1,3 @@
-use Prim.Native.Nat.{◌-◌, ◌≤◌}
 use mathlib.Core.Path.{◌≡◌}
 use lib.ListN.{drop}
 use Rattle.gsm7.specs.declared.decode.Extension.{Extension}
@@ -7,7 +6,4 @@ use Rattle.gsm7.proofs.decode.escaped_character.Given as goal
 
 abbrev pub invariant-loop-i : goal.invariant-loop-i
 invariant-loop-i l =
-    (l.i ≤ 10) × (row_with (λ (e : Extension). e.code) l.code extension ≡ row_with (λ (e : Extension). e.code) l.code (drop l.i extension))
-
-abbrev pub decreases-loop-i : goal.decreases-loop-i
-decreases-loop-i l = 10 - l.i
+    row_with (λ (e : Extension). e.code) l.code extension ≡ row_with (λ (e : Extension). e.code) l.code (drop l.i extension)

@@ -2,7 +2,6 @@
 use native.Mathlib.Omega.{arith}
 use native.Mathlib.Nat.{zero-add}
 use Rattle.octets.proofs.Laws.{lent_refused, lent_short, lent_done, kept_by}
-use Rattle.gsm7.specs.Packing.{not_packed}
 use Rattle.gsm7.proofs.PackingCases.{length_after, after_many, after_done}
 use Rattle.gsm7.proofs.packing.pack_codes.Goals as goal
 
@@ -12,12 +11,12 @@ overflow_add-septets c = omega (arith, c.header_septets.ensures)
 pub returns-then-septets-gt255 : goal.returns-then-septets-gt255
 returns-then-septets-gt255 c =
     let before = c.header_septets.ensures in
-    rw c.too_many_septets.ensures (lent_refused not_packed _ _ (after_many _ _ (omega (arith, before))))
+    lent_refused _ _ (after_many _ _ (omega (arith, before)))
 
 pub returns-then-out-septets : goal.returns-then-out-septets
 returns-then-out-septets c =
     let before = c.header_septets.ensures in
-    rw c.output_too_short.ensures (lent_short not_packed _ (after_done _ _ (omega (arith, before))) (rw length_after (omega (arith, before))))
+    lent_short _ (after_done _ _ (omega (arith, before))) (rw length_after (omega (arith, before)))
 
 pub put_packed-octets-requires : goal.put_packed-octets-requires
 put_packed-octets-requires c =
@@ -33,4 +32,4 @@ returns c =
     let before = c.header_septets.ensures in
     let w = c.put_packed-octets.ensures in
     rw (w.place, zero-add, before)
-    (lent_done not_packed _ (after_done _ _ (omega (arith, before, c.if-septets-gt255.false))) (rw length_after (omega (arith, before, c.if-out-septets.false))) w.list)
+    (lent_done _ (after_done _ _ (omega (arith, before, c.if-septets-gt255.false))) (rw length_after (omega (arith, before, c.if-out-septets.false))) w.list)

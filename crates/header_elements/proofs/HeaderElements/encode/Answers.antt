@@ -1,4 +1,5 @@
 -- `header_elements::HeaderElements::encode` meets its contract: each answer is a case of what the writer makes.
+use Rattle.std.specs.Prelude.{Err}
 use Prim.Native.Nat.{ℕ, ◌+◌, ◌*◌, ◌≤◌}
 use mir.Syntax.{w8}
 use mir.Val.{Fits}
@@ -7,7 +8,6 @@ use mathlib.Core.List.{◌∷◌}
 use native.Mathlib.Omega.{arith}
 use borrow.Author.Rules.{rules}
 use lib.ListN.{length, get_or, take}
-use Rattle.octets.specs.Answers.{refuses}
 use Rattle.octets.proofs.Laws.{lent_refused, lent_short, lent_written, wrote_then, kept_by}
 use Rattle.header_elements.specs.declared.HeaderElements.{HeaderElements}
 use Rattle.header_elements.specs.Elements.{joined, header_of}
@@ -17,6 +17,7 @@ use Rattle.header_elements.proofs.Held.{identifiers_count, lengths_count, same_c
 use Rattle.header_elements.proofs.Order.{same_size}
 use Rattle.header_elements.proofs.Laws.{makes_none, makes, header_size_lem, too_many}
 use Rattle.header_elements.proofs.HeaderElements.encode.Goals as goal
+use Rattle.header_elements.proofs.HeaderElements.encode.Goals.{Start}
 
 module _ (r : HeaderElements) (typed : Typed r) (few : r.count ≤ 127) where
   identifiers_are : length (take r.count r.identifiers) ≡ r.count
@@ -43,39 +44,31 @@ module _ (r : HeaderElements) (typed : Typed r) (few : r.count ≤ 127) where
       unfolding header_of
       whole = rw octets
 
-pub returns-then-count-gt127 : goal.returns-then-count-gt127
-returns-then-count-gt127 c = lent_refused refuses _ _ (too_many _ c.if-count-gt127.true)
-
-pub octets_needed-needed-requires : goal.octets_needed-needed-requires
-octets_needed-needed-requires c =
-    let t : Typed c.args.self = (search rules, search rules, search rules, λ i. (octet i).fits) in
-    omega (arith, lengths_are c.args.self t c.if-count-gt127.false)
+typed : (c : Start) → Typed c.args.self
+typed c = (search rules, search rules, search rules, λ i. (octet i).fits)
   where
     octet : (i : ℕ) → Fits w8 (get_or c.args.self.identifiers i 0)
     octet i = search rules
+
+pub returns-then-count-gt127 : goal.returns-then-count-gt127
+returns-then-count-gt127 c = lent_refused _ _ (too_many _ c.if-count-gt127.true)
 
 pub returns-then-needed-gt255 : goal.returns-then-needed-gt255
 returns-then-needed-gt255 c =
-    let t : Typed c.args.self = (search rules, search rules, search rules, λ i. (octet i).fits) in
-    lent_refused refuses _ _ (makes_none _ (omega (arith, is_needed c.args.self t c.if-count-gt127.false _ c.octets_needed-needed.ensures, c.if-needed-gt255.true)))
-  where
-    octet : (i : ℕ) → Fits w8 (get_or c.args.self.identifiers i 0)
-    octet i = search rules
+    let t : Typed c.args.self = typed (goal.at.returns-then-needed-gt255 c).Start in
+    lent_refused _ _ (makes_none _ (omega (arith, is_needed c.args.self t c.if-count-gt127.false _ c.octets_needed-needed.ensures, c.if-needed-gt255.true)))
 
 pub returns-then-out-size : goal.returns-then-out-size
 returns-then-out-size c =
-    let t : Typed c.args.self = (search rules, search rules, search rules, λ i. (octet i).fits) in
+    let t : Typed c.args.self = typed (goal.at.returns-then-out-size c).Start in
     let h : c.octets_needed-needed.result ≤ 255 = omega arith in
-    lent_short refuses _ (makes _ (fits c.args.self t c.if-count-gt127.false _ c.octets_needed-needed.ensures h)) (omega (arith, size c.args.self t c.if-count-gt127.false _ c.octets_needed-needed.ensures h, c.if-out-size.true))
-  where
-    octet : (i : ℕ) → Fits w8 (get_or c.args.self.identifiers i 0)
-    octet i = search rules
+    lent_short _ (makes _ (fits c.args.self t c.if-count-gt127.false _ c.octets_needed-needed.ensures h)) (omega (arith, size c.args.self t c.if-count-gt127.false _ c.octets_needed-needed.ensures h, c.if-out-size.true))
 
 pub put_ordered-requires : goal.put_ordered-requires
 unfolding list_of
 put_ordered-requires c =
     let r = c.args.self in
-    let t : Typed c.args.self = (search rules, search rules, search rules, λ i. (octet i).fits) in
+    let t : Typed c.args.self = typed (goal.at.put_ordered-requires c).Start in
     let few = c.if-count-gt127.false in
     let counted = c.octets_needed-needed.ensures in
     let h : c.octets_needed-needed.result ≤ 255 = omega arith in
@@ -87,20 +80,14 @@ put_ordered-requires c =
       values_fit r t fit,
       omega (arith, octets r t few _ counted h, w.place, kept_by w, c.if-out-size.false),
     )
-  where
-    octet : (i : ℕ) → Fits w8 (get_or c.args.self.identifiers i 0)
-    octet i = search rules
 
 pub returns : goal.returns
 unfolding list_of
 returns c =
     let r = c.args.self in
-    let t : Typed c.args.self = (search rules, search rules, search rules, λ i. (octet i).fits) in
+    let t : Typed c.args.self = typed (goal.at.returns c).Start in
     let few = c.if-count-gt127.false in
     let counted = c.octets_needed-needed.ensures in
     let h : c.octets_needed-needed.result ≤ 255 = omega arith in
     let w = wrote_then c.put_octet-place.ensures c.put_ordered.ensures in
     lent_written _ (makes r (fits r t few _ counted h)) (omega (arith, size r t few _ counted h, c.if-out-size.false)) (rw (whole r t few _ counted h) at w)
-  where
-    octet : (i : ℕ) → Fits w8 (get_or c.args.self.identifiers i 0)
-    octet i = search rules

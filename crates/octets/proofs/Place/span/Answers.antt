@@ -1,21 +1,17 @@
--- `left` is the number of octets from the place on, none past the end.
+-- What is left from the place on, none past the end, is the rest's length.
+use Prim.Native.Nat.{ℕ, ◌-◌, ◌≤◌, ◌<◌}
 use mathlib.Core.Path.{◌≡◌}
+use mathlib.Core.List.{List}
 use native.Mathlib.Omega.{arith}
 use borrow.Author.Tests.{le-leb, lt-leb}
 use lib.ListN.{length, drop, length-drop}
 use Rattle.octets.specs.Places.{span_at}
 use Rattle.octets.proofs.Place.span.Goals as goal
-use Rattle.octets.proofs.Place.span.Goals.{then-at-data, else-at-data}
-use Rattle.octets.proofs.Place.span.Lts as lts
-use Rattle.octets.proofs.Place.span.Reads as reads
 
-left : (c : lts.Joined1 reads.Pre reads.Post) → length (drop c.args.self.at c.args.«data».now) ≡ c.if-at-data.left
-left c = simp length-drop (elim c.if-at-data.branch [ then-at-data w ↦ omega arith | else-at-data w ↦ omega arith ])
-
-pub returns-then-n-left : goal.returns-then-n-left
+pub returns-then-n-saturating_sub : goal.returns-then-n-saturating_sub
 unfolding span_at
-returns-then-n-left c = rw (left c.before.before, le-leb _ _ c.if-n-left.true)
+returns-then-n-saturating_sub c = let a = c.args in let h : a.n ≤ length a.«data».now - a.self.at = omega arith in rw (length-drop a.self.at a.«data».now, le-leb _ _ h)
 
-pub returns-else-n-left : goal.returns-else-n-left
+pub returns-else-n-saturating_sub : goal.returns-else-n-saturating_sub
 unfolding span_at
-returns-else-n-left c = rw (left c.before.before, lt-leb _ _ c.if-n-left.false)
+returns-else-n-saturating_sub c = let a = c.args in let h : length a.«data».now - a.self.at < a.n = omega arith in rw (length-drop a.self.at a.«data».now, lt-leb _ _ h)

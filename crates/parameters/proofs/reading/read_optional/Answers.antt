@@ -8,7 +8,7 @@ pub returns-in_default : goal.returns-in_default
 returns-in_default c = rw (c.if-is_announced.true, announced_ends _ _ (sym c.in_default.ensures))
 
 pub returns-then-is_announced : goal.returns-then-is_announced
-returns-then-is_announced c = rw (c.if-is_announced.true, announced_read _ _ (sym c.in-Read.ensures))
+returns-then-is_announced c = rw (c.if-is_announced.true, announced_read _ _ (sym c.in-Some.ensures))
 
 pub returns : goal.returns
 returns c = rw (c.if-is_announced.false, done_reached)

@@ -1,52 +1,19 @@
 -- `relay_address::RelayAddress::encode` meets its contract: no address is 00; of an address the length is looked at first.
-use Prim.Native.Nat.{◌≤◌}
-use mathlib.Core.Path.{sym}
+use mathlib.Core.Path.{sym, ◌∙◌}
 use native.Mathlib.Omega.{arith}
-use borrow.Author.Rules.{rules}
-use borrow.Author.Tests.{not-true, not-false}
-use lib.ListN.{length}
-use lib.Seq.{length-take-le}
-use Rattle.octets.specs.Answers.{refuses}
-use Rattle.octets.proofs.Laws.{kept_by, lent_refused, lent_short, lent_written}
-use Rattle.relay_address.specs.declared.RelayAddress.{RelayAddress}
-use Rattle.relay_address.specs.Relay.{Typed}
+use borrow.Author.Tests.{eqb-true, eqb-false}
+use Rattle.octets.proofs.Laws.{lent_refused, lent_short, lent_written}
 use Rattle.relay_address.proofs.Writing.{makes_none, makes_long, makes_checked}
 use Rattle.relay_address.proofs.RelayAddress.encode.Goals as goal
-use Rattle.relay_address.proofs.RelayAddress.encode.Tie as tie
-use Rattle.relay_address.proofs.RelayAddress.encode.Lts as lts
-use Rattle.relay_address.proofs.RelayAddress.encode.Reads as reads
 
--- where there is an address whose length doesn't pass its array
-abbrev There : Type 0
-There = lts.Else3 tie.the-claims reads.Pre reads.Post
+pub returns-then-is_empty : goal.returns-then-is_empty
+returns-then-is_empty c = rw c.in_default.is (lent_short _ makes_none (omega (arith, eqb-true _ 0 (sym c.is_empty.ensures ∙ c.if-is_empty.true))))
 
-module _ (c : There) where
-  abbrev held : RelayAddress
-  held = c.args.self
-
-  typed : Typed held
-  typed = search rules depth 12
-
-  fits : held.address_length ≤ length held.address
-  fits = omega (arith, typed, c.if-n-gt508.false)
-
-pub returns-then-out-lt1 : goal.returns-then-out-lt1
-returns-then-out-lt1 c = lent_short refuses _ (makes_none _ (not-true _ c.if-not-self.true)) c.if-out-lt1.true
-
-pub shape_of-out-then-not-self : goal.shape_of-out-then-not-self
-shape_of-out-then-not-self c = kept_by c.put_octet.ensures
-
-pub returns-then-not-self : goal.returns-then-not-self
-returns-then-not-self c = lent_written _ (makes_none _ (not-true _ c.if-not-self.true)) c.if-out-lt1.false c.put_octet.ensures
+pub returns-in_default : goal.returns-in_default
+returns-in_default c = rw c.in_default.is (lent_written _ makes_none (omega (arith, eqb-false _ 0 (sym c.is_empty.ensures ∙ c.if-is_empty.false))) c.put_octet.ensures)
 
 pub returns-then-n-gt508 : goal.returns-then-n-gt508
-returns-then-n-gt508 c = lent_refused refuses _ _ (makes_long _ (not-false _ c.if-not-self.false) c.if-n-gt508.true)
-
-pub slice_bounds-address-end : goal.slice_bounds-address-end
-slice_bounds-address-end c = fits c.before.before
-
-pub slice_bounds-encode_digits-end : goal.slice_bounds-encode_digits-end
-slice_bounds-encode_digits-end c = sym (length-take-le _ _ (fits c.before.before.before))
+returns-then-n-gt508 c = rw c.in-Some.is (lent_refused _ _ (makes_long _ c.if-n-gt508.true))
 
 pub returns : goal.returns
-returns c = let k = c.before.before.before.before.before.before.before in rw (makes_checked (held k) (not-false _ c.if-not-self.false) c.if-n-gt508.false) c.encode_digits.ensures
+returns c = rw (c.in-Some.is, makes_checked c.in-Some.held c.if-n-gt508.false) c.encode_digits.ensures

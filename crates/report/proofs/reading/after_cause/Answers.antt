@@ -4,25 +4,26 @@ use Rattle.report.proofs.FieldByField.{refused_found, no_indicator, no_time, no_
 use Rattle.report.proofs.reading.after_cause.Goals as goal
 
 pub returns-in_default : goal.returns-in_default
-returns-in_default c = refused_found _ c.refused.ensures (no_indicator _ _ c.args.has_time _ _ _ (sym c.in_default.ensures))
+returns-in_default c = refused_found c.args.«data».now (no_indicator _ _ c.args.has_time _ _ _ (sym c.in_default.ensures))
 
 pub returns-in_default-span : goal.returns-in_default-span
 returns-in_default-span c =
-    refused_found _ c.refused-in_default-span.ensures
-    (no_time _ _ c.args.has_time _ _ _ (sym c.in-Read.ensures) (rw c.time_size.ensures at (sym c.in_default-span.ensures)))
+    refused_found c.args.«data».now
+    (no_time _ _ c.args.has_time _ _ _ (sym c.in-Some.ensures) (rw c.time_size.ensures at (sym c.in_default-span.ensures)))
 
 pub returns-in_default-read_parameters : goal.returns-in_default-read_parameters
 returns-in_default-read_parameters c =
-    refused_found _ c.refused-in_default-read_parameters.ensures
-    (no_parameters_lem _ _ c.args.has_time _ _ _ (sym c.in-Read.ensures) (rw c.time_size.ensures at (sym c.in-There.ensures))
+    refused_found c.args.«data».now
+    (no_parameters_lem _ _ c.args.has_time _ _ _ (sym c.in-Some.ensures) (rw c.time_size.ensures at (sym c.in-Some-span.ensures))
     (sym c.in_default-read_parameters.ensures))
 
 pub overflow_sub-result : goal.overflow_sub-result
 overflow_sub-result c =
-    (found _ _ c.args.has_time (sym c.in-Read.ensures) (rw c.time_size.ensures at (sym c.in-There.ensures))
-    (λ j. (c.type_inv.«data» j).fits) (sym c.in-Read-read_parameters.ensures)).start
+    (found _ _ c.args.has_time (sym c.in-Some.ensures) (rw c.time_size.ensures at (sym c.in-Some-span.ensures))
+    (λ j. (c.type_inv.«data» j).fits) (sym c.in-Some-read_parameters.ensures)).start
 
 pub returns : goal.returns
 returns c =
-    all_there _ _ c.args.has_time _ _ _ (sym c.in-Read.ensures) (rw c.time_size.ensures at (sym c.in-There.ensures))
-    (λ j. (c.type_inv.«data» j).fits) (sym c.in-Read-read_parameters.ensures)
+    rw c.then_some.ensures
+    (all_there _ _ c.args.has_time _ _ _ (sym c.in-Some.ensures) (rw c.time_size.ensures at (sym c.in-Some-span.ensures))
+    (λ j. (c.type_inv.«data» j).fits) (sym c.in-Some-read_parameters.ensures))

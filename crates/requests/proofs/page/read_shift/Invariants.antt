@@ -1,9 +1,6 @@
--- `requests::page::read_shift` is safe and ends: no more reports than lines are counted.
-use Rattle.std.proofs.Common.{◌-◌, ◌≤◌}
+-- `requests::page::read_shift` is safe and ends: fewer reports than lines are counted.
+use Rattle.std.proofs.Common.{◌<◌}
 use Rattle.requests.proofs.page.read_shift.Given as goal
 
 abbrev pub invariant-loop-number : goal.invariant-loop-number
-invariant-loop-number g l = l.count ≤ l.number
-
-abbrev pub decreases-loop-number : goal.decreases-loop-number
-decreases-loop-number g l = 18446744073709551615 - l.number
+invariant-loop-number g l = l.count < l.number

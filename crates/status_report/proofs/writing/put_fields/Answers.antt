@@ -4,12 +4,6 @@ use Rattle.octets.proofs.Laws.{wrote_then, kept_by}
 use Rattle.address.proofs.Checks.{fine_size}
 use Rattle.status_report.proofs.writing.put_fields.Goals as goal
 
-pub put_octet-p1-requires : goal.put_octet-p1-requires
-put_octet-p1-requires c = omega (arith, c.requires.3)
-
-pub put_octet-p2-requires : goal.put_octet-p2-requires
-put_octet-p2-requires c = let w = c.put_octet-p1.ensures in omega (arith, w.place, kept_by w, c.requires.3)
-
 pub put_address-p3-requires : goal.put_address-p3-requires
 put_address-p3-requires c = let w1 = c.put_octet-p1.ensures in let w2 = c.put_octet-p2.ensures in let p = c.requires in (p.0, omega (arith, w1.place, kept_by w1, w2.place, kept_by w2, p.3))
 

@@ -27,11 +27,11 @@ quarters c = c.quarter_hours-quarters.ensures ∙ ap nat_abs (zone c.before.befo
 pub returns-then-not-in_calendar : goal.returns-then-not-in_calendar
 unfolding timestamp
 returns-then-not-in_calendar c =
-    rw (c.out_of_calendar.ensures, ← c.in_calendar.ensures, c.if-not-in_calendar.true)
+    rw (← c.in_calendar.ensures, c.if-not-in_calendar.true)
 
 pub returns-then-quarters-gt79 : goal.returns-then-quarters-gt79
 unfolding timestamp
-returns-then-quarters-gt79 c = rw (c.out_of_zones.ensures, calendar c.before.before.before, ← quarters c.before.before, lt-ltb _ _ c.if-quarters-gt79.true)
+returns-then-quarters-gt79 c = rw (calendar c.before.before, ← quarters c.before, lt-ltb _ _ c.if-quarters-gt79.true)
 
 pub returns : goal.returns
 returns c =

@@ -1,6 +1,0 @@
--- `answers::blocks::strings_of` is safe and ends.
-use native.Mathlib.Omega.{arith}
-use Rattle.answers.proofs.blocks.strings_of.Goals as goal
-
-pub overflow_add-start : goal.overflow_add-start
-overflow_add-start c = omega (arith, c.find-end.ensures.1 (omega (arith, c.loop-start-test.true)))

@@ -1,7 +1,0 @@
--- `bench_exports::tpdu_to_columns` meets its contract: the writer's answer, and its number.
-use mathlib.Core.Path.{ap}
-use Rattle.bench_exports.specs.Numbers.{lent_number}
-use Rattle.bench_exports.proofs.tpdu_to_columns.Goals as goal
-
-pub returns : goal.returns
-returns c = rw c.written.ensures (ap lent_number c.to_columns.ensures)

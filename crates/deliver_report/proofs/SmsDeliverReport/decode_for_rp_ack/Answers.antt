@@ -1,6 +1,0 @@
--- `SmsDeliverReport::decode_for_rp_ack` meets its contract.
-
-use Rattle.deliver_report.proofs.SmsDeliverReport.decode_for_rp_ack.Goals as goal
-
-pub returns : goal.returns
-returns c = c.decode.ensures

@@ -1,9 +1,0 @@
--- `request_line::keys::against_keys` is safe and ends.
-use Prim.Native.Nat.{◌-◌}
-use Rattle.request_line.proofs.keys.against_keys.Given as goal
-
-abbrev pub invariant-loop-i : goal.invariant-loop-i
-invariant-loop-i l = Unit {0}
-
-abbrev pub decreases-loop-i : goal.decreases-loop-i
-decreases-loop-i l = l.count - l.i
