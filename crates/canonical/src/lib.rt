@@ -18,8 +18,8 @@ use octets::Refusal;
 use status_report::SmsStatusReport;
 use submit_report::SmsSubmitReport;
 
-// Document 01 names a function for each kind. One generic function would need a trait that says of each kind what its
-// `decode` and `encode` say already, and each of these is no more than those two calls.
+// A function for each kind: one generic function would need a trait that says of each kind what its `decode` and `encode`
+// say already, and each of these is no more than those two calls.
 
 // Reads a message, and writes it back.
 pub fn canonical_submit(data: &[u8], out: &mut [u8]) -> Result<usize, Refusal>

@@ -11,7 +11,7 @@ ghost use Rattle.header_elements.specs.Internal.{Firsts, Nexts, Starts};
 use octets::Refusal;
 
 // Elements: identifiers, lengths, and the values end to end. A header has at most 127 elements and 253 octets of values.
-// Arrays beside each other, and not one of elements: without a heap each element would hold the 253 octets of the longest value.
+// Arrays beside each other, as the C interface fills them; values lie end to end, since there is no heap.
 #[derive(Clone, Copy, Debug)]
 pub struct HeaderElements {
     pub count: usize,

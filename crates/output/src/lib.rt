@@ -85,6 +85,7 @@ impl Output {
         let mut first = 19;
         let mut rest = n / 10;
         text[19] = b'0' + (n % 10) as u8;
+        // A `while`: it ends when no digit is left.
         while (0 < first) & (0 < rest) {
             first -= 1;
             text[first] = b'0' + (rest % 10) as u8;

@@ -167,6 +167,7 @@ fn put_character(out: &mut Output, c: u32)
 // A text given as UTF-16, high octets first.
 pub fn put_utf16(out: &mut Output, octets: &[u8]) {
     let mut i = 0;
+    // A `while`: a character is two octets or four, which it says itself.
     while i < octets.len() {
         let c = first_character(&octets[i..]);
         put_character(out, c.code);
