@@ -11,9 +11,9 @@ use borrow.Author.Tests.{le-ltb}
 use lib.Dec.{eqb, ltb}
 use lib.ListN.{length, get_or, take, drop}
 use lib.Seq.{get_or-drop}
-use Rattle.octets.specs.Answers.{Said, fine}
+use Rattle.octets.specs.Answers.{fine}
 use Rattle.octets.specs.Checks.{Check, found, checked}
-use Rattle.std.specs.Prelude.{if◌then◌else◌, Ok}
+use Rattle.std.specs.Prelude.{if◌then◌else◌}
 use Rattle.octets.specs.Each.{Octets}
 use Rattle.octets.specs.Lent.{refused, made}
 use Rattle.octets.specs.declared.Refusal.TheVariants.{LengthTooLarge, AddressTooLong}

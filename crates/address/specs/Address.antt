@@ -1,6 +1,5 @@
 -- Addresses (TS 23.040 §9.1.2.5): a length octet L in semi-octets, a type octet, and ceil(L/2) value octets.
 use Rattle.std.specs.Prelude.{ℕ, ◌+◌, ◌*◌, ◌/◌, ◌%◌, ◌≡◌, refl, List, [], ◌∷◌, map, eqb, ltb, length, get_or, take, drop, if◌then◌else◌}
-use Rattle.octets.specs.Answers.{Said}
 use Rattle.octets.specs.Arrays.{pad, cleared_array}
 use Rattle.octets.specs.Each.{each}
 use Rattle.octets.specs.Lent.{Making, refused}

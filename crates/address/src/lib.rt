@@ -11,7 +11,7 @@ ghost use Rattle.gsm7.specs.Reading.{replaced_in};
 ghost use Rattle.address.specs.Address.{digit_character, without_f, value_text, value_septets, address_with, address_in, septets_read, address_size, encoding};
 ghost use Rattle.address.specs.Internal.{address_span};
 
-use crate::writing::TYPE_OF_NUMBER_ALPHANUMERIC;
+use crate::writing::{Number, TYPE_OF_NUMBER_ALPHANUMERIC};
 use gsm7::decode::TextPut;
 use octets::{Place, Refusal};
 
@@ -140,6 +140,11 @@ impl SMSAddress {
             return Err(Refusal::LengthTooLarge);
         }
         let address = self.address;
-        writing::encode_address(self.ton, self.npi, &address[..n], out)
+        let number = Number {
+            ton: self.ton,
+            npi: self.npi,
+            text: &address[..n],
+        };
+        number.encode(out)
     }
 }

@@ -12,6 +12,14 @@ use octets::Refusal;
 
 pub const TYPE_OF_NUMBER_ALPHANUMERIC: u8 = 5;
 
+// Type of number, numbering plan, and digits or text, as an address field carries them (§9.1.2.5).
+#[derive(Clone, Copy, Debug, PartialEq, Eq)]
+pub struct Number<'a> {
+    pub ton: u8,
+    pub npi: u8,
+    pub text: &'a [u8],
+}
+
 // The semi-octet of a character; F for one that is no digit.
 fn semi_octet_from_character(character: u8) -> u8
     ensures { result ≡ digit_value character }
@@ -30,40 +38,6 @@ pub fn all_digits(text: &[u8]) -> bool
     ensures { result ≡ each is_digit text.now }
 {
     text.iter().all(|c| semi_octet_from_character(*c) != 0xF)
-}
-
-// Whether a text in septets can be written: its length octet, or the refusal.
-fn check_text(npi: u8, text: &[u8]) -> Result<usize, Refusal>
-    ensures { result ≡ check_of (limited (text_field 5 npi (septets_of text.now))) }
-{
-    let mut codes = [0u8; 255];
-    let count = gsm7::encode::scan_text(text, &mut codes)?;
-    if 11 < count {
-        return Err(Refusal::AddressTooLong);
-    }
-    Ok((count * 7 + 3) / 4)
-}
-
-// Whether type, plan and text can be written: the length octet, or the refusal.
-pub fn check_address(ton: u8, npi: u8, text: &[u8]) -> Result<usize, Refusal>
-    ensures { result ≡ check_of (address_making ton npi text.now) }
-{
-    if 7 < ton {
-        return Err(Refusal::NumberTypeOrPlanTooLarge);
-    }
-    if 15 < npi {
-        return Err(Refusal::NumberTypeOrPlanTooLarge);
-    }
-    if ton == TYPE_OF_NUMBER_ALPHANUMERIC {
-        return check_text(npi, text);
-    }
-    if !all_digits(text) {
-        return Err(Refusal::NotInAlphabet);
-    }
-    if 20 < text.len() {
-        return Err(Refusal::AddressTooLong);
-    }
-    Ok(text.len())
 }
 
 // The semi-octet of character i, F after the end.
@@ -103,27 +77,63 @@ fn put_septets(text: &[u8], out: &mut [u8], at: usize) -> usize
     septets::pack_octets(&codes[..count], 0, out, at)
 }
 
-// Writes an address that was checked, with the length octet that the check told; the place after it.
-pub fn put_address(ton: u8, npi: u8, text: &[u8], count: usize, out: &mut [u8], at: usize) -> usize
-    requires { (check_of (address_making ton npi text.now) ≡ Ok count) × (at + 2 + (count + 1) / 2 ≤ length out.old) }
-    ensures { Wrote at (octets_or [] (address_octets ton npi text.now)) out.old result out.new }
-{
-    out[at] = count as u8;
-    out[at + 1] = 128 + ton * 16 + npi;
-    if ton == TYPE_OF_NUMBER_ALPHANUMERIC {
-        return put_septets(text, out, at + 2);
+impl Number<'_> {
+    // Whether a text in septets can be written: its length octet, or the refusal.
+    fn check_text(self) -> Result<usize, Refusal>
+        ensures { result ≡ check_of (limited (text_field 5 self.entry.npi (septets_of self.entry.text.now))) }
+    {
+        let mut codes = [0u8; 255];
+        let count = gsm7::encode::scan_text(self.text, &mut codes)?;
+        if 11 < count {
+            return Err(Refusal::AddressTooLong);
+        }
+        Ok((count * 7 + 3) / 4)
     }
-    put_digits(text, out, at + 2)
-}
 
-// Writes type, plan and text to the start of a lent output.
-pub fn encode_address(ton: u8, npi: u8, text: &[u8], out: &mut [u8]) -> Result<usize, Refusal>
-    ensures { (result, out.new) ≡ lend (address_making ton npi text.now) out.old }
-{
-    let count = check_address(ton, npi, text)?;
-    let needed = 2 + (count + 1) / 2;
-    if out.len() < needed {
-        return Err(Refusal::OutputTooShort);
+    // Whether type, plan and text can be written: the length octet, or the refusal.
+    pub fn check(self) -> Result<usize, Refusal>
+        ensures { result ≡ check_of (address_making self.entry.ton self.entry.npi self.entry.text.now) }
+    {
+        if 7 < self.ton {
+            return Err(Refusal::NumberTypeOrPlanTooLarge);
+        }
+        if 15 < self.npi {
+            return Err(Refusal::NumberTypeOrPlanTooLarge);
+        }
+        if self.ton == TYPE_OF_NUMBER_ALPHANUMERIC {
+            return self.check_text();
+        }
+        if !all_digits(self.text) {
+            return Err(Refusal::NotInAlphabet);
+        }
+        if 20 < self.text.len() {
+            return Err(Refusal::AddressTooLong);
+        }
+        Ok(self.text.len())
     }
-    Ok(put_address(ton, npi, text, count, out, 0))
+
+    // Writes an address that was checked, with the length octet that the check told; the place after it.
+    pub fn put(self, count: usize, out: &mut [u8], at: usize) -> usize
+        requires { (check_of (address_making self.ton self.npi self.text.now) ≡ Ok count) × (at + 2 + (count + 1) / 2 ≤ length out.old) }
+        ensures { Wrote at (octets_or [] (address_octets self.entry.ton self.entry.npi self.entry.text.now)) out.old result out.new }
+    {
+        out[at] = count as u8;
+        out[at + 1] = 128 + self.ton * 16 + self.npi;
+        if self.ton == TYPE_OF_NUMBER_ALPHANUMERIC {
+            return put_septets(self.text, out, at + 2);
+        }
+        put_digits(self.text, out, at + 2)
+    }
+
+    // Writes type, plan and text to the start of a lent output.
+    pub fn encode(self, out: &mut [u8]) -> Result<usize, Refusal>
+        ensures { (result, out.new) ≡ lend (address_making self.entry.ton self.entry.npi self.entry.text.now) out.old }
+    {
+        let count = self.check()?;
+        let needed = 2 + (count + 1) / 2;
+        if out.len() < needed {
+            return Err(Refusal::OutputTooShort);
+        }
+        Ok(self.put(count, out, 0))
+    }
 }

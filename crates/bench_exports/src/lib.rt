@@ -1,6 +1,7 @@
 // Functions over slices for a driver in another language, which times them beside the Rust (oracle/bench). Each answers
 // a number that depends on its result: a count, or 256 and the refusal's number. The arrays of what is read go to lent
-// ones, so that the compiler can't leave them out.
+// ones, so that the compiler can't leave them out. What the C interface asks for stays: long lists of values, arrays beside
+// their lengths, and a flag beside the header that it says is there.
 #![tactic(auto)]
 
 ghost use Rattle.std.specs.Prelude.{◌≡◌, ◌+◌, true, [], replicate, Some, None, Ok, Err};

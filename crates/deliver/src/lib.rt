@@ -12,6 +12,7 @@ ghost use Rattle.deliver.specs.Deliver.{delivered, deliver, blank, read_with, de
 
 use crate::reading::DeliverFields;
 use address::SMSAddress;
+use address::writing::Number;
 use coding::UserData;
 use layout::MTI_DELIVER;
 use octets::Refusal;
@@ -128,12 +129,15 @@ impl SmsDeliver {
         let text = self.tp_originating_address.address;
         let digits = self.tp_service_centre_timestamp.digits;
         let octets = self.tp_user_data.octets;
+        let number = Number {
+            ton: self.tp_originating_address.ton,
+            npi: self.tp_originating_address.npi,
+            text: &text[..n],
+        };
         writing::encode_fields(
             first,
             self.tp_mti,
-            self.tp_originating_address.ton,
-            self.tp_originating_address.npi,
-            &text[..n],
+            number,
             self.tp_pid,
             self.tp_dcs,
             &digits[..m],

@@ -7,15 +7,14 @@ ghost use Rattle.address.specs.Writing.{address_making};
 ghost use Rattle.address.specs.Internal.{check_of};
 ghost use Rattle.deliver.specs.Internal.{checks_in, octets_in};
 
+use address::writing::Number;
 use layout::MTI_DELIVER;
 use octets::Refusal;
 
 // Writes values that were checked; how many octets they take.
 fn put_fields(
     first: u8,
-    ton: u8,
-    npi: u8,
-    text: &[u8],
+    number: Number<'_>,
     count: usize,
     pid: u8,
     dcs: u8,
@@ -24,11 +23,11 @@ fn put_fields(
     data: &[u8],
     out: &mut [u8],
 ) -> usize
-    requires { (check_of (address_making ton npi text.now) ≡ Ok count) × (is_time digits.now ≡ true) × (13 + (count + 1) / 2 + length «data».now ≤ length out.old) }
-    ensures { Wrote 0 (octets_in first ton npi text.now pid dcs digits.now udl «data».now) out.old result out.new }
+    requires { (check_of (address_making number.ton number.npi number.text.now) ≡ Ok count) × (is_time digits.now ≡ true) × (13 + (count + 1) / 2 + length «data».now ≤ length out.old) }
+    ensures { Wrote 0 (octets_in first number.entry.ton number.entry.npi number.entry.text.now pid dcs digits.now udl «data».now) out.old result out.new }
 {
     let p1 = octets::put_octet(out, 0, first);
-    let p2 = address::writing::put_address(ton, npi, text, count, out, p1);
+    let p2 = number.put(count, out, p1);
     let p3 = octets::put_octet(out, p2, pid);
     let p4 = octets::put_octet(out, p3, dcs);
     let p5 = time::encode_time(digits, out, p4);
@@ -40,9 +39,7 @@ fn put_fields(
 pub fn encode_fields(
     first: u8,
     mti: u8,
-    ton: u8,
-    npi: u8,
-    text: &[u8],
+    number: Number<'_>,
     pid: u8,
     dcs: u8,
     digits: &[u8],
@@ -50,20 +47,18 @@ pub fn encode_fields(
     data: &[u8],
     out: &mut [u8],
 ) -> Result<usize, Refusal>
-    ensures { (result, out.new) ≡ lend (checked (checks_in mti ton npi text.now dcs digits.now udl «data».now) (octets_in first ton npi text.now pid dcs digits.now udl «data».now)) out.old }
+    ensures { (result, out.new) ≡ lend (checked (checks_in mti number.entry.ton number.entry.npi number.entry.text.now dcs digits.now udl «data».now) (octets_in first number.entry.ton number.entry.npi number.entry.text.now pid dcs digits.now udl «data».now)) out.old }
 {
     if mti != MTI_DELIVER {
         return Err(Refusal::WrongMessageType);
     }
     coding::check_user_data(dcs, udl, data.len())?;
-    let count = address::writing::check_address(ton, npi, text)?;
+    let count = number.check()?;
     if !time::is_time(digits) {
         return Err(Refusal::NotATime);
     }
     if out.len() < 13 + (count + 1) / 2 + data.len() {
         return Err(Refusal::OutputTooShort);
     }
-    Ok(put_fields(
-        first, ton, npi, text, count, pid, dcs, digits, udl, data, out,
-    ))
+    Ok(put_fields(first, number, count, pid, dcs, digits, udl, data, out))
 }

@@ -4,7 +4,8 @@
 ghost use Rattle.std.specs.Prelude.{◌≡◌, [], ◌∷◌, ◌<◌};
 ghost use Rattle.layout.specs.Layout.{first_octet};
 
-// TP-MTI of a message and of the report that answers it (TS 23.040 §9.2.3.1).
+// TP-MTI of a message and of the report that answers it (TS 23.040 §9.2.3.1). Numbers: a record keeps the bits it was
+// given, which may be of no message, and the writer refuses them (3).
 pub const MTI_DELIVER: u8 = 0;
 
 pub const MTI_SUBMIT: u8 = 1;

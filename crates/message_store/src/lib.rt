@@ -8,6 +8,7 @@ ghost use Rattle.coding.specs.Coding.{data_octets};
 ghost use Rattle.message_store.specs.Part.{text_after, octets_after, shown_in};
 ghost use Rattle.message_store.specs.Store.{begins as beginsWith, has_key, is_open as isOpenSlot, slot_fits, store_octets, slot_at, slot_with, slot_there, free_slot, fits, reference_octets, key_octets, opened_with, with_part, message_in, missing_of, shown_of};
 
+use address::writing::Number;
 use coding::UserDataCoding;
 use part_number::Reference;
 
@@ -150,31 +151,24 @@ fn reference_octets(reference: Reference) -> [u8; 3]
 }
 
 // Stores the octets of a key; how many they are.
-pub fn put_key(
-    octets: &mut [u8],
-    ton: u8,
-    npi: u8,
-    text: &[u8],
-    reference: Reference,
-    total: u8,
-) -> usize
-    requires { (length octets.old ≡ 298) × (length text.now ≤ 290) }
-    ensures { Wrote 0 (key_octets (record { ton = ton; npi = npi; text = text.now; reference = reference; total = total })) octets.old result octets.new }
+pub fn put_key(octets: &mut [u8], number: Number<'_>, reference: Reference, total: u8) -> usize
+    requires { (length octets.old ≡ 298) × (length number.text.now ≤ 290) }
+    ensures { Wrote 0 (key_octets (record { ton = number.entry.ton; npi = number.entry.npi; text = number.entry.text.now; reference = reference; total = total })) octets.old result octets.new }
 {
-    let n = text.len();
+    let n = number.text.len();
     let r = reference_octets(reference);
     let head = [
         total,
         r[0],
         r[1],
         r[2],
-        ton,
-        npi,
+        number.ton,
+        number.npi,
         (n / 256 % 256) as u8,
         (n % 256) as u8,
     ];
     let at = octets::put_octets(octets, 0, &head);
-    octets::put_octets(octets, at, text)
+    octets::put_octets(octets, at, number.text)
 }
 
 // ---- what is shown

@@ -1,4 +1,5 @@
 // Reading what the reports share: TP-Parameter-Indicator and the parameters that it announces (TS 23.040 §9.2.3.27).
+// Each field read is taken apart with let-else, as document 01 has it.
 ghost use Rattle.std.specs.Prelude.{◌≡◌, ok_or};
 ghost use Rattle.octets.specs.declared.Refusal.TheVariants.{OctetsEnd};
 ghost use Rattle.layout.specs.Layout.{read_from};

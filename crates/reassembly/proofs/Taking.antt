@@ -2,14 +2,14 @@
 -- Assumes nothing.
 use Rattle.reassembly.specs.declared.MessageDropped.{MessageDropped}
 use Rattle.reassembly.specs.declared.MessageTaken.{MessageTaken}
-use Rattle.std.specs.Prelude.{Ok, Err, Some, None, Option as Maybe, if◌then◌else◌}
+use Rattle.std.specs.Prelude.{Ok, Err, Some, None}
 use Prim.Native.Nat.{ℕ, suc, ◌+◌, ◌-◌, ◌*◌, ◌≤◌, ◌<◌}
 use mathlib.Core.Path.{◌≡◌, refl, sym, ap, ◌∙◌}
-use mathlib.Core.Bool.{Bool, true, false, ◌&&◌}
+use mathlib.Core.Bool.{true, false, ◌&&◌}
 use mathlib.Core.List.{List, [], ◌∷◌, ◌++◌}
 use native.Mathlib.Nat.{add-zero, zero-add}
 use native.Mathlib.Omega.{arith}
-use borrow.Author.Tests.{ltb-true, ltb-false, ne_eqb, lt-ltb, le-ltb, le-leb, lt-leb, leb-true}
+use borrow.Author.Tests.{ne_eqb, lt-ltb, le-ltb, le-leb, lt-leb, leb-true}
 use borrow.Rule.Slice.PartMut.{set_mid_at}
 use lib.Dec.{leb, ltb}
 use lib.ListN.{length, get_or, set, take, drop, replicate}

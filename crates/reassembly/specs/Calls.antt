@@ -1,16 +1,14 @@
 -- What the four calls answer, and every octet of the store and of a lent output afterwards.
-use Rattle.std.specs.Prelude.{ℕ, not, List, [], ◌∷◌, ◌++◌, length, drop, replicate, eqb, leb, ltb, if◌then◌else◌, Ok, Err}
+use Rattle.std.specs.Prelude.{ℕ, not, List, ◌∷◌, ◌++◌, length, drop, replicate, eqb, leb, ltb, if◌then◌else◌, Ok, Err}
 use Rattle.octets.specs.Answers.{Said, fine}
 use Rattle.octets.specs.Arrays.{pad}
 use Rattle.octets.specs.Lent.{Making, made, lend}
-use Rattle.octets.specs.declared.Refusal.{Refusal}
 use Rattle.octets.specs.declared.Refusal.TheVariants.{LengthTooLarge, StoreFull, NotAPart}
 use Rattle.address.specs.declared.SMSAddress.{SMSAddress}
 use Rattle.layout.specs.Layout.{Reached, reached, halted, read}
 use Rattle.deliver.specs.Deliver.{deliver}
 use Rattle.deliver.specs.declared.SmsDeliver.{SmsDeliver}
 use Rattle.part_number.specs.declared.Reference.{Reference}
-use Rattle.part_number.specs.declared.Reference.TheVariants.{Eight}
 use Rattle.reassembly.specs.declared.MessageDropped.{MessageDropped}
 use Rattle.reassembly.specs.declared.MessageTaken.{MessageTaken}
 use Rattle.reassembly.specs.declared.PartAccepted.{PartAccepted}

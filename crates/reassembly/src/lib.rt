@@ -12,6 +12,7 @@ ghost use Rattle.reassembly.specs.Calls.{emptied, accepting, handing, taking_by,
 ghost use Rattle.reassembly.specs.Internal.{slot_found, kept, told_of, storing_of, joining_of, placing_of};
 
 use address::SMSAddress;
+use address::writing::Number;
 use deliver::reading::DeliverFields;
 use octets::Refusal;
 use part_number::Reference;
@@ -33,6 +34,7 @@ pub struct PartAccepted {
 }
 
 // What taking a message answers: its coding scheme and the number of octets written; or that it is not open, or not whole.
+// These two are answers and no refusals: they have no number.
 #[derive(Clone, Copy, Debug, PartialEq, Eq)]
 pub enum MessageTaken {
     Whole(u8, usize),
@@ -40,7 +42,7 @@ pub enum MessageTaken {
     NotWhole,
 }
 
-// What dropping a message answers.
+// What dropping a message answers; that it was not open is no refusal.
 #[derive(Clone, Copy, Debug, PartialEq, Eq)]
 pub enum MessageDropped {
     Done,
@@ -155,14 +157,12 @@ fn find_by(
     }
     let text = address.address;
     let mut key = [0u8; 298];
-    let length = message_store::put_key(
-        &mut key,
-        address.ton,
-        address.npi,
-        &text[..n],
-        reference,
-        total,
-    );
+    let number = Number {
+        ton: address.ton,
+        npi: address.npi,
+        text: &text[..n],
+    };
+    let length = message_store::put_key(&mut key, number, reference, total);
     Ok(message_store::find_message(store, &key[..length]))
 }
 
@@ -179,14 +179,12 @@ fn accept_fields(store: &mut [u8], data: &[u8], f: DeliverFields) -> Result<Part
     let n = sender.address.address_length;
     let text = sender.address.address;
     let mut key = [0u8; 298];
-    let length = message_store::put_key(
-        &mut key,
-        sender.address.ton,
-        sender.address.npi,
-        &text[..n],
-        part.reference,
-        part.total,
-    );
+    let number = Number {
+        ton: sender.address.ton,
+        npi: sender.address.npi,
+        text: &text[..n],
+    };
+    let length = message_store::put_key(&mut key, number, part.reference, part.total);
     let fields = PartFields {
         reference: part.reference,
         total: part.total,

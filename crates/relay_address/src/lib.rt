@@ -6,7 +6,7 @@ ghost use Rattle.octets.specs.Checks.{found, checked};
 ghost use Rattle.octets.specs.Lent.{Wrote, lend};
 ghost use Rattle.relay_address.specs.Relay.{relay_read, relay_octets, relay_checks, relay_making};
 
-use address::writing::TYPE_OF_NUMBER_ALPHANUMERIC;
+use address::writing::{Number, TYPE_OF_NUMBER_ALPHANUMERIC};
 use octets::{Place, Refusal};
 
 // An address of the relay layer. `address` holds digits.
@@ -27,43 +27,43 @@ pub struct RelayAddressRead {
 }
 
 // Whether type, plan and digits can be written.
-fn check_digits(ton: u8, npi: u8, text: &[u8]) -> Result<(), Refusal>
-    ensures { result ≡ found (relay_checks ton npi text.now) }
+fn check_digits(number: Number<'_>) -> Result<(), Refusal>
+    ensures { result ≡ found (relay_checks number.entry.ton number.entry.npi number.entry.text.now) }
 {
-    if !((ton <= 7) & (npi <= 15)) {
+    if !((number.ton <= 7) & (number.npi <= 15)) {
         return Err(Refusal::NumberTypeOrPlanTooLarge);
     }
-    if ton == TYPE_OF_NUMBER_ALPHANUMERIC {
+    if number.ton == TYPE_OF_NUMBER_ALPHANUMERIC {
         return Err(Refusal::AlphanumericRelayAddress);
     }
-    if !address::writing::all_digits(text) {
+    if !address::writing::all_digits(number.text) {
         return Err(Refusal::NotInAlphabet);
     }
-    if 20 < text.len() {
+    if 20 < number.text.len() {
         return Err(Refusal::AddressTooLong);
     }
     Ok(())
 }
 
 // Writes type, plan and digits that were checked; the place after them.
-fn put_address(ton: u8, npi: u8, text: &[u8], out: &mut [u8]) -> usize
-    requires { (ton ≤ 7) × (npi ≤ 15) × (length text.now ≤ 20) × (2 + (length text.now + 1) / 2 ≤ length out.old) }
-    ensures { Wrote 0 (relay_octets ton npi text.now) out.old result out.new }
+fn put_address(number: Number<'_>, out: &mut [u8]) -> usize
+    requires { (number.ton ≤ 7) × (number.npi ≤ 15) × (length number.text.now ≤ 20) × (2 + (length number.text.now + 1) / 2 ≤ length out.old) }
+    ensures { Wrote 0 (relay_octets number.entry.ton number.entry.npi number.entry.text.now) out.old result out.new }
 {
-    out[0] = 1 + ((text.len() + 1) / 2) as u8;
-    out[1] = 128 + ton * 16 + npi;
-    address::writing::put_digits(text, out, 2)
+    out[0] = 1 + ((number.text.len() + 1) / 2) as u8;
+    out[1] = 128 + number.ton * 16 + number.npi;
+    address::writing::put_digits(number.text, out, 2)
 }
 
 // Writes type, plan and digits to the start of a lent output.
-fn encode_digits(ton: u8, npi: u8, text: &[u8], out: &mut [u8]) -> Result<usize, Refusal>
-    ensures { (result, out.new) ≡ lend (checked (relay_checks ton npi text.now) (relay_octets ton npi text.now)) out.old }
+fn encode_digits(number: Number<'_>, out: &mut [u8]) -> Result<usize, Refusal>
+    ensures { (result, out.new) ≡ lend (checked (relay_checks number.entry.ton number.entry.npi number.entry.text.now) (relay_octets number.entry.ton number.entry.npi number.entry.text.now)) out.old }
 {
-    check_digits(ton, npi, text)?;
-    if out.len() < 2 + (text.len() + 1) / 2 {
+    check_digits(number)?;
+    if out.len() < 2 + (number.text.len() + 1) / 2 {
         return Err(Refusal::OutputTooShort);
     }
-    Ok(put_address(ton, npi, text, out))
+    Ok(put_address(number, out))
 }
 
 impl RelayAddress {
@@ -118,6 +118,11 @@ impl RelayAddress {
         if 508 < n {
             return Err(Refusal::LengthTooLarge);
         }
-        encode_digits(held.ton, held.npi, &held.address[..n], out)
+        let number = Number {
+            ton: held.ton,
+            npi: held.npi,
+            text: &held.address[..n],
+        };
+        encode_digits(number, out)
     }
 }

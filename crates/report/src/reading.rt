@@ -1,4 +1,4 @@
-// The fields of a report found in a string: one way for the four entry points.
+// The fields of a report found in a string: one way for the four entry points. Each field read is taken apart with let-else, as document 01 has it.
 ghost use Rattle.std.specs.Prelude.{◌≡◌, IfOk};
 ghost use Rattle.layout.specs.Layout.{read, read_from, answer, alone};
 ghost use Rattle.report.specs.Report.{layout_of};

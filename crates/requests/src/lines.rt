@@ -8,41 +8,53 @@ use std::io;
 use std::io::Read;
 use text_fields::slices::first;
 
-// The line that is held. A length of MOST_IN_LINE + 1 says that it has too many octets.
-pub type Line = [u8; 8192];
+// The line that is held. The octets of one that is too long are counted, and no longer held.
+#[derive(Drop)]
+pub struct Line {
+    octets: [u8; 8192],
+    length: usize,
+}
 
-pub const MOST_IN_LINE: usize = 8192;
+impl Line {
+    pub fn new() -> Self {
+        Line {
+            octets: [0u8; 8192],
+            length: 0,
+        }
+    }
+
+    pub fn is_empty(&self) -> bool {
+        self.length == 0
+    }
+
+    pub fn clear(&mut self) {
+        self.length = 0;
+    }
+
+    pub fn add(&mut self, octets: &[u8]) {
+        let end = self.length.saturating_add(octets.len());
+        if let Some(room) = self.octets.get_mut(self.length..end) {
+            room.copy_from_slice(octets);
+        }
+        self.length = end;
+    }
+
+    // What is held, unless the line is too long.
+    pub fn held(&self) -> Result<&[u8], Reason> {
+        self.octets.get(..self.length).ok_or(Reason::LineTooLong)
+    }
+
+    // Takes away the CR of its end.
+    pub fn trim_cr(&mut self) {
+        if let Ok([line @ .., b'\r']) = self.held() {
+            self.length = line.len();
+        }
+    }
+}
 
 // The output is written out once it has this many octets: so 16,384 are free for each answer, more than any has. (The
 // longest is that of `parts`, some 15,200.)
 const MOST_HELD: usize = 49153;
-
-// Adds octets to a line; its length then.
-pub fn add(line: &mut Line, length: usize, octets: &[u8]) -> usize {
-    if MOST_IN_LINE < length {
-        return length;
-    }
-    if MOST_IN_LINE - length < octets.len() {
-        return MOST_IN_LINE + 1;
-    }
-    let end = length + octets.len();
-    line[length..end].copy_from_slice(octets);
-    end
-}
-
-// The length of a line without the CR of its end.
-pub fn without_cr(line: &Line, length: usize) -> usize {
-    if length == 0 {
-        return 0;
-    }
-    if MOST_IN_LINE < length {
-        return length;
-    }
-    if line[length - 1] == b'\r' {
-        return length - 1;
-    }
-    length
-}
 
 // Writes the answers out.
 pub fn write_out<R: Print>(rt: &R, out: &mut Output) -> io::Result<()> {
@@ -55,15 +67,13 @@ pub fn write_out<R: Print>(rt: &R, out: &mut Output) -> io::Result<()> {
 fn answer_line<R: Print>(
     rt: &R,
     line: &Line,
-    length: usize,
     store: &mut Store,
     out: &mut Output,
     show: bool,
 ) -> io::Result<()> {
-    if MOST_IN_LINE < length {
-        put_bad(out, Reason::LineTooLong);
-    } else {
-        answer(first(line, length), store, out, show);
+    match line.held() {
+        Ok(octets) => answer(octets, store, out, show),
+        Err(reason) => put_bad(out, reason),
     }
     out.put(b"\n");
     if out.len() < MOST_HELD {
@@ -72,33 +82,31 @@ fn answer_line<R: Print>(
     write_out(rt, out)
 }
 
-// Answers the lines that end in these octets, writes the answers out, and holds the rest; the length of the line held.
-// A line has ended before each piece but the first.
+// Answers the lines that end in these octets, writes the answers out, and holds the rest. A line has ended before each
+// piece but the first.
 fn answer_octets<R: Print>(
     rt: &R,
     octets: &[u8],
     line: &mut Line,
-    held: usize,
     store: &mut Store,
     out: &mut Output,
     show: bool,
-) -> io::Result<usize> {
-    let mut length = held;
+) -> io::Result<()> {
     for (i, piece) in octets.split(|c| *c == b'\n').enumerate() {
         if 0 < i {
-            answer_line(rt, line, without_cr(line, length), store, out, show)?;
-            length = 0;
+            line.trim_cr();
+            answer_line(rt, line, store, out, show)?;
+            line.clear();
         }
-        length = add(line, length, piece);
+        line.add(piece);
     }
-    write_out(rt, out)?;
-    Ok(length)
+    write_out(rt, out)
 }
 
 // What is read at once.
 pub type Block = [u8; 65536];
 
-// Reads and answers to the end of the input; the length of the line held. No input has as many turns as are counted.
+// Reads and answers to the end of the input, and holds its last line. No input has as many turns as are counted.
 fn answer_all<R: Print, I: Read>(
     rt: &R,
     reader: &mut I,
@@ -107,26 +115,25 @@ fn answer_all<R: Print, I: Read>(
     store: &mut Store,
     out: &mut Output,
     show: bool,
-) -> io::Result<usize> {
-    let mut length = 0;
+) -> io::Result<()> {
     for _ in 0..u64::MAX {
         let n = reader.read(input)?;
         if n == 0 {
-            return Ok(length);
+            return Ok(());
         }
-        length = answer_octets(rt, first(input, n), line, length, store, out, show)?;
+        answer_octets(rt, first(input, n), line, store, out, show)?;
     }
-    Ok(length)
+    Ok(())
 }
 
 // Answers each line of standard input, and a last line that has no end. The store of parts is zeros, which is empty.
 pub fn answer_requests<R: Input + Print>(rt: &R, show: bool) -> io::Result<()> {
     let mut reader = rt.reader();
     let mut input = [0u8; 65536];
-    let mut line = [0u8; 8192];
+    let mut line = Line::new();
     let mut store = [0u8; 37696];
     let mut out = Output::new();
-    let length = answer_all(
+    answer_all(
         rt,
         &mut reader,
         &mut input,
@@ -135,9 +142,9 @@ pub fn answer_requests<R: Input + Print>(rt: &R, show: bool) -> io::Result<()> {
         &mut out,
         show,
     )?;
-    if length == 0 {
+    if line.is_empty() {
         return Ok(());
     }
-    answer_line(rt, &line, length, &mut store, &mut out, show)?;
+    answer_line(rt, &line, &mut store, &mut out, show)?;
     write_out(rt, &mut out)
 }

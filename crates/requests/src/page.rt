@@ -1,5 +1,5 @@
 // The shift page of the status reports on standard input, for the board.
-use crate::lines::{Block, Line, MOST_IN_LINE, add, without_cr, write_out};
+use crate::lines::{Block, Line, write_out};
 use answers::fields;
 use answers::page::read_report;
 use output::Output;
@@ -12,57 +12,44 @@ use tpdu::{Refusal, SmsStatusReport};
 
 // ---- lines
 
-// A line that was read: its length, and the octets from `from` to `end` that follow it.
+// What follows a line that was read: the octets of the input from `from` to `end`.
 #[derive(Clone, Copy)]
-struct Cut {
-    length: usize,
+struct Rest {
     from: usize,
     end: usize,
 }
 
-// The input has ended: what it had after its last line feed is a line.
-fn last_line(length: usize, end: usize) -> Option<Cut> {
-    if length == 0 {
-        return None;
-    }
-    Some(Cut {
-        length,
-        from: end,
-        end,
-    })
-}
-
-// Cuts the next line, if there is one, from the octets that are left of the input, and reads more where they end before
-// it does. No input has as many turns as are counted.
+// Holds the next line, and reads more of the input where its octets end before the line does; none at the end of the
+// input. What it has after its last line feed is a line. No input has as many turns as are counted.
 fn next_line<I: Read>(
     reader: &mut I,
     input: &mut Block,
     line: &mut Line,
-    from: usize,
-    end: usize,
-) -> io::Result<Option<Cut>> {
-    let mut length = 0;
-    let mut start = from;
-    let mut stop = end;
+    rest: Rest,
+) -> io::Result<Option<Rest>> {
+    line.clear();
+    let Rest { mut from, mut end } = rest;
     for _ in 0..u64::MAX {
-        let held = first(input, stop);
-        if let Some(feed) = find(held, start, b'\n') {
-            length = add(line, length, &held[start..feed]);
-            return Ok(Some(Cut {
-                length: without_cr(line, length),
+        let held = first(input, end);
+        if let Some(feed) = find(held, from, b'\n') {
+            line.add(&held[from..feed]);
+            line.trim_cr();
+            return Ok(Some(Rest {
                 from: feed + 1,
-                end: stop,
+                end,
             }));
         }
-        length = add(line, length, held.get(start..).unwrap_or_default());
-        let n = reader.read(input)?;
-        if n == 0 {
-            return Ok(last_line(length, stop));
+        line.add(held.get(from..).unwrap_or_default());
+        from = 0;
+        end = reader.read(input)?;
+        if end == 0 {
+            break;
         }
-        start = 0;
-        stop = n;
     }
-    Ok(last_line(length, stop))
+    if line.is_empty() {
+        return Ok(None);
+    }
+    Ok(Some(Rest { from, end }))
 }
 
 // ---- reports
@@ -75,10 +62,7 @@ enum Against {
 }
 
 // Whether a line is that of a status report.
-fn check_line(line: &[u8], length: usize) -> Result<(), Reason> {
-    if MOST_IN_LINE < length {
-        return Err(Reason::LineTooLong);
-    }
+fn check_line(line: &[u8]) -> Result<(), Reason> {
     let name = field(line, 0).ok_or(Reason::EmptyLine)?;
     if name != b"status-report".as_slice() {
         return Err(Reason::UnknownRequest);
@@ -87,9 +71,9 @@ fn check_line(line: &[u8], length: usize) -> Result<(), Reason> {
 }
 
 // The status report that a line holds.
-fn report_of(held: &Line, length: usize) -> Result<SmsStatusReport, Against> {
-    let line = first(held, length);
-    check_line(line, length).map_err(Against::Line)?;
+fn report_of(line: &Line) -> Result<SmsStatusReport, Against> {
+    let line = line.held().map_err(Against::Line)?;
+    check_line(line).map_err(Against::Line)?;
     read_report(Fields::of(line).last().unwrap_or_default()).map_err(Against::Octets)
 }
 
@@ -118,25 +102,6 @@ fn tell_refused<R: Print>(rt: &R, refusal: Refusal, out: &mut Output) -> io::Res
     write_out(rt, out)
 }
 
-// The page, unless a line was told; or why there is none.
-fn print<R: Print>(
-    rt: &R,
-    w: Result<usize, Refusal>,
-    lent: &[u8],
-    told: bool,
-    out: &mut Output,
-) -> io::Result<()> {
-    match w {
-        Err(why) => tell_refused(rt, why, out),
-        Ok(n) => {
-            if told {
-                return Ok(());
-            }
-            rt.write_all(first(lent, n))
-        }
-    }
-}
-
 // ---- the shift
 
 // The reports of a shift: the first 99 of them, how many there were, and whether another line was told.
@@ -151,23 +116,17 @@ struct Shift {
 fn read_shift<R: Input + Print>(rt: &R, out: &mut Output) -> io::Result<Shift> {
     let mut reader = rt.reader();
     let mut input = [0u8; 65536];
-    let mut line = [0u8; 8192];
+    let mut line = Line::new();
     let mut reports = [SmsStatusReport::default(); 99];
     let mut count = 0;
     let mut told = false;
-    let mut from = 0;
-    let mut end = 0;
+    let mut rest = Rest { from: 0, end: 0 };
     for number in 1..u64::MAX {
-        let Some(cut) = next_line(&mut reader, &mut input, &mut line, from, end)? else {
-            return Ok(Shift {
-                reports,
-                count,
-                told,
-            });
+        let Some(after) = next_line(&mut reader, &mut input, &mut line, rest)? else {
+            break;
         };
-        from = cut.from;
-        end = cut.end;
-        match report_of(&line, cut.length) {
+        rest = after;
+        match report_of(&line) {
             Ok(report) => {
                 if count < 99 {
                     reports[count] = report;
@@ -187,12 +146,15 @@ fn read_shift<R: Input + Print>(rt: &R, out: &mut Output) -> io::Result<Shift> {
     })
 }
 
-// Prints the page of the status reports on standard input, a line each.
+// Prints the page of the status reports on standard input, a line each; only what is told of other lines, if there are
+// any.
 pub fn print_page<R: Input + Print>(rt: &R) -> io::Result<()> {
     let mut out = Output::new();
     let shift = read_shift(rt, &mut out)?;
-    let reports = shift.reports;
     let mut lent = [0u8; 3939];
-    let w = tpdu::shift_page(reports, shift.count, &mut lent);
-    print(rt, w, &lent, shift.told, &mut out)
+    match tpdu::shift_page(shift.reports, shift.count, &mut lent) {
+        Err(why) => tell_refused(rt, why, &mut out),
+        Ok(_) if shift.told => Ok(()),
+        Ok(n) => rt.write_all(first(&lent, n)),
+    }
 }

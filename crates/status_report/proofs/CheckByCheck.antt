@@ -63,24 +63,24 @@ rest_is limit v scts dt ud s d = rw (s, d)
 pub few : (v : StatusReportValues) (n : ℕ) → n ≤ 255 → optional_size v n ≤ 259
 few v n h = omega (arith, one_at_most v.indicator, one_at_most v.parameters.pid, one_at_most v.parameters.dcs, one_at_most v.parameters.udl)
 
-module _ (limit : ℕ) (v : StatusReportValues) (text scts dt ud l : List ℕ) where
+module _ (limit : ℕ) (v : StatusReportValues) (ton npi : ℕ) (text scts dt ud l : List ℕ) where
   abbrev all : Making ℕ
-  all = making limit v text scts dt ud
+  all = making limit v ton npi text scts dt ud
 
   abbrev octets : List ℕ
-  octets = octets_in v text scts dt ud
+  octets = octets_in v ton npi text scts dt ud
 
   abbrev lent : Said ℕ × List ℕ
   lent = lend all l
 
-  by_address : all ≡ after_check (check_of (address_making v.ton v.npi text)) (checked (checks_after limit v scts dt ud) octets)
+  by_address : all ≡ after_check (check_of (address_making ton npi text)) (checked (checks_after limit v scts dt ud) octets)
   unfolding making
-  by_address = address_checked v.ton v.npi text (checks_after limit v scts dt ud) octets
+  by_address = address_checked ton npi text (checks_after limit v scts dt ud) octets
 
-  pub address_against : {why : Refusal} → check_of (address_making v.ton v.npi text) ≡ Err why → ◌≡◌ {A = Said ℕ × List ℕ} (Err why, l) lent
+  pub address_against : {why : Refusal} → check_of (address_making ton npi text) ≡ Err why → ◌≡◌ {A = Said ℕ × List ℕ} (Err why, l) lent
   address_against {why} e = lent_refused l why (by_address ∙ rw e)
 
-  module _ {n : ℕ} (counted : check_of (address_making v.ton v.npi text) ≡ Ok n) where
+  module _ {n : ℕ} (counted : check_of (address_making ton npi text) ≡ Ok n) where
     pub rest_against : {why : Refusal} → found (checks_after limit v scts dt ud) ≡ Err why → ◌≡◌ {A = Said ℕ × List ℕ} (Err why, l) lent
     rest_against {why} e = lent_refused l why (by_address ∙ rw counted (one_against octets (checks_after limit v scts dt ud) e))
 
@@ -90,7 +90,7 @@ module _ (limit : ℕ) (v : StatusReportValues) (text scts dt ud l : List ℕ) w
 
       all_size : length octets ≡ 19 + (n + 1) / 2 + optional_size v (length ud)
       all_size =
-          let a = fine_size v.ton v.npi text n counted in
+          let a = fine_size ton npi text n counted in
           let m = time_size scts s in
           let k = time_size dt d in
           simp length-append (omega arith)

@@ -27,13 +27,11 @@ module _ (limit : ℕ) (r : SmsStatusReport) where
       (record {
         first = first;
         mr = r.tp_mr;
-        ton = r.tp_recipient_address.ton;
-        npi = r.tp_recipient_address.npi;
         status = r.tp_status;
         indicator = r.tp_parameter_indicator;
         parameters = record { pid = r.tp_pid; dcs = r.tp_dcs; udl = r.tp_user_data_length };
       })
-      (text_held r.tp_recipient_address) (digits_of r.tp_service_centre_timestamp) (digits_of r.tp_discharge_time) (data_of r.tp_user_data)
+      r.tp_recipient_address.ton r.tp_recipient_address.npi (text_held r.tp_recipient_address) (digits_of r.tp_service_centre_timestamp) (digits_of r.tp_discharge_time) (data_of r.tp_user_data)
   unfolding status_reporting_within making checked
   by_fields e f = rw (e, f)
 

@@ -57,7 +57,7 @@ Inside s at p =
     (p.address + address_size (drop p.address s) ≤ length s) × (p.timestamp + 7 ≤ length s) × (p.discharge + 7 ≤ length s) × (reached_at p ≤ length s) × (p.octets ≤ 255)
     × (p.address ≡ at)
 
--- ---- writing: values, the address's text, the digits of both times, the user data
+-- ---- writing: values, the address's type, plan and text, the digits of both times, the user data
 
 abbrev pub parameters_in : StatusReportValues → List ℕ → Parameters
 parameters_in v ud = record { pid = v.parameters.pid; dcs = v.parameters.dcs; udl = v.parameters.udl; ud = ud }
@@ -70,13 +70,13 @@ optional_size v n = held v.indicator + (held v.parameters.pid + held v.parameter
 abbrev pub octets_after : StatusReportValues → List ℕ → List ℕ → List ℕ → List ℕ
 octets_after v scts dt ud = time_octets scts ++ (time_octets dt ++ (v.status ∷ (octets_held v.indicator ++ parameters_octets (parameters_in v ud))))
 
-abbrev pub octets_in : StatusReportValues → List ℕ → List ℕ → List ℕ → List ℕ → List ℕ
-octets_in v text scts dt ud = v.first ∷ v.mr ∷ (octets_or [] (address_octets v.ton v.npi text) ++ octets_after v scts dt ud)
+abbrev pub octets_in : StatusReportValues → ℕ → ℕ → List ℕ → List ℕ → List ℕ → List ℕ → List ℕ
+octets_in v ton npi text scts dt ud = v.first ∷ v.mr ∷ (octets_or [] (address_octets ton npi text) ++ octets_after v scts dt ud)
 
 -- the checks after the address's
 abbrev pub checks_after : ℕ → StatusReportValues → List ℕ → List ℕ → List ℕ → List Check
 checks_after limit v scts dt ud = (NotATime unless is_time scts) ∷ (NotATime unless is_time dt) ∷ optional_checks limit v.indicator (parameters_in v ud)
 
 -- what a writer makes within a limit, where no length passes its array
-unfoldable pub making : ℕ → StatusReportValues → List ℕ → List ℕ → List ℕ → List ℕ → Making ℕ
-making limit v text scts dt ud = checked (address_checks v.ton v.npi text ++ checks_after limit v scts dt ud) (octets_in v text scts dt ud)
+unfoldable pub making : ℕ → StatusReportValues → ℕ → ℕ → List ℕ → List ℕ → List ℕ → List ℕ → Making ℕ
+making limit v ton npi text scts dt ud = checked (address_checks ton npi text ++ checks_after limit v scts dt ud) (octets_in v ton npi text scts dt ud)

@@ -13,6 +13,7 @@ ghost use Rattle.status_report.specs.StatusReport.{status_reported, status_repor
 use crate::reading::StatusReportFields;
 use crate::writing::StatusReportValues;
 use address::SMSAddress;
+use address::writing::Number;
 use coding::UserData;
 use layout::MTI_STATUS_REPORT;
 use octets::Refusal;
@@ -146,8 +147,6 @@ impl SmsStatusReport {
         let values = StatusReportValues {
             first,
             mr: self.tp_mr,
-            ton: self.tp_recipient_address.ton,
-            npi: self.tp_recipient_address.npi,
             status: self.tp_status,
             indicator: self.tp_parameter_indicator,
             parameters: ParameterOctets {
@@ -156,10 +155,15 @@ impl SmsStatusReport {
                 udl: self.tp_user_data_length,
             },
         };
+        let number = Number {
+            ton: self.tp_recipient_address.ton,
+            npi: self.tp_recipient_address.npi,
+            text: &text[..n],
+        };
         writing::encode_fields(
             limit,
             values,
-            &text[..n],
+            number,
             &digits[..m],
             &digits2[..l],
             &octets[..k],

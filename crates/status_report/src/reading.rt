@@ -1,4 +1,4 @@
-// SMS-STATUS-REPORT (TS 23.040 §9.2.2.3), its fields found in a string.
+// SMS-STATUS-REPORT (TS 23.040 §9.2.2.3), its fields found in a string. Each field read is taken apart with let-else, as document 01 has it.
 ghost use Rattle.std.specs.Prelude.{◌≡◌, ◌+◌, ◌≤◌, length, take, drop, IfOk};
 ghost use Rattle.layout.specs.Layout.{read_from, kept, cut, address as addressKind};
 ghost use Rattle.address.specs.Address.{address_size, canonical_address};

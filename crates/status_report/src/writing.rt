@@ -8,16 +8,15 @@ ghost use Rattle.address.specs.Internal.{check_of};
 ghost use Rattle.status_report.specs.StatusReport.{optional_checks};
 ghost use Rattle.status_report.specs.Internal.{parameters_in, optional_size, octets_after, octets_in, making};
 
+use address::writing::Number;
 use octets::Refusal;
 use parameters::ParameterOctets;
 
-// The fields of one octet, type and plan of the address, the indicator and the parameters.
+// The fields of one octet, the indicator and the parameters.
 #[derive(Clone, Copy, Debug, PartialEq, Eq)]
 pub struct StatusReportValues {
     pub first: u8,
     pub mr: u8,
-    pub ton: u8,
-    pub npi: u8,
     pub status: u8,
     pub indicator: Option<u8>,
     pub parameters: ParameterOctets,
@@ -60,19 +59,19 @@ fn put_after_address(
 // Writes values that were checked; how many octets they take.
 fn put_fields(
     v: StatusReportValues,
-    text: &[u8],
+    number: Number<'_>,
     count: usize,
     scts: &[u8],
     dt: &[u8],
     data: &[u8],
     out: &mut [u8],
 ) -> usize
-    requires { (check_of (address_making v.ton v.npi text.now) ≡ Ok count) × (is_time scts.now ≡ true) × (is_time dt.now ≡ true) × (19 + (count + 1) / 2 + optional_size v (length «data».now) ≤ length out.old) }
-    ensures { Wrote 0 (octets_in v text.now scts.now dt.now «data».now) out.old result out.new }
+    requires { (check_of (address_making number.ton number.npi number.text.now) ≡ Ok count) × (is_time scts.now ≡ true) × (is_time dt.now ≡ true) × (19 + (count + 1) / 2 + optional_size v (length «data».now) ≤ length out.old) }
+    ensures { Wrote 0 (octets_in v number.entry.ton number.entry.npi number.entry.text.now scts.now dt.now «data».now) out.old result out.new }
 {
     let p1 = octets::put_octet(out, 0, v.first);
     let p2 = octets::put_octet(out, p1, v.mr);
-    let p3 = address::writing::put_address(v.ton, v.npi, text, count, out, p2);
+    let p3 = number.put(count, out, p2);
     put_after_address(v, scts, dt, data, out, p3)
 }
 
@@ -81,16 +80,16 @@ fn put_fields(
 pub fn encode_fields(
     limit: usize,
     v: StatusReportValues,
-    text: &[u8],
+    number: Number<'_>,
     scts: &[u8],
     dt: &[u8],
     data: &[u8],
     out: &mut [u8],
 ) -> Result<usize, Refusal>
     requires { length «data».now ≤ 255 }
-    ensures { (result, out.new) ≡ lend (making limit v text.now scts.now dt.now «data».now) out.old }
+    ensures { (result, out.new) ≡ lend (making limit v number.entry.ton number.entry.npi number.entry.text.now scts.now dt.now «data».now) out.old }
 {
-    let count = address::writing::check_address(v.ton, v.npi, text)?;
+    let count = number.check()?;
     if !time::is_time(scts) {
         return Err(Refusal::NotATime);
     }
@@ -102,5 +101,5 @@ pub fn encode_fields(
     if out.len() < 19 + (count + 1) / 2 + size {
         return Err(Refusal::OutputTooShort);
     }
-    Ok(put_fields(v, text, count, scts, dt, data, out))
+    Ok(put_fields(v, number, count, scts, dt, data, out))
 }

@@ -50,34 +50,34 @@ digits_counted ValidityPeriod.Enhanced n ds enhanced = (refl, refl)
 abbrev pub last : SubmitValues → List ℕ → List Check
 last v digits = (NotATime unless time_holds v.period digits) ∷ []
 
-abbrev pub to_address : SubmitValues → List ℕ → List ℕ → List Check
-to_address v text digits = address_checks v.ton v.npi text ++ last v digits
+abbrev pub to_address : SubmitValues → ℕ → ℕ → List ℕ → List ℕ → List Check
+to_address v ton npi text digits = address_checks ton npi text ++ last v digits
 
-abbrev pub to_data : SubmitValues → List ℕ → List ℕ → List ℕ → List Check
-to_data v text digits ud = data_checks v.dcs v.udl (length ud) ++ to_address v text digits
+abbrev pub to_data : SubmitValues → ℕ → ℕ → List ℕ → List ℕ → List ℕ → List Check
+to_data v ton npi text digits ud = data_checks v.dcs v.udl (length ud) ++ to_address v ton npi text digits
 
-module _ (v : SubmitValues) (text digits enhanced ud : List ℕ) where
+module _ (v : SubmitValues) (ton npi : ℕ) (text digits enhanced ud : List ℕ) where
   abbrev all : Making ℕ
-  all = making v text digits enhanced ud
+  all = making v ton npi text digits enhanced ud
 
   abbrev octets : List ℕ
-  octets = octets_in v text (period_octets v.period digits enhanced) ud
+  octets = octets_in v ton npi text (period_octets v.period digits enhanced) ud
 
-  by_data : all ≡ after_checked (checked_data v.dcs v.udl (length ud)) (checked (to_address v text digits) octets)
+  by_data : all ≡ after_checked (checked_data v.dcs v.udl (length ud)) (checked (to_address v ton npi text digits) octets)
   unfolding making
-  by_data = data_checked v.dcs v.udl (length ud) (to_address v text digits) octets
+  by_data = data_checked v.dcs v.udl (length ud) (to_address v ton npi text digits) octets
 
   pub data_against : {r : Refusal} → checked_data v.dcs v.udl (length ud) ≡ Err r → all ≡ refused r
   data_against e = by_data ∙ rw e
 
   module _ (d : checked_data v.dcs v.udl (length ud) ≡ fine) where
-    by_address : all ≡ after_check (check_of (address_making v.ton v.npi text)) (checked (last v digits) octets)
-    by_address = by_data ∙ rw d (address_checked v.ton v.npi text (last v digits) octets)
+    by_address : all ≡ after_check (check_of (address_making ton npi text)) (checked (last v digits) octets)
+    by_address = by_data ∙ rw d (address_checked ton npi text (last v digits) octets)
 
-    pub address_against : {r : Refusal} → check_of (address_making v.ton v.npi text) ≡ Err r → all ≡ refused r
+    pub address_against : {r : Refusal} → check_of (address_making ton npi text) ≡ Err r → all ≡ refused r
     address_against e = by_address ∙ rw e
 
-    module _ {l : ℕ} (a : check_of (address_making v.ton v.npi text) ≡ Ok l) where
+    module _ {l : ℕ} (a : check_of (address_making ton npi text) ≡ Ok l) where
       pub no_time : time_holds v.period digits ≡ false → all ≡ refused NotATime
       unfolding checked
       no_time h = by_address ∙ rw (a, h)
@@ -89,7 +89,7 @@ module _ (v : SubmitValues) (text digits enhanced ud : List ℕ) where
 
         pub all_size : length enhanced ≡ 7 → length octets ≡ 7 + (l + 1) / 2 + period_size (format_of v.period) + length ud
         all_size seven =
-            let size = fine_size v.ton v.npi text l a in
+            let size = fine_size ton npi text l a in
             let period = period_size_lem v.period digits enhanced h seven in
             simp length-append (omega arith)
 
@@ -98,12 +98,10 @@ module _ (v : SubmitValues) (text digits enhanced ud : List ℕ) where
 abbrev pub lengths_fit : SmsSubmit → Bool
 lengths_fit r = all_fit (lengths_of r)
 
-abbrev pub values_of : SmsSubmit → SMSAddress → SubmitValues
-values_of r to = record {
+abbrev pub values_of : SmsSubmit → SubmitValues
+values_of r = record {
   first = first_of r;
   mr = r.tp_mr;
-  ton = to.ton;
-  npi = to.npi;
   pid = r.tp_pid;
   dcs = r.tp_dcs;
   period = r.tp_validity_period;
@@ -137,12 +135,12 @@ module _ (r : SmsSubmit) where
         no_destination h = rw (e, eq-eqb r.tp_mti 1 m, eq-eqb r.tp_vpf (format_of r.tp_validity_period) f, h)
 
         module _ {to : SMSAddress} (t : r.tp_destination_address ≡ Some to) where
-          pub by_fields : submitting r ≡ checked (to_data (values_of r to) (text_held to) (digits_of stamp) ud) (octets_of r)
+          pub by_fields : submitting r ≡ checked (to_data (values_of r) to.ton to.npi (text_held to) (digits_of stamp) ud) (octets_of r)
           unfolding submitting checked
           by_fields = rw (e, eq-eqb r.tp_mti 1 m, eq-eqb r.tp_vpf (format_of r.tp_validity_period) f, t)
 
           -- digits that don't count are neither looked at nor written
-          pub by_values : submitting r ≡ making (values_of r to) (text_held to) (take (digits_length r) stamp.digits) r.validity_period_octets ud
+          pub by_values : submitting r ≡ making (values_of r) to.ton to.npi (text_held to) (take (digits_length r) stamp.digits) r.validity_period_octets ud
           unfolding making
           by_values = let (holds, written) = digits_counted r.tp_validity_period stamp.length stamp.digits r.validity_period_octets in by_fields ∙ rw (holds, written, t)
 

@@ -171,7 +171,7 @@ module _ (x : Fields) (small : x.first < 256) (mti : message_type x.first ≡ 1)
   answered xs = if ltb 140 (length x.ud) then refused UserDataTooLong else if ltb 12 (length x.da) then refused AddressTooLong else made xs (length xs)
 
   abbrev values : SubmitValues
-  values = values_of sent (address_in x.da)
+  values = values_of sent
 
   abbrev text : List ℕ
   text = text_held (address_in x.da)
@@ -179,11 +179,11 @@ module _ (x : Fields) (small : x.first < 256) (mti : message_type x.first ≡ 1)
   abbrev digits : List ℕ
   digits = digits_of sent.validity_period_digits
 
-  its_checks : (xs : List ℕ) → checked (to_data values text digits (data_of sent.tp_user_data_raw)) xs ≡ answered xs
+  its_checks : (xs : List ℕ) → checked (to_data values (address_in x.da).ton (address_in x.da).npi text digits (data_of sent.tp_user_data_raw)) xs ≡ answered xs
   unfolding submitted
   its_checks xs =
       rw (data_held x.ud)
-      (data_limit x.dcs x.udl (length x.ud) size (to_address values text digits) xs ∙ rw (its_address, read_checked a wa (last values digits) xs, da, check_holds its_digits.0 NotATime [] xs, no_checks))
+      (data_limit x.dcs x.udl (length x.ud) size (to_address values (address_in x.da).ton (address_in x.da).npi text digits) xs ∙ rw (its_address, read_checked a wa (last values digits) xs, da, check_holds its_digits.0 NotATime [] xs, no_checks))
 
   its_making : submitting sent ≡ answered string
   unfolding submitted

@@ -53,12 +53,12 @@ Inside s at (Err why) = Unit
 
 -- ---- writing
 
--- the octets of values, in the layout's order: the text is the address's, vp the octets of the validity period
-abbrev pub octets_in : SubmitValues → List ℕ → List ℕ → List ℕ → List ℕ
-octets_in v text vp ud = v.first ∷ v.mr ∷ octets_or [] (address_octets v.ton v.npi text) ++ v.pid ∷ v.dcs ∷ vp ++ v.udl ∷ ud
+-- the octets of values, in the layout's order: type, plan and text are the address's, vp the octets of the validity period
+abbrev pub octets_in : SubmitValues → ℕ → ℕ → List ℕ → List ℕ → List ℕ → List ℕ
+octets_in v ton npi text vp ud = v.first ∷ v.mr ∷ octets_or [] (address_octets ton npi text) ++ v.pid ∷ v.dcs ∷ vp ++ v.udl ∷ ud
 
--- what a writer makes of them: values, the address's text, digits and octets of the validity period, data. Refusals 7 and 8 of the data, 9 to 11 of the address, and 12
-unfoldable pub making : SubmitValues → List ℕ → List ℕ → List ℕ → List ℕ → Making ℕ
-making v text digits enhanced ud =
-    checked (data_checks v.dcs v.udl (length ud) ++ address_checks v.ton v.npi text ++ (NotATime unless time_holds v.period digits) ∷ [])
-    (octets_in v text (period_octets v.period digits enhanced) ud)
+-- what a writer makes of them: values, the address's type, plan and text, digits and octets of the validity period, data. Refusals 7 and 8 of the data, 9 to 11 of the address, and 12
+unfoldable pub making : SubmitValues → ℕ → ℕ → List ℕ → List ℕ → List ℕ → List ℕ → Making ℕ
+making v ton npi text digits enhanced ud =
+    checked (data_checks v.dcs v.udl (length ud) ++ address_checks ton npi text ++ (NotATime unless time_holds v.period digits) ∷ [])
+    (octets_in v ton npi text (period_octets v.period digits enhanced) ud)

@@ -18,6 +18,7 @@ ghost use Rattle.submit.specs.Submit.{submit, submitted, blank, read_with, nothi
 use crate::reading::SubmitFields;
 use crate::writing::SubmitValues;
 use address::SMSAddress;
+use address::writing::Number;
 use coding::{UserData, UserDataCoding};
 use gsm7::decode::TextPut;
 use layout::MTI_SUBMIT;
@@ -263,16 +264,19 @@ impl SmsSubmit {
                 self.tp_rd,
             ),
             mr: self.tp_mr,
-            ton: to.ton,
-            npi: to.npi,
             pid: self.tp_pid,
             dcs: self.tp_dcs,
             period,
             udl: self.tp_user_data_length,
         };
+        let number = Number {
+            ton: to.ton,
+            npi: to.npi,
+            text: &to.address[..to.address_length],
+        };
         writing::encode_fields(
             values,
-            &to.address[..to.address_length],
+            number,
             &self.validity_period_digits.digits[..m],
             self.validity_period_octets,
             &self.tp_user_data_raw.octets[..k],

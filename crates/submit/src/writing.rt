@@ -6,39 +6,38 @@ ghost use Rattle.address.specs.Internal.{check_of};
 ghost use Rattle.validity_period.specs.Validity.{format_of, period_size, period_octets, time_holds};
 ghost use Rattle.submit.specs.Internal.{octets_in, making};
 
+use address::writing::Number;
 use octets::Refusal;
 use validity_period::ValidityPeriod;
 
-// The fields of one octet, type and plan of the address, and the validity period.
+// The fields of one octet, and the validity period.
 #[derive(Clone, Copy)]
 pub struct SubmitValues {
     pub first: u8,
     pub mr: u8,
-    pub ton: u8,
-    pub npi: u8,
     pub pid: u8,
     pub dcs: u8,
     pub period: ValidityPeriod,
     pub udl: u8,
 }
 
-// Writes values that were checked, with the address's text, the digits or octets of the validity period and the user data; how many octets they take.
+// Writes values that were checked, with the address, the digits or octets of the validity period and the user data; how many octets they take.
 fn put_fields(
     v: SubmitValues,
-    text: &[u8],
+    number: Number<'_>,
     count: usize,
     digits: &[u8],
     enhanced: &[u8],
     data: &[u8],
     out: &mut [u8],
 ) -> usize
-    requires { (check_of (address_making v.ton v.npi text.now) ≡ Ok count) × (time_holds v.period digits.now ≡ true) × (length enhanced.now ≡ 7) × (7 + (count + 1) / 2 + period_size (format_of v.period) + length «data».now ≤ length out.old) }
-    ensures { Wrote 0 (octets_in v text.now (period_octets v.period digits.now enhanced.now) «data».now) out.old result out.new }
+    requires { (check_of (address_making number.ton number.npi number.text.now) ≡ Ok count) × (time_holds v.period digits.now ≡ true) × (length enhanced.now ≡ 7) × (7 + (count + 1) / 2 + period_size (format_of v.period) + length «data».now ≤ length out.old) }
+    ensures { Wrote 0 (octets_in v number.entry.ton number.entry.npi number.entry.text.now (period_octets v.period digits.now enhanced.now) «data».now) out.old result out.new }
 {
     let period = v.period;
     let p1 = octets::put_octet(out, 0, v.first);
     let p2 = octets::put_octet(out, p1, v.mr);
-    let p3 = address::writing::put_address(v.ton, v.npi, text, count, out, p2);
+    let p3 = number.put(count, out, p2);
     let p4 = octets::put_octet(out, p3, v.pid);
     let p5 = octets::put_octet(out, p4, v.dcs);
     let p6 = validity_period::put_period(period, digits, enhanced, out, p5);
@@ -49,17 +48,17 @@ fn put_fields(
 // Writes the values to the start of a lent output: checks in order, then the size, then the octets.
 pub fn encode_fields(
     v: SubmitValues,
-    text: &[u8],
+    number: Number<'_>,
     digits: &[u8],
     enhanced: [u8; 7],
     data: &[u8],
     out: &mut [u8],
 ) -> Result<usize, Refusal>
-    ensures { (result, out.new) ≡ lend (making v text.now digits.now enhanced «data».now) out.old }
+    ensures { (result, out.new) ≡ lend (making v number.entry.ton number.entry.npi number.entry.text.now digits.now enhanced «data».now) out.old }
 {
     let period = v.period;
     coding::check_user_data(v.dcs, v.udl, data.len())?;
-    let count = address::writing::check_address(v.ton, v.npi, text)?;
+    let count = number.check()?;
     if !validity_period::check_period(period, digits) {
         return Err(Refusal::NotATime);
     }
@@ -67,5 +66,5 @@ pub fn encode_fields(
     if out.len() < 7 + (count + 1) / 2 + validity + data.len() {
         return Err(Refusal::OutputTooShort);
     }
-    Ok(put_fields(v, text, count, digits, &enhanced, data, out))
+    Ok(put_fields(v, number, count, digits, &enhanced, data, out))
 }

@@ -9,7 +9,8 @@ ghost use Rattle.validity_period.specs.Validity.{format_of, period_in, of_format
 
 use time::Time;
 
-// TP-Validity-Period-Format (TS 23.040 §9.2.3.3).
+// TP-Validity-Period-Format (TS 23.040 §9.2.3.3). Numbers: a record keeps two bits as it was given them, and the writer
+// refuses a format that its period does not have (5).
 pub const VALIDITY_PERIOD_FORMAT_NONE: u8 = 0;
 
 pub const VALIDITY_PERIOD_FORMAT_ENHANCED: u8 = 1;

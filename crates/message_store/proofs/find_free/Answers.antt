@@ -1,5 +1,5 @@
 -- `message_store::find_free` meets its contract: the first slot that is not open.
-use Rattle.std.proofs.Common.{◌≡◌, ◌∙◌, ℕ, Bool, true, false, not, rules}
+use Rattle.std.proofs.Common.{◌≡◌, ℕ, Bool, true, false, not, rules}
 use Rattle.std.proofs.lemmas.Iterator.{first_from_Range}
 use Rattle.message_store.specs.Store.{is_open, slot_at, free_slot}
 use Rattle.message_store.proofs.First.{first_there}

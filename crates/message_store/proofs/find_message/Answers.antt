@@ -1,5 +1,5 @@
 -- `message_store::find_message` meets its contract: the first slot that has the key.
-use Rattle.std.proofs.Common.{◌≡◌, ◌∙◌, ℕ, Bool, true, false, rules}
+use Rattle.std.proofs.Common.{◌≡◌, ℕ, Bool, true, false, rules}
 use Rattle.std.proofs.lemmas.Iterator.{first_from_Range}
 use Rattle.message_store.specs.Store.{has_key, slot_at, slot_with}
 use Rattle.message_store.proofs.First.{first_there}

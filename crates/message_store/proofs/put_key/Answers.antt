@@ -14,10 +14,10 @@ use Rattle.message_store.proofs.put_key.Goals as goal
 pub returns : goal.returns
 returns c =
     let a = c.args in
-    let k : Key = record { ton = a.ton; npi = a.npi; text = a.text.now; reference = a.reference; total = a.total } in
+    let k : Key = record { ton = a.number.ton; npi = a.number.npi; text = a.number.text.now; reference = a.reference; total = a.total } in
     let r = c.reference_octets-r in
-    let n = length a.text.now in
+    let n = length a.number.text.now in
     let high : n / 256 % 256 ≡ n / 256 = omega (arith, c.requires.1) in
     let w = wrote_then c.put_octets-at.ensures c.put_octets.ensures in
-    let e : (a.total ∷ get_or r.result 0 0 ∷ get_or r.result 1 0 ∷ get_or r.result 2 0 ∷ a.ton ∷ a.npi ∷ n / 256 % 256 ∷ n % 256 ∷ []) ++ a.text.now ≡ key_octets k = rw (r.ensures, high) (key_octets_are k) in
+    let e : (a.total ∷ get_or r.result 0 0 ∷ get_or r.result 1 0 ∷ get_or r.result 2 0 ∷ a.number.ton ∷ a.number.npi ∷ n / 256 % 256 ∷ n % 256 ∷ []) ++ a.number.text.now ≡ key_octets k = rw (r.ensures, high) (key_octets_are k) in
     record { place = w.place ∙ ap (λ (xs : List ℕ). 0 + length xs) e; list = w.list ∙ ap (sets a.octets.now 0) e }

@@ -58,8 +58,8 @@ module _ (s : List ℕ) (f : DeliverFields) (found : found_says s (Ok f) ≡ rea
 pub slice_bounds-text-end : goal.slice_bounds-text-end
 slice_bounds-text-end c = let room : length c.address_at-sender.result.address.address ≡ 290 = search rules depth 12 in text_fits c.args.«data».now c.args.f c.requires.1 c.requires.2 c.type_inv.«data» c.address_at-sender.result.address c.address_at-sender.ensures.0 room
 
-pub slice_bounds-put_key-end-2 : goal.slice_bounds-put_key-end-2
-slice_bounds-put_key-end-2 c = let room : length c.address_at-sender.result.address.address ≡ 290 = search rules depth 12 in sym (length-take-le _ _ (text_fits c.args.«data».now c.args.f c.requires.1 c.requires.2 c.type_inv.«data» c.address_at-sender.result.address c.address_at-sender.ensures.0 room))
+pub slice_bounds-number-end : goal.slice_bounds-number-end
+slice_bounds-number-end c = let room : length c.address_at-sender.result.address.address ≡ 290 = search rules depth 12 in sym (length-take-le _ _ (text_fits c.args.«data».now c.args.f c.requires.1 c.requires.2 c.type_inv.«data» c.address_at-sender.result.address c.address_at-sender.ensures.0 room))
 
 pub slice_bounds-key-end : goal.slice_bounds-key-end
 slice_bounds-key-end c = let room : length c.address_at-sender.result.address.address ≡ 290 = search rules depth 12 in (cut c.args.«data».now c.args.f c.requires.1 c.requires.2 c.type_inv.«data» c.address_at-sender.result.address c.address_at-sender.ensures.0 room c.in_ok-part.part.reference c.in_ok-part.part.total c.put_key-length.new.octets c.put_key-length.result c.put_key-length.ensures).0

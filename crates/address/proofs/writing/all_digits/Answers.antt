@@ -1,6 +1,6 @@
 -- `address::writing::all_digits` meets its contract: each character is a digit's.
 use Rattle.std.proofs.Common.{rules}
-use Rattle.std.specs.Prelude.{◌↔◌, ◌≡◌, ◌≢◌, true, IsTrue, EachIndex, slice_index}
+use Rattle.std.specs.Prelude.{◌↔◌, ◌≢◌, IsTrue, EachIndex, slice_index}
 use Rattle.octets.proofs.Each.{each_decides}
 use Rattle.address.specs.Writing.{digit_value, is_digit}
 use Rattle.address.proofs.DigitCharacters.{digit_told}

@@ -1,12 +1,11 @@
 -- `address::writing::put_septets` meets its contract: the text has septets, and they are packed.
 use Rattle.std.specs.Prelude.{Ok}
 use Prim.Native.Nat.{ℕ, ◌≤◌}
-use mathlib.Core.Path.{◌≡◌, sym, ap, subst, ◌∙◌}
+use mathlib.Core.Path.{◌≡◌, sym, subst}
 use mathlib.Core.List.{List}
 use mathlib.Core.Option.{Option, none, some}
 use native.Mathlib.Omega.{arith}
 use lib.ListN.{length, take, replicate}
-use lib.Seq.{sets, length-sets}
 use Rattle.octets.proofs.Laws.{kept_by}
 use Rattle.septets.specs.Septets.{Digits}
 use Rattle.gsm7.specs.Internal.{ScannedAs}

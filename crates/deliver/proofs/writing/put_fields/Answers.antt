@@ -9,20 +9,20 @@ use Rattle.deliver.proofs.writing.put_fields.Goals as goal
 pub put_octet-p3-requires : goal.put_octet-p3-requires
 put_octet-p3-requires c =
     let w1 = c.put_octet-p1.ensures in
-    let w2 = c.put_address-p2.ensures in
+    let w2 = c.put-p2.ensures in
     omega (arith, w1.place, kept_by w1, w2.place, kept_by w2, fine_size _ _ _ _ c.requires.0, c.requires.2)
 
 pub put_octet-p4-requires : goal.put_octet-p4-requires
 put_octet-p4-requires c =
     let w1 = c.put_octet-p1.ensures in
-    let w2 = c.put_address-p2.ensures in
+    let w2 = c.put-p2.ensures in
     let w3 = c.put_octet-p3.ensures in
     omega (arith, w1.place, kept_by w1, w2.place, kept_by w2, w3.place, kept_by w3, fine_size _ _ _ _ c.requires.0, c.requires.2)
 
 pub encode_time-p5-requires : goal.encode_time-p5-requires
 encode_time-p5-requires c =
     let w1 = c.put_octet-p1.ensures in
-    let w2 = c.put_address-p2.ensures in
+    let w2 = c.put-p2.ensures in
     let w3 = c.put_octet-p3.ensures in
     let w4 = c.put_octet-p4.ensures in
     (c.requires.1, omega (arith, w1.place, kept_by w1, w2.place, kept_by w2, w3.place, kept_by w3, w4.place, kept_by w4, fine_size _ _ _ _ c.requires.0, c.requires.2))
@@ -30,7 +30,7 @@ encode_time-p5-requires c =
 pub put_octet-p6-requires : goal.put_octet-p6-requires
 put_octet-p6-requires c =
     let w1 = c.put_octet-p1.ensures in
-    let w2 = c.put_address-p2.ensures in
+    let w2 = c.put-p2.ensures in
     let w3 = c.put_octet-p3.ensures in
     let w4 = c.put_octet-p4.ensures in
     let w5 = c.encode_time-p5.ensures in
@@ -39,7 +39,7 @@ put_octet-p6-requires c =
 pub put_octets-requires : goal.put_octets-requires
 put_octets-requires c =
     let w1 = c.put_octet-p1.ensures in
-    let w2 = c.put_address-p2.ensures in
+    let w2 = c.put-p2.ensures in
     let w3 = c.put_octet-p3.ensures in
     let w4 = c.put_octet-p4.ensures in
     let w5 = c.encode_time-p5.ensures in
@@ -49,5 +49,5 @@ put_octets-requires c =
 pub returns : goal.returns
 unfolding octets_in
 returns c =
-    wrote_then c.put_octet-p1.ensures (wrote_then c.put_address-p2.ensures (wrote_then c.put_octet-p3.ensures (wrote_then c.put_octet-p4.ensures
+    wrote_then c.put_octet-p1.ensures (wrote_then c.put-p2.ensures (wrote_then c.put_octet-p3.ensures (wrote_then c.put_octet-p4.ensures
     (wrote_then c.encode_time-p5.ensures (wrote_then c.put_octet-p6.ensures c.put_octets.ensures)))))

@@ -9,20 +9,20 @@ use Rattle.status_report.proofs.writing.encode_fields.Goals as goal
 pub returns-in_err-count : goal.returns-in_err-count
 returns-in_err-count c =
     let p = err_from_is_err_and c.from_residual.result c.from_residual.ensures.1 in
-    rw (p.1, p.2) (address_against _ _ _ _ _ _ _ (sym c.in_err-count.ensures))
+    rw (p.1, p.2) (address_against _ _ _ _ _ _ _ _ _ (sym c.in_err-count.ensures))
 
 pub returns-then-not-is_time : goal.returns-then-not-is_time
-returns-then-not-is_time c = rest_against _ _ _ _ _ _ _ (sym c.in_ok-count.ensures) (rw (sym c.is_time.ensures ∙ c.if-not-is_time.true))
+returns-then-not-is_time c = rest_against _ _ _ _ _ _ _ _ _ (sym c.in_ok-count.ensures) (rw (sym c.is_time.ensures ∙ c.if-not-is_time.true))
 
 pub returns-then-not-is_time-2 : goal.returns-then-not-is_time-2
 returns-then-not-is_time-2 c =
-    rest_against _ _ _ _ _ _ _ (sym c.in_ok-count.ensures) (rw (sym c.is_time.ensures ∙ c.if-not-is_time.false, sym c.is_time-2.ensures ∙ c.if-not-is_time-2.true))
+    rest_against _ _ _ _ _ _ _ _ _ (sym c.in_ok-count.ensures) (rw (sym c.is_time.ensures ∙ c.if-not-is_time.false, sym c.is_time-2.ensures ∙ c.if-not-is_time-2.true))
 
 pub returns-in_err-check_optional : goal.returns-in_err-check_optional
 returns-in_err-check_optional c =
     let p = err_from_is_err_and c.from_residual-in_err-check_optional.result c.from_residual-in_err-check_optional.ensures.1 in
     rw (p.1, p.2)
-    (rest_against _ _ _ _ _ _ _ (sym c.in_ok-count.ensures)
+    (rest_against _ _ _ _ _ _ _ _ _ (sym c.in_ok-count.ensures)
     (rest_is _ c.args.v _ _ _ (sym c.is_time.ensures ∙ c.if-not-is_time.false) (sym c.is_time-2.ensures ∙ c.if-not-is_time-2.false) ∙ sym c.in_err-check_optional.ensures))
 
 pub overflow_add-count : goal.overflow_add-count
@@ -36,10 +36,10 @@ overflow_add-count-3 c = omega (arith, few c.args.v _ c.requires, fine_small _ _
 
 pub returns-then-out-count : goal.returns-then-out-count
 returns-then-out-count c =
-    short _ _ _ _ _ _ _ (sym c.in_ok-count.ensures) (sym c.is_time.ensures ∙ c.if-not-is_time.false) (sym c.is_time-2.ensures ∙ c.if-not-is_time-2.false) (sym c.in_ok-check_optional.ensures)
+    short _ _ _ _ _ _ _ _ _ (sym c.in_ok-count.ensures) (sym c.is_time.ensures ∙ c.if-not-is_time.false) (sym c.is_time-2.ensures ∙ c.if-not-is_time-2.false) (sym c.in_ok-check_optional.ensures)
     (omega (arith, c.if-out-count.true, c.octets_held.ensures, c.size.ensures))
 
 pub returns : goal.returns
 returns c =
-    written _ _ _ _ _ _ _ (sym c.in_ok-count.ensures) (sym c.is_time.ensures ∙ c.if-not-is_time.false) (sym c.is_time-2.ensures ∙ c.if-not-is_time-2.false) (sym c.in_ok-check_optional.ensures)
+    written _ _ _ _ _ _ _ _ _ (sym c.in_ok-count.ensures) (sym c.is_time.ensures ∙ c.if-not-is_time.false) (sym c.is_time-2.ensures ∙ c.if-not-is_time-2.false) (sym c.in_ok-check_optional.ensures)
     (omega (arith, c.if-out-count.false, c.octets_held.ensures, c.size.ensures)) c.put_fields.ensures
