@@ -6,10 +6,11 @@ use mathlib.Core.Bool.{Bool, true, false}
 use mathlib.Core.List.{List, [], ◌∷◌, map}
 use mathlib.Core.Logic.{◌↔◌}
 use native.Mathlib.Omega.{arith}
-use borrow.Author.Tests.{eqb-true, ltb-true, lt-ltb}
-use lib.Dec.{eqb}
+use borrow.Author.Tests.{eqb-true, ltb-true, ltb-false, lt-ltb}
+use lib.Dec.{eqb, ltb}
 use lib.ListN.{length, get_or, drop, length-map}
-use Rattle.std.specs.Prelude.{if◌then◌else◌}
+use Rattle.std.specs.Prelude.{if◌then◌else◌, unwrap_or}
+use Rattle.std.specs.Bool.{then_some}
 use Rattle.octets.specs.Choice.{within}
 use Rattle.octets.specs.SemiOctets.{in_pairs}
 use Rattle.octets.specs.Texts.{codes}
@@ -48,6 +49,15 @@ value_small c = index_small (codes "0123456789*#abc") c
 pub digit_told : (c : ℕ) → (is_digit c ≡ true) ↔ (digit_value c ≡ 15 → ⊥)
 unfolding is_digit
 digit_told c = ((λ e p. let h = ltb-true (digit_value c) 15 e in omega arith), λ n. lt-ltb (digit_value c) 15 (omega (arith, value_small c)))
+
+-- the value of a digit, 15 for what is none
+pub value_or_f : (c : ℕ) → unwrap_or (then_some (is_digit c) (digit_value c)) 15 ≡ digit_value c
+unfolding is_digit
+value_or_f c = by (ltb (digit_value c) 15) refl
+  where
+    by : (t : Bool) → ltb (digit_value c) 15 ≡ t → unwrap_or (then_some t (digit_value c)) 15 ≡ digit_value c
+    by true e = refl
+    by false e = omega (arith, ltb-false (digit_value c) 15 e, value_small c)
 
 -- the values of characters, one by one
 pub value_at : (text : List ℕ) (i : ℕ) → i < length text → get_or (map digit_value text) i 15 ≡ digit_value (get_or text i 0)

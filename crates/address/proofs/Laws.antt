@@ -18,7 +18,8 @@ use Rattle.octets.specs.Each.{Octets}
 use Rattle.octets.specs.Lent.{refused, made}
 use Rattle.octets.specs.declared.Refusal.TheVariants.{LengthTooLarge, AddressTooLong}
 use Rattle.octets.proofs.Checks.{made_unless}
-use Rattle.octets.proofs.Laws.{take_pad, cleared_pad}
+use Rattle.octets.specs.Held.{holding, filled}
+use Rattle.octets.proofs.Holding.{filled_holding, holding_cleared, held_back}
 use Rattle.septets.specs.Septets.{septets_in}
 use Rattle.septets.proofs.Inverse.{length_septets}
 use Rattle.gsm7.specs.Reading.{text_of, replaced_in}
@@ -83,16 +84,16 @@ module _ (f : List ℕ) (field : Field f) where
   -- an address that was read is written as its canonical octets exactly when their value has at most 10 octets, else refused with 11
   pub read_written : encoding (address_in f)
       ≡ (if ltb 12 (length (canonical_address f)) then refused AddressTooLong else made (canonical_address f) (length (canonical_address f)))
-  unfolding encoding address_in address_with address_making
-  read_written = rw (le-ltb 290 (length (text_in f)) text_short, take_pad, le-ltb 7 (ton_in f) (omega arith), le-ltb 15 (npi_in f) (omega arith), canonical_written.0)
+  unfolding encoding address_in address_with address_making holding
+  read_written = rw (le-ltb 290 (length (text_in f)) text_short, filled_holding 290 (text_in f), le-ltb 7 (ton_in f) (omega arith), le-ltb 15 (npi_in f) (omega arith), canonical_written.0)
 
   -- its octets, from the parts of the record
   pub octets_again : octets_or [] (address_octets (address_in f).ton (address_in f).npi (text_held (address_in f))) ≡ canonical_address f
   unfolding address_in address_with canonical_address
-  octets_again = rw take_pad
+  octets_again = rw filled_holding
 
-  pub length_short : (address_in f).address_length ≤ 290
-  unfolding address_in address_with
+  pub length_short : (address_in f).address.length ≤ 290
+  unfolding address_in address_with holding
   length_short = text_short
 
   -- the same among the checks of a writer of several fields
@@ -111,7 +112,7 @@ unfolding address_in address_with canonical_address
 address_equal f g p q = (
   λ e. let t = ap (λ (a : SMSAddress). a.ton) e in
       let n = ap (λ (a : SMSAddress). a.npi) e in
-      let x : text_in f ≡ text_in g = sym (take_pad 290 (text_in f)) ∙ ap (λ (a : SMSAddress). take a.address_length a.address) e ∙ take_pad 290 (text_in g) in
+      let x : text_in f ≡ text_in g = sym (filled_holding 290 (text_in f)) ∙ ap text_held e ∙ filled_holding 290 (text_in g) in
       rw (t, n, x),
   λ e. sym (canonical_reads f p) ∙ ap address_in e ∙ canonical_reads g q,
 )
@@ -119,12 +120,12 @@ address_equal f g p q = (
 -- an address that was read is cleared
 pub address_cleared : (f : List ℕ) → cleared_address (address_in f) ≡ address_in f
 unfolding address_in address_with
-address_cleared f = rw (cleared_pad 290 (text_in f))
+address_cleared f = rw (holding_cleared 290 (text_in f))
 
 -- a cleared address, in its record
-pub address_held : (a : SMSAddress) → length (text_held a) ≡ a.address_length → address_with a.ton a.npi (text_held a) ≡ cleared_address a
+pub address_held : (a : SMSAddress) → length (text_held a) ≡ a.address.length → address_with a.ton a.npi (text_held a) ≡ cleared_address a
 unfolding address_with
-address_held a n = rw n
+address_held a n = rw (held_back a.address n)
 
 -- ---- what is read as text
 
@@ -139,7 +140,7 @@ module _ (f : List ℕ) where
   text_shown = by_type (eqb (ton_in f) 5) refl
     where
       by_type : (t : Bool) → eqb (ton_in f) 5 ≡ t → Shown t (text_held (address_in f)) (septets_read f)
-      by_type true e = take_pad 290 (text_in f) ∙ rw e
+      by_type true e = filled_holding 290 (text_in f) ∙ rw e
       by_type false e = rw e
 
   -- at most 145 septets, so no more are replaced
@@ -155,10 +156,10 @@ module _ (f : List ℕ) where
 
 -- what was written is a whole field, and reads back as the same record
 pub written_reads : (a : SMSAddress) (xs : List ℕ) (w : ℕ) → encoding a ≡ made xs w
-    → (address_size xs ≡ length xs) × (address_in xs ≡ address_with a.ton a.npi (take a.address_length a.address))
+    → (address_size xs ≡ length xs) × (address_in xs ≡ address_with a.ton a.npi (take a.address.length a.address.octets))
 unfolding encoding
 written_reads a xs w e =
-    let (short, m) = made_unless LengthTooLarge (ltb 290 a.address_length) e in
+    let (short, m) = made_unless LengthTooLarge (ltb 290 a.address.length) e in
     let (t, p, o) = octets_made a.ton a.npi (text_held a) xs w m in
     octets_read_lem a.ton a.npi (text_held a) xs (omega arith) (omega arith) o
 
@@ -177,5 +178,5 @@ address_passed ton npi text e =
     let (whole, back) = octets_read_lem ton npi text f (omega arith) (omega arith) is in
     let n = ap (λ (a : SMSAddress). a.ton) back in
     let m = ap (λ (a : SMSAddress). a.npi) back in
-    let x : text_in f ≡ text = sym (take_pad 290 (text_in f)) ∙ ap text_held back ∙ take_pad 290 text in
+    let x : text_in f ≡ text = sym (filled_holding 290 (text_in f)) ∙ ap text_held back ∙ filled_holding 290 text in
     record { short = short; whole = whole; again = rw (n, m, x); back = back }

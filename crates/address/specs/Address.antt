@@ -1,6 +1,6 @@
 -- Addresses (TS 23.040 §9.1.2.5): a length octet L in semi-octets, a type octet, and ceil(L/2) value octets.
 use Rattle.std.specs.Prelude.{ℕ, ◌+◌, ◌*◌, ◌/◌, ◌%◌, ◌≡◌, refl, List, [], ◌∷◌, map, eqb, ltb, length, get_or, take, drop, if◌then◌else◌}
-use Rattle.octets.specs.Arrays.{pad, cleared_array}
+use Rattle.octets.specs.Held.{holding, filled, cleared_held, TypedHeld}
 use Rattle.octets.specs.Each.{each}
 use Rattle.octets.specs.Lent.{Making, refused}
 use Rattle.octets.specs.SemiOctets.{semi_octets, in_pairs}
@@ -40,7 +40,7 @@ value_septets ton l value = if eqb ton 5 then septets_in value 0 (l * 4 / 7) els
 
 -- an address in its record
 unfoldable pub address_with : ℕ → ℕ → List ℕ → SMSAddress
-address_with ton npi text = record { ton = ton; npi = npi; address = pad 290 text; address_length = length text }
+address_with ton npi text = record { ton = ton; npi = npi; address = holding 290 text }
 
 -- the text of an address field f: L, type, value
 unfoldable pub text_in : List ℕ → List ℕ
@@ -66,19 +66,19 @@ canonical_address f = octets_or [] (address_octets (type_of_number (get_or f 1 0
 
 -- the text that a record holds
 abbrev pub text_held : SMSAddress → List ℕ
-text_held a = take a.address_length a.address
+text_held a = filled a.address
 
 -- what lies after the length is no part of a record: set to zero
 abbrev pub cleared_address : SMSAddress → SMSAddress
-cleared_address a = record { ton = a.ton; npi = a.npi; address = cleared_array 290 a.address_length a.address; address_length = a.address_length }
+cleared_address a = record { ton = a.ton; npi = a.npi; address = cleared_held a.address }
 
 -- the array has the length of its type
 abbrev pub TypedAddress : SMSAddress → Type 0
-TypedAddress a = length a.address ≡ 290
+TypedAddress a = TypedHeld a.address
 
 -- what writing a record makes: 1, and then what writing its type, plan and text makes
 unfoldable pub encoding : SMSAddress → Making ℕ
-encoding a = if ltb 290 a.address_length then refused LengthTooLarge else address_making a.ton a.npi (take a.address_length a.address)
+encoding a = if ltb 290 a.address.length then refused LengthTooLarge else address_making a.ton a.npi (text_held a)
 
 -- ---- known rows: 03 91 F1 02 read, and its canonical octets
 

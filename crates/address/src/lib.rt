@@ -8,21 +8,19 @@ ghost use Rattle.octets.specs.declared.Refusal.TheVariants.{OctetsEnd};
 ghost use Rattle.octets.specs.Lent.{Wrote, lend};
 ghost use Rattle.octets.specs.SemiOctets.{semi_octets};
 ghost use Rattle.gsm7.specs.Reading.{replaced_in};
-ghost use Rattle.address.specs.Address.{digit_character, without_f, value_text, value_septets, address_with, address_in, septets_read, address_size, encoding};
+ghost use Rattle.address.specs.Address.{digit_character, without_f, value_text, value_septets, text_held, address_in, septets_read, address_size, encoding};
 ghost use Rattle.address.specs.Internal.{address_span};
 
 use crate::writing::{Number, TYPE_OF_NUMBER_ALPHANUMERIC};
 use gsm7::decode::TextPut;
-use octets::{Place, Refusal};
+use octets::{Held, Place, Refusal};
 
 // An SMS address. `address` holds digits, and text with type of number 5.
-// An array with its length: there is no heap, and a length past the array is what refusal 1 is of.
-#[derive(Clone, Copy, Debug)]
+#[derive(Clone, Copy, Debug, Default)]
 pub struct SMSAddress {
     pub ton: u8,
     pub npi: u8,
-    pub address: [u8; 290],
-    pub address_length: usize,
+    pub address: Held<290>,
 }
 
 // An address that was read, and the number of escapes in its text that led to no character of the extension table.
@@ -60,6 +58,7 @@ pub fn digits_text(value: &[u8], count: usize, text: &mut [u8]) -> usize
     ensures { Wrote 0 (map digit_character (without_f (take count (semi_octets value.now)))) text.old result text.new }
 {
     let mut n = 0;
+    // By place: two semi-octets lie in an octet, and the last octet may have one that counts.
     for i in 0..count {
         let semi = semi_octet(value, i);
         if semi == 0xF {
@@ -85,19 +84,8 @@ fn value_text(ton: u8, count: usize, value: &[u8], text: &mut [u8; 290]) -> Text
     }
 }
 
-// No address.
-pub fn no_address() -> SMSAddress
-    ensures { result ≡ address_with 0 0 [] }
-{
-    SMSAddress {
-        ton: 0,
-        npi: 0,
-        address: [0u8; 290],
-        address_length: 0,
-    }
-}
-
-// The address field at a place, if it is there whole: where it starts, and the place after it.
+// The address field at a place, if it is there whole: where it starts, and the place after it. Each field read is taken apart
+// with let-else, as document 01 has it.
 pub fn address_span(data: &[u8], place: Place) -> Option<(usize, Place)>
     ensures { ok_or result OctetsEnd ≡ address_span «data».now place }
 {
@@ -117,34 +105,42 @@ pub fn address_at(data: &[u8], at: usize) -> AddressRead
     let ton = type_of_address / 16 % 8;
     let start = at + 2;
     let end = start + (count + 1) / 2;
-    let mut address = [0u8; 290];
-    let put = value_text(ton, count, &data[start..end], &mut address);
-    AddressRead {
-        address: SMSAddress {
-            ton,
-            npi: type_of_address % 16,
-            address,
-            address_length: put.end,
+    // Filled in its place: an array that is put into the record afterwards is copied.
+    let mut address = SMSAddress {
+        ton,
+        npi: type_of_address % 16,
+        address: Held {
+            length: 0,
+            octets: [0; 290],
         },
+    };
+    let put = value_text(ton, count, &data[start..end], &mut address.address.octets);
+    address.address.length = put.end;
+    AddressRead {
+        address,
         replaced: put.replaced,
     }
 }
 
 impl SMSAddress {
+    // Type, plan and text.
+    pub fn number(&self) -> Number<'_>
+        ensures { (result.ton ≡ self.now.ton) × (result.npi ≡ self.now.npi) × (result.text.now ≡ text_held self.now) }
+    {
+        Number {
+            ton: self.ton,
+            npi: self.npi,
+            text: self.address.as_slice(),
+        }
+    }
+
     // Writes the address to the start of a lent output (TS 23.040 §9.1.2.5).
     pub fn encode(self, out: &mut [u8]) -> Result<usize, Refusal>
         ensures { (result, out.new) ≡ lend (encoding self) out.old }
     {
-        let n = self.address_length;
-        if 290 < n {
+        if !self.address.fits() {
             return Err(Refusal::LengthTooLarge);
         }
-        let address = self.address;
-        let number = Number {
-            ton: self.ton,
-            npi: self.npi,
-            text: &address[..n],
-        };
-        number.encode(out)
+        self.number().encode(out)
     }
 }

@@ -1,5 +1,6 @@
 // Addresses (TS 23.040 §9.1.2.5), written from type of number, plan and text.
 ghost use Rattle.std.specs.Prelude.{◌≡◌, [], map, ◌+◌, ◌/◌, ◌≤◌, length, get_or, Ok, Err};
+ghost use Rattle.std.specs.Bool.{then_some};
 ghost use Rattle.octets.specs.Each.{each};
 ghost use Rattle.octets.specs.Lent.{Wrote, lend};
 ghost use Rattle.octets.specs.SemiOctets.{in_pairs};
@@ -10,6 +11,7 @@ ghost use Rattle.address.specs.Internal.{check_of, Spells, septets_or};
 
 use octets::Refusal;
 
+// A number, as its field is: a record keeps three bits as it was given them.
 pub const TYPE_OF_NUMBER_ALPHANUMERIC: u8 = 5;
 
 // Type of number, numbering plan, and digits or text, as an address field carries them (§9.1.2.5).
@@ -20,34 +22,40 @@ pub struct Number<'a> {
     pub text: &'a [u8],
 }
 
-// The semi-octet of a character; F for one that is no digit.
-fn semi_octet_from_character(character: u8) -> u8
-    ensures { result ≡ digit_value character }
+// The semi-octet of a character; none for one that is no digit.
+fn semi_octet_from_character(character: u8) -> Option<u8>
+    ensures { result ≡ then_some (is_digit character) (digit_value character) }
 {
     match character {
-        b'0'..=b'9' => character - b'0',
-        b'*' => 0xA,
-        b'#' => 0xB,
-        b'a'..=b'c' => character - b'a' + 0xC,
-        _ => 0xF,
+        b'0'..=b'9' => Some(character - b'0'),
+        b'*' => Some(0xA),
+        b'#' => Some(0xB),
+        b'a'..=b'c' => Some(character - b'a' + 0xC),
+        _ => None,
     }
 }
 
-// Every character is a digit, *, #, a, b or c.
+// A digit, *, #, a, b or c.
+fn is_digit(character: u8) -> bool
+    ensures { result ≡ is_digit character }
+{
+    semi_octet_from_character(character).is_some()
+}
+
+// Every character is one.
 pub fn all_digits(text: &[u8]) -> bool
     ensures { result ≡ each is_digit text.now }
 {
-    text.iter().all(|c| semi_octet_from_character(*c) != 0xF)
+    text.iter().all(|c| is_digit(*c))
 }
 
 // The semi-octet of character i, F after the end.
 fn semi_octet_or_f(text: &[u8], i: usize) -> u8
     ensures { (result ≡ get_or (map digit_value text.now) i 15) × (result ≤ 15) }
 {
-    if i < text.len() {
-        semi_octet_from_character(text[i])
-    } else {
-        0xF
+    match text.get(i) {
+        Some(character) => semi_octet_from_character(*character).unwrap_or(0xF),
+        None => 0xF,
     }
 }
 
@@ -57,6 +65,7 @@ pub fn put_digits(text: &[u8], out: &mut [u8], at: usize) -> usize
     ensures { Wrote at (in_pairs (map digit_value text.now)) out.old result out.new }
 {
     let octets = (text.len() + 1) / 2;
+    // By place: an octet takes two characters, the last one perhaps one; chunks would leave the same two reads.
     for j in 0..octets {
         let first = semi_octet_or_f(text, 2 * j);
         let second = semi_octet_or_f(text, 2 * j + 1);

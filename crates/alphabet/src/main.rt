@@ -8,6 +8,6 @@ fn main(rt: HostRuntime) -> io::Result<()> {
     let mut lines = [0u8; ALPHABET_OCTETS];
     match tpdu::alphabet_lines(&mut lines) {
         Ok(_) => rt.write_all(&lines),
-        Err(why) => println!(rt; "refused {}", why.number()),
+        Err(why) => println!(rt; "{why}"),
     }
 }

@@ -6,6 +6,7 @@ ghost use Rattle.octets.specs.Lent.{Wrote, made, lend};
 ghost use Rattle.gsm7.specs.Alphabet.{alphabet, extension};
 ghost use Rattle.alphabet_table.specs.AlphabetLines.{line_of, septet_lines, escape_lines, alphabet_lines};
 
+use gsm7::decode::{ALPHABET, EXTENSION};
 use octets::Refusal;
 use time::hex_digit;
 
@@ -31,12 +32,12 @@ fn put_line(out: &mut [u8], at: usize, code: u8, character: u16) -> usize
 }
 
 // Writes a line for each septet from the start on; the place after them.
-fn put_septets(out: &mut [u8], table: &[u16; 128]) -> usize
-    requires { (table.now ≡ alphabet) × (1024 ≤ length out.old) }
+fn put_septets(out: &mut [u8]) -> usize
+    requires { 1024 ≤ length out.old }
     ensures { Wrote 0 (septet_lines 0 alphabet) out.old result out.new }
 {
     let mut at = 0;
-    for (septet, &character) in table.iter().enumerate() {
+    for (septet, &character) in ALPHABET.iter().enumerate() {
         at = put_line(out, at, septet as u8, character);
     }
     at
@@ -48,8 +49,7 @@ fn put_escapes(out: &mut [u8], at: usize) -> usize
     ensures { Wrote at (escape_lines extension) out.old result out.new }
 {
     let mut next = at;
-    for place in 0..10 {
-        let row = gsm7::decode::extension_row(place);
+    for row in &EXTENSION {
         next = octets::put_octets(out, next, b"1B");
         next = put_line(out, next, row.code, row.character);
     }
@@ -63,7 +63,6 @@ pub fn alphabet_lines(out: &mut [u8]) -> Result<usize, Refusal>
     if out.len() < ALPHABET_OCTETS {
         return Err(Refusal::OutputTooShort);
     }
-    let table = gsm7::decode::ALPHABET;
-    let at = put_septets(out, &table);
+    let at = put_septets(out);
     Ok(put_escapes(out, at))
 }

@@ -13,7 +13,7 @@ fn strings_of(line: &[u8], octets: &mut [u8], lengths: &mut [usize]) -> usize {
     let mut count = 0;
     let values = Fields::of(line).skip(1).zip(lengths.iter_mut());
     for (i, (value, length)) in values.enumerate() {
-        let n = octets_if_fit(value, &mut octets[filled..]);
+        let n = octets_if_fit(value, &mut octets[filled..]).unwrap_or(0);
         filled += n.min(octets.len() - filled);
         *length = n;
         count = i + 1;
@@ -26,10 +26,8 @@ pub fn write(line: &[u8], out: &mut Output) -> Result<(), Refusal> {
     let mut octets = [0u8; 4096];
     let mut lengths = [0usize; 4096];
     let count = strings_of(line, &mut octets, &mut lengths);
-    let mut lent = [0u8; 8192];
-    let n = tpdu::to_columns(&octets, first(&lengths, count), &mut lent)?;
-    fields::written(out, first(&lent, n));
-    Ok(())
+    let lengths = first(&lengths, count);
+    fields::written::<8192, _>(out, |lent| tpdu::to_columns(&octets, lengths, lent))
 }
 
 // A string after a space, - where it is empty.

@@ -4,6 +4,7 @@ use crate::{blocks, elements, fields, page, relay};
 use output::Output;
 use request_line::reasons::{Reason, check_fields, check_list};
 use request_line::values;
+use request_line::values::Form;
 use text_fields::fields::field;
 use text_fields::slices::first;
 use tpdu::{Packed, Refusal, SMSAddress, UserDataCoding};
@@ -55,26 +56,43 @@ pub fn conversion_named(name: &[u8]) -> Option<Conversion> {
     })
 }
 
-// Whether the line of a request is well formed. `request_line::values::has_form` says which form each letter stands
-// for.
+// Whether the line of a request is well formed.
 pub fn check(request: Conversion, line: &[u8]) -> Result<(), Reason> {
     match request {
         Conversion::Unpack | Conversion::UnpackHeader | Conversion::Gsm7ToUcs2 => {
-            check_fields(b"wco", line)
+            check_fields(&[Form::Word, Form::Count, Form::Octets], line)
         }
         Conversion::Pack
         | Conversion::Elements
         | Conversion::Relay
         | Conversion::FromColumns
-        | Conversion::Ucs2ToGsm7 => check_fields(b"wo", line),
-        Conversion::PackHeader => check_fields(b"woo", line),
-        Conversion::Parts => check_fields(b"wxo", line),
-        Conversion::RelayWrite if relay::gives_none(line) => check_fields(b"w---", line),
-        Conversion::Address | Conversion::RelayWrite => check_fields(b"wnno", line),
-        Conversion::Coding => check_fields(b"wd", line),
-        Conversion::Digits => check_fields(b"wnnnnnnz", line),
-        Conversion::WriteElements => check_fields(b"we", line),
-        Conversion::ToColumns | Conversion::Page => check_list(b'o', line),
+        | Conversion::Ucs2ToGsm7 => check_fields(&[Form::Word, Form::Octets], line),
+        Conversion::PackHeader => check_fields(&[Form::Word, Form::Octets, Form::Octets], line),
+        Conversion::Parts => check_fields(&[Form::Word, Form::Octet, Form::Octets], line),
+        Conversion::RelayWrite if relay::gives_none(line) => check_fields(
+            &[Form::Word, Form::Absent, Form::Absent, Form::Absent],
+            line,
+        ),
+        Conversion::Address | Conversion::RelayWrite => check_fields(
+            &[Form::Word, Form::Number, Form::Number, Form::Octets],
+            line,
+        ),
+        Conversion::Coding => check_fields(&[Form::Word, Form::Coding], line),
+        Conversion::Digits => check_fields(
+            &[
+                Form::Word,
+                Form::Number,
+                Form::Number,
+                Form::Number,
+                Form::Number,
+                Form::Number,
+                Form::Number,
+                Form::Zone,
+            ],
+            line,
+        ),
+        Conversion::WriteElements => check_fields(&[Form::Word, Form::Elements], line),
+        Conversion::ToColumns | Conversion::Page => check_list(Form::Octets, line),
     }
 }
 
@@ -82,15 +100,15 @@ pub fn check(request: Conversion, line: &[u8]) -> Result<(), Reason> {
 
 fn unpack(octets: &[u8], septets: usize, out: &mut Output) -> Result<(), Refusal> {
     let read = tpdu::unpack_gsm7(octets, septets)?;
-    fields::octets(out, "ok text=", first(&read.text, read.text_length));
+    fields::octets(out, "ok text=", read.text.as_slice());
     fields::replaced(out, read.replaced_escapes);
     Ok(())
 }
 
 fn unpack_header(octets: &[u8], septets: usize, out: &mut Output) -> Result<(), Refusal> {
     let read = tpdu::unpack_gsm7_with_header(octets, septets)?;
-    fields::octets(out, "ok header=", first(&read.header, read.header_length));
-    fields::octets(out, " text=", first(&read.text, read.text_length));
+    fields::octets(out, "ok header=", read.header.as_slice());
+    fields::octets(out, " text=", read.text.as_slice());
     fields::replaced(out, read.replaced_escapes);
     Ok(())
 }
@@ -102,30 +120,32 @@ fn number_and_octets(out: &mut Output, name: &str, n: usize, octets: &[u8]) {
     fields::octets(out, " octets=", octets);
 }
 
-// What a packer answered, and the octets that it wrote.
-fn packed(out: &mut Output, p: Packed, lent: &[u8]) {
-    number_and_octets(out, "ok septets=", p.septets, first(lent, p.octets));
-}
-
-fn pack(octets: &[u8], out: &mut Output) -> Result<(), Refusal> {
+// What a packer answers, and the octets that it writes.
+fn packed<F: FnOnce(&mut [u8]) -> Result<Packed, Refusal>>(
+    out: &mut Output,
+    pack: F,
+) -> Result<(), Refusal>
+    requires { F.IsAlwaysCallable pack }
+{
     let mut lent = [0u8; 255];
-    let p = tpdu::pack_gsm7(octets, &mut lent)?;
-    packed(out, p, &lent);
+    let p = pack(&mut lent)?;
+    number_and_octets(out, "ok septets=", p.septets, first(&lent, p.octets));
     Ok(())
 }
 
 fn pack_header(line: &[u8], octets: &[u8], out: &mut Output) -> Result<(), Refusal> {
-    let mut header = [0u8; 4096];
-    let n = values::octets_of(field(line, 1).unwrap_or_default(), &mut header);
-    let mut lent = [0u8; 255];
-    let p = tpdu::pack_gsm7_with_header(first(&header, n), octets, &mut lent)?;
-    packed(out, p, &lent);
-    Ok(())
+    let mut array = [0u8; 4096];
+    let n = values::octets(field(line, 1).unwrap_or_default(), &mut array).unwrap_or(0);
+    let header = first(&array, n);
+    packed(
+        out,
+        |lent| tpdu::pack_gsm7_with_header(header, octets, lent),
+    )
 }
 
 // The messages of a text. A line holds at most 4,091 octets of text, which are at most 8,182 septets, in 54 parts.
 fn parts(line: &[u8], octets: &[u8], out: &mut Output) -> Result<(), Refusal> {
-    let reference = values::octet_of(field(line, 1).unwrap_or_default());
+    let reference = octet(line);
     let mut lent = [0u8; 8192];
     let sent = tpdu::pack_gsm7_concatenated(octets, reference, &mut lent)?;
     number_and_octets(
@@ -141,31 +161,25 @@ fn parts(line: &[u8], octets: &[u8], out: &mut Output) -> Result<(), Refusal> {
 
 // The number that a field holds.
 fn number(line: &[u8], n: usize) -> u8 {
-    values::number_of(field(line, n).unwrap_or_default())
+    values::number(field(line, n).unwrap_or_default()).unwrap_or(0)
+}
+
+// The octet that a line's first field after the name holds.
+fn octet(line: &[u8]) -> u8 {
+    values::octet(field(line, 1).unwrap_or_default()).unwrap_or(0)
 }
 
 // The address of a request: type, plan and text.
 pub fn address_in(line: &[u8]) -> SMSAddress {
-    let mut address = [0u8; 290];
-    let address_length = values::octets_of(field(line, 3).unwrap_or_default(), &mut address);
     SMSAddress {
         ton: number(line, 1),
         npi: number(line, 2),
-        address,
-        address_length,
+        address: values::held::<290>(field(line, 3).unwrap_or_default()).unwrap_or_default(),
     }
 }
 
-fn address(line: &[u8], out: &mut Output) -> Result<(), Refusal> {
-    let mut lent = [0u8; 255];
-    let n = address_in(line).encode(&mut lent)?;
-    fields::written(out, first(&lent, n));
-    Ok(())
-}
-
 fn coding(line: &[u8], out: &mut Output) {
-    let dcs = values::octet_of(field(line, 1).unwrap_or_default());
-    out.put_text(match tpdu::user_data_coding(dcs) {
+    out.put_text(match tpdu::user_data_coding(octet(line)) {
         UserDataCoding::Gsm7Bit => "ok 7bit",
         UserDataCoding::EightBit => "ok 8bit",
         UserDataCoding::Ucs2 => "ok ucs2",
@@ -181,25 +195,10 @@ fn digits(line: &[u8], out: &mut Output) -> Result<(), Refusal> {
         number(line, 4),
         number(line, 5),
         number(line, 6),
-        values::zone_of(field(line, 7).unwrap_or_default()),
+        values::zone(field(line, 7).unwrap_or_default()).unwrap_or(0),
     )?;
     out.put(b"ok ");
     out.put(&digits);
-    Ok(())
-}
-
-fn ucs2_to_gsm7(octets: &[u8], out: &mut Output) -> Result<(), Refusal> {
-    let mut lent = [0u8; 255];
-    let p = tpdu::ucs2_to_gsm7(octets, &mut lent)?;
-    packed(out, p, &lent);
-    Ok(())
-}
-
-// At most 255 septets are shown, two octets each.
-fn gsm7_to_ucs2(octets: &[u8], septets: usize, out: &mut Output) -> Result<(), Refusal> {
-    let mut lent = [0u8; 510];
-    let n = tpdu::gsm7_to_ucs2(octets, septets, &mut lent)?;
-    fields::written(out, first(&lent, n));
     Ok(())
 }
 
@@ -220,10 +219,12 @@ pub fn answer(
     match request {
         Conversion::Unpack => unpack(octets, count(line), out),
         Conversion::UnpackHeader => unpack_header(octets, count(line), out),
-        Conversion::Pack => pack(octets, out),
+        Conversion::Pack => packed(out, |lent| tpdu::pack_gsm7(octets, lent)),
         Conversion::PackHeader => pack_header(line, octets, out),
         Conversion::Parts => parts(line, octets, out),
-        Conversion::Address => address(line, out),
+        Conversion::Address => {
+            fields::written::<255, _>(out, |lent| address_in(line).encode(lent))
+        }
         Conversion::Coding => {
             coding(line, out);
             Ok(())
@@ -236,7 +237,10 @@ pub fn answer(
         Conversion::ToColumns => blocks::write(line, out),
         Conversion::FromColumns => blocks::read(octets, out),
         Conversion::Page => page::answer(line, out),
-        Conversion::Ucs2ToGsm7 => ucs2_to_gsm7(octets, out),
-        Conversion::Gsm7ToUcs2 => gsm7_to_ucs2(octets, count(line), out),
+        Conversion::Ucs2ToGsm7 => packed(out, |lent| tpdu::ucs2_to_gsm7(octets, lent)),
+        // At most 255 septets are shown, two octets each.
+        Conversion::Gsm7ToUcs2 => fields::written::<510, _>(out, |lent| {
+            tpdu::gsm7_to_ucs2(octets, count(line), lent)
+        }),
     }
 }

@@ -1,8 +1,11 @@
-// The fields of an answer, and the answers for a refusal and of a writer. Functions are named for what they write.
+// The fields of an answer, and the answer of a writer. Functions are named for what they write.
+ghost use Rattle.std.specs.Prelude.{◌≡◌, ◌≤◌, None, IsErr};
+ghost use Rattle.octets.specs.Texts.{codes};
+ghost use Rattle.output.specs.Output.{appended};
+
 use output::Output;
 use text_fields::slices::first;
 use tpdu::{Refusal, Time, UserData};
-use wording::refusals::{put_number_and_meaning, put_number_and_name};
 
 // ---- fields: a name, such as ` udl=`, and a value
 
@@ -18,9 +21,22 @@ pub fn numbers(out: &mut Output, fields: &[(&str, u8)]) {
     }
 }
 
-pub fn absent(out: &mut Output, name: &str) {
+#[tactic(auto, unfolding(octets::specs::Texts::codes))]
+pub fn absent(out: &mut Output, name: &str)
+    ensures { out.new ≡ appended 65536 (codes "-") (appended 65536 name.now out.old) }
+{
     out.put_text(name);
     out.put(b"-");
+}
+
+// Items with commas between.
+pub fn list(out: &mut Output, name: &str, items: &[u8]) {
+    out.put_text(name);
+    let mut separator = "";
+    for item in items {
+        number(out, separator, *item);
+        separator = ",";
+    }
 }
 
 // How many escapes were replaced: the last field of an answer with text.
@@ -33,6 +49,22 @@ pub fn replaced(out: &mut Output, n: usize) {
 pub fn octet(out: &mut Output, name: &str, octet: u8) {
     out.put_text(name);
     out.put_hex_octet(octet);
+}
+
+// What another function writes of a value, or that there is none.
+pub fn optional<T: Copy, F: FnOnce(&mut Output, &str, T)>(
+    out: &mut Output,
+    name: &str,
+    value: Option<T>,
+    put: F,
+)
+    requires { F.IsAlwaysCallable put }
+    ensures { value ≡ None → out.new ≡ appended 65536 (codes "-") (appended 65536 name.now out.old) }
+{
+    match value {
+        Some(x) => put(out, name, x),
+        None => absent(out, name),
+    }
 }
 
 // Octets in hexadecimal.
@@ -48,31 +80,28 @@ pub fn address(out: &mut Output, ton: u8, npi: u8, text: &[u8]) {
 }
 
 pub fn user_data(out: &mut Output, name: &str, data: UserData) {
-    octets(out, name, first(&data.octets, data.length));
+    octets(out, name, data.as_slice());
 }
 
 // The digits of a time.
 pub fn time(out: &mut Output, name: &str, time: Time) {
     out.put_text(name);
-    out.put(first(&time.digits, time.length));
+    out.put(time.as_slice());
 }
 
-// ---- refusals, and a writer's octets
+// ---- a writer's octets
 
-// A refusal: with its name, or, for people, with its meaning.
-pub fn refused(out: &mut Output, refusal: Refusal, show: bool) {
-    out.put(b"refused ");
-    if show {
-        put_number_and_meaning(out, refusal);
-    } else {
-        put_number_and_name(out, refusal);
-    }
+// The answer of a writer, which is lent N octets: those that it wrote.
+pub fn written<const N: usize, F: FnOnce(&mut [u8]) -> Result<usize, Refusal>>(
+    out: &mut Output,
+    write: F,
+) -> Result<(), Refusal>
+    requires call { F.IsAlwaysCallable write }
+    requires size { N ≤ 65536 }
+    ensures { IsErr result → out.new ≡ out.old }
+{
+    let mut lent = [0u8; N];
+    let n = write(&mut lent)?;
+    octets(out, "ok ", first(&lent, n));
+    Ok(())
 }
-
-// The octets that a writer wrote.
-pub fn written(out: &mut Output, written: &[u8]) {
-    octets(out, "ok ", written);
-}
-
-// What a writer of messages is lent.
-pub type Lent = [u8; 255];

@@ -4,9 +4,11 @@ use crate::fields;
 use output::Output;
 use request_line::reasons::{Reason, check_fields};
 use request_line::values;
+use request_line::values::{Form, ReferenceWidth};
+use std::fmt::Write;
 use text_fields::fields::field;
 use text_fields::slices::first;
-use tpdu::{MessageDropped, MessageTaken, Reference, Refusal};
+use tpdu::{MessageDropped, MessageTaken, Reference, Refusal, SMSAddress};
 
 // The store.
 pub type Store = [u8; 37696];
@@ -32,27 +34,38 @@ pub fn store_request_named(name: &[u8]) -> Option<StoreRequest> {
     }
 }
 
-// Whether the reference of a request passes its width.
-fn passes_width(line: &[u8]) -> bool {
-    values::number_of(field(line, 5).unwrap_or_default()) == 8
-        && 255 < values::reference_of(field(line, 4).unwrap_or_default())
+// The reference that a request names; none if it passes its width.
+fn reference_in(line: &[u8]) -> Option<Reference> {
+    let reference = field(line, 4)?;
+    match values::width(field(line, 5)?)? {
+        ReferenceWidth::Eight => values::number(reference).map(Reference::Eight),
+        ReferenceWidth::Sixteen => values::reference(reference).map(Reference::Sixteen),
+    }
 }
 
 // The line of a request for a message.
 fn check_message(line: &[u8]) -> Result<(), Reason> {
-    check_fields(b"wnnorbn", line)?;
-    if passes_width(line) {
-        return Err(Reason::Number);
-    }
+    check_fields(
+        &[
+            Form::Word,
+            Form::Number,
+            Form::Number,
+            Form::Octets,
+            Form::Reference,
+            Form::Width,
+            Form::Number,
+        ],
+        line,
+    )?;
+    reference_in(line).ok_or(Reason::Number)?;
     Ok(())
 }
 
-// Whether the line of a request is well formed. `request_line::values::has_form` says which form each letter stands
-// for.
+// Whether the line of a request is well formed.
 pub fn check(request: StoreRequest, line: &[u8]) -> Result<(), Reason> {
     match request {
-        StoreRequest::EmptyStore => check_fields(b"w", line),
-        StoreRequest::Part => check_fields(b"wo", line),
+        StoreRequest::EmptyStore => check_fields(&[Form::Word], line),
+        StoreRequest::Part => check_fields(&[Form::Word, Form::Octets], line),
         StoreRequest::Take | StoreRequest::Drop => check_message(line),
     }
 }
@@ -68,55 +81,34 @@ fn empty(store: &mut Store, out: &mut Output) -> Result<(), Refusal> {
 
 // A reference and its width.
 fn put_reference(out: &mut Output, reference: Reference) {
-    out.put(b"ok reference=");
-    match reference {
-        Reference::Eight(r) => {
-            out.put_decimal(u64::from(r));
-            out.put(b" width=8");
-        }
-        Reference::Sixteen(r) => {
-            out.put_decimal(u64::from(r));
-            out.put(b" width=16");
-        }
-    }
+    let _ = match reference {
+        Reference::Eight(r) => write!(out, "ok reference={r} width=8"),
+        Reference::Sixteen(r) => write!(out, "ok reference={r} width=16"),
+    };
 }
 
 // Accepts a part: its numbers, and those that are still missing.
 fn part(store: &mut Store, octets: &[u8], out: &mut Output) -> Result<(), Refusal> {
     let accepted = tpdu::accept_part(store, octets)?;
-    put_reference(out, accepted.reference);
-    fields::number(out, " total=", accepted.total);
-    fields::number(out, " number=", accepted.number);
-    out.put(b" missing=");
-    let missing = first(&accepted.missing, accepted.missing_count);
-    for (i, number) in missing.iter().enumerate() {
-        if 0 < i {
-            out.put(b",");
-        }
-        out.put_decimal(u64::from(*number));
-    }
+    put_reference(out, accepted.part.reference);
+    fields::number(out, " total=", accepted.part.total);
+    fields::number(out, " number=", accepted.part.number);
+    fields::list(out, " missing=", accepted.missing.as_slice());
     Ok(())
 }
 
-// The reference that a request names.
-fn reference_in(line: &[u8]) -> Reference {
-    if values::number_of(field(line, 5).unwrap_or_default()) == 8 {
-        return Reference::Eight(values::number_of(field(line, 4).unwrap_or_default()));
-    }
-    Reference::Sixteen(values::reference_of(field(line, 4).unwrap_or_default()))
+// The message that a request names: its sender, its reference and how many parts it has.
+fn message_in(line: &[u8]) -> (SMSAddress, Reference, u8) {
+    let reference = reference_in(line).unwrap_or(Reference::Eight(0));
+    let total = values::number(field(line, 6).unwrap_or_default()).unwrap_or(0);
+    (address_in(line), reference, total)
 }
 
 // Takes a message.
 fn take(store: &mut Store, line: &[u8], out: &mut Output) -> Result<(), Refusal> {
-    let total = values::number_of(field(line, 6).unwrap_or_default());
+    let (sender, reference, total) = message_in(line);
     let mut lent = [0u8; 4080];
-    match tpdu::take_message(
-        store,
-        address_in(line),
-        reference_in(line),
-        total,
-        &mut lent,
-    )? {
+    match tpdu::take_message(store, sender, reference, total, &mut lent)? {
         MessageTaken::Whole(dcs, n) => {
             fields::octet(out, "ok dcs=", dcs);
             fields::octets(out, " octets=", first(&lent, n));
@@ -129,8 +121,8 @@ fn take(store: &mut Store, line: &[u8], out: &mut Output) -> Result<(), Refusal>
 
 // Drops a message.
 fn drop(store: &mut Store, line: &[u8], out: &mut Output) -> Result<(), Refusal> {
-    let total = values::number_of(field(line, 6).unwrap_or_default());
-    match tpdu::drop_message(store, address_in(line), reference_in(line), total)? {
+    let (sender, reference, total) = message_in(line);
+    match tpdu::drop_message(store, sender, reference, total)? {
         MessageDropped::Done => out.put(b"ok"),
         MessageDropped::NotOpen => out.put(b"not open"),
     }

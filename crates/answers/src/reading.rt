@@ -1,42 +1,17 @@
 // The requests that name a reader: the fields of the record that it gives. Functions are named for what they write.
 use crate::fields;
 use output::Output;
-use text_fields::slices::first;
+use request_line::readers::{Reader, read_deliver_report, read_submit_report};
 use tpdu::{
     DeliverRead, DeliverReportRead, Refusal, RpOutcome, SMSAddress, SmsDeliver, SmsDeliverReport,
     SmsStatusReport, SmsSubmit, SmsSubmitReport, StatusReportRead, SubmitRead, SubmitReportRead,
     SubmitText, Time, UserData, ValidityPeriod,
 };
 
-// The seven readers.
-#[derive(Clone, Copy, Debug, PartialEq, Eq)]
-pub enum Reader {
-    Deliver,
-    Submit,
-    SubmitReportAck,
-    SubmitReportError,
-    DeliverReportAck,
-    DeliverReportError,
-    StatusReport,
-}
-
-pub fn reader_named(name: &[u8]) -> Option<Reader> {
-    match name {
-        b"deliver" => Some(Reader::Deliver),
-        b"submit" => Some(Reader::Submit),
-        b"submit-report-ack" => Some(Reader::SubmitReportAck),
-        b"submit-report-error" => Some(Reader::SubmitReportError),
-        b"deliver-report-ack" => Some(Reader::DeliverReportAck),
-        b"deliver-report-error" => Some(Reader::DeliverReportError),
-        b"status-report" => Some(Reader::StatusReport),
-        _ => None,
-    }
-}
-
 // ---- fields
 
 fn address(out: &mut Output, a: SMSAddress) {
-    fields::address(out, a.ton, a.npi, first(&a.address, a.address_length));
+    fields::address(out, a.ton, a.npi, a.address.as_slice());
 }
 
 fn protocol_and_coding(out: &mut Output, pid: u8, dcs: u8) {
@@ -49,25 +24,15 @@ fn user_data(out: &mut Output, udl: u8, ud: UserData) {
     fields::user_data(out, " ud=", ud);
 }
 
-fn optional_number(out: &mut Output, name: &str, n: Option<u8>) {
-    match n {
-        Some(x) => fields::number(out, name, x),
-        None => fields::absent(out, name),
-    }
-}
-
 fn optional_octet(out: &mut Output, name: &str, x: Option<u8>) {
-    match x {
-        Some(y) => fields::octet(out, name, y),
-        None => fields::absent(out, name),
-    }
+    fields::optional(out, name, x, fields::octet);
 }
 
 // The parameters of a report.
 fn parameters(out: &mut Output, pid: Option<u8>, dcs: Option<u8>, udl: Option<u8>, ud: UserData) {
     optional_octet(out, " pid=", pid);
     optional_octet(out, " dcs=", dcs);
-    optional_number(out, " udl=", udl);
+    fields::optional(out, " udl=", udl, fields::number);
     fields::user_data(out, " ud=", ud);
 }
 
@@ -111,15 +76,8 @@ fn period(out: &mut Output, p: ValidityPeriod, time: Time, octets: [u8; 7]) {
     }
 }
 
-fn header(out: &mut Output, header: Option<UserData>) {
-    match header {
-        Some(h) => fields::user_data(out, " header=", h),
-        None => fields::absent(out, " header="),
-    }
-}
-
 fn text(out: &mut Output, t: SubmitText) {
-    fields::octets(out, " text=", first(&t.octets, t.length));
+    fields::octets(out, " text=", t.as_slice());
 }
 
 // What follows TP-DCS in a SUBMIT.
@@ -131,7 +89,7 @@ fn after_coding(out: &mut Output, m: SmsSubmit) {
         m.validity_period_octets,
     );
     user_data(out, m.tp_user_data_length, m.tp_user_data_raw);
-    header(out, m.tp_user_data_header);
+    fields::optional(out, " header=", m.tp_user_data_header, fields::user_data);
     text(out, m.tp_user_data);
 }
 
@@ -262,17 +220,9 @@ pub fn answer(reader: Reader, octets: &[u8], out: &mut Output) -> Result<(), Ref
     match reader {
         Reader::Deliver => deliver(out, SmsDeliver::decode(octets)?),
         Reader::Submit => submit(out, tpdu::decode_sms_submit_tpdu(octets)?),
-        Reader::SubmitReportAck => {
-            submit_report(out, SmsSubmitReport::decode_for_rp_ack(octets)?)
-        }
-        Reader::SubmitReportError => {
-            submit_report(out, SmsSubmitReport::decode_for_rp_error(octets)?)
-        }
-        Reader::DeliverReportAck => {
-            deliver_report(out, SmsDeliverReport::decode_for_rp_ack(octets)?)
-        }
-        Reader::DeliverReportError => {
-            deliver_report(out, SmsDeliverReport::decode_for_rp_error(octets)?)
+        Reader::SubmitReport(outcome) => submit_report(out, read_submit_report(octets, outcome)?),
+        Reader::DeliverReport(outcome) => {
+            deliver_report(out, read_deliver_report(octets, outcome)?)
         }
         Reader::StatusReport => status_report(out, SmsStatusReport::decode(octets)?),
     }

@@ -2,14 +2,12 @@
 use crate::fields;
 use output::Output;
 use request_line::values;
-use request_line::values::is_absent;
-use text_fields::fields::field;
-use text_fields::slices::first;
+use text_fields::fields::{Fields, field};
 use tpdu::{Refusal, RelayAddress};
 
 fn address(out: &mut Output, address: Option<RelayAddress>) {
     match address {
-        Some(a) => fields::address(out, a.ton, a.npi, first(&a.address, a.address_length)),
+        Some(a) => fields::address(out, a.ton, a.npi, a.address.as_slice()),
         None => out.put(b" ton=- npi=- address=-"),
     }
 }
@@ -23,32 +21,23 @@ pub fn read(octets: &[u8], out: &mut Output) -> Result<(), Refusal> {
     Ok(())
 }
 
-// Whether a line gives no address to write: type, plan and digits are -.
+// Whether a line gives no address to write: all its values are -.
 pub fn gives_none(line: &[u8]) -> bool {
-    is_absent(field(line, 1).unwrap_or_default())
-        && is_absent(field(line, 2).unwrap_or_default())
-        && is_absent(field(line, 3).unwrap_or_default())
+    Fields::of(line)
+        .skip(1)
+        .all(|value| values::absent(value).is_some())
 }
 
-// The address that a line gives.
+// The address that a line gives; none if its values are -.
 fn address_in(line: &[u8]) -> Option<RelayAddress> {
-    if gives_none(line) {
-        return None;
-    }
-    let mut address = [0u8; 508];
-    let address_length = values::octets_of(field(line, 3).unwrap_or_default(), &mut address);
     Some(RelayAddress {
-        ton: values::number_of(field(line, 1).unwrap_or_default()),
-        npi: values::number_of(field(line, 2).unwrap_or_default()),
-        address,
-        address_length,
+        ton: values::number(field(line, 1)?)?,
+        npi: values::number(field(line, 2)?)?,
+        address: values::held::<508>(field(line, 3)?)?,
     })
 }
 
 // The octets of the address that a line gives.
 pub fn write(line: &[u8], out: &mut Output) -> Result<(), Refusal> {
-    let mut lent = [0u8; 255];
-    let n = RelayAddress::encode(address_in(line), &mut lent)?;
-    fields::written(out, first(&lent, n));
-    Ok(())
+    fields::written::<255, _>(out, |lent| RelayAddress::encode(address_in(line), lent))
 }

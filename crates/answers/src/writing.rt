@@ -1,11 +1,9 @@
 // The `enc-` and `enc-standard-` requests: a record made of the values of its keys, and what its writer answers.
 use crate::fields;
-use crate::fields::Lent;
 use output::Output;
 use request_line::keys::{Key, Kind, Report, value};
-use request_line::values::PeriodFormat;
+use request_line::values::GivenPeriod;
 use request_line::{keys, values};
-use text_fields::slices::first;
 use tpdu::{
     Refusal, RpOutcome, SMSAddress, SmsDeliver, SmsDeliverReport, SmsStatusReport, SmsSubmit,
     SmsSubmitReport, SubmitText, Time, UserData, ValidityPeriod,
@@ -14,81 +12,56 @@ use tpdu::{
 // ---- the values of keys
 
 fn flag(line: &[u8], key: Key) -> bool {
-    values::flag_of(value(line, key))
+    values::flag(value(line, key)).unwrap_or(false)
 }
 
 fn number(line: &[u8], key: Key) -> u8 {
-    values::number_of(value(line, key))
+    values::number(value(line, key)).unwrap_or(0)
 }
 
 fn octet(line: &[u8], key: Key) -> u8 {
-    values::octet_of(value(line, key))
+    values::octet(value(line, key)).unwrap_or(0)
 }
 
+// None where the value is -.
 fn optional_number(line: &[u8], key: Key) -> Option<u8> {
-    if values::is_absent(value(line, key)) {
-        return None;
-    }
-    Some(number(line, key))
+    values::number(value(line, key))
 }
 
 fn optional_octet(line: &[u8], key: Key) -> Option<u8> {
-    if values::is_absent(value(line, key)) {
-        return None;
-    }
-    Some(octet(line, key))
+    values::octet(value(line, key))
 }
 
 fn outcome(line: &[u8]) -> RpOutcome {
-    if values::is_error(value(line, Key::Outcome)) {
-        return RpOutcome::RpError;
-    }
-    RpOutcome::RpAck
+    values::outcome(value(line, Key::Outcome)).unwrap_or(RpOutcome::RpAck)
 }
 
 fn time(line: &[u8], key: Key) -> Time {
-    values::time_of(value(line, key))
+    values::time(value(line, key)).unwrap_or_default()
 }
 
 fn user_data(line: &[u8]) -> UserData {
-    values::data_of(value(line, Key::Ud))
+    values::held::<255>(value(line, Key::Ud)).unwrap_or_default()
 }
 
 fn address_of(line: &[u8]) -> SMSAddress {
-    let mut address = [0u8; 290];
-    let address_length = values::octets_of(value(line, Key::Address), &mut address);
     SMSAddress {
         ton: number(line, Key::Ton),
         npi: number(line, Key::Npi),
-        address,
-        address_length,
+        address: values::held::<290>(value(line, Key::Address)).unwrap_or_default(),
     }
 }
 
-fn period_of(value: &[u8]) -> ValidityPeriod {
+// A validity period, with its digits if it is absolute, and with its octets if it is enhanced; else they are none, and
+// zeros.
+fn period_of(value: &[u8]) -> (ValidityPeriod, Time, [u8; 7]) {
+    let none = Time::default();
     match values::period(value) {
-        Some((PeriodFormat::Relative, octet)) => ValidityPeriod::Relative(values::octet_of(octet)),
-        Some((PeriodFormat::Absolute, _)) => ValidityPeriod::Absolute,
-        Some((PeriodFormat::Enhanced, _)) => ValidityPeriod::Enhanced,
-        None => ValidityPeriod::None,
+        Some(GivenPeriod::Relative(octet)) => (ValidityPeriod::Relative(octet), none, [0; 7]),
+        Some(GivenPeriod::Absolute(digits)) => (ValidityPeriod::Absolute, digits, [0; 7]),
+        Some(GivenPeriod::Enhanced(octets)) => (ValidityPeriod::Enhanced, none, octets),
+        Some(GivenPeriod::None) | None => (ValidityPeriod::None, none, [0; 7]),
     }
-}
-
-// The digits of an absolute validity period; none beside another.
-fn period_digits_of(value: &[u8]) -> Time {
-    match values::period(value) {
-        Some((PeriodFormat::Absolute, digits)) => values::time_of(digits),
-        _ => values::time_of(b""),
-    }
-}
-
-// The octets of an enhanced validity period; zeros beside another.
-fn period_octets_of(value: &[u8]) -> [u8; 7] {
-    let mut octets = [0u8; 7];
-    if let Some((PeriodFormat::Enhanced, given)) = values::period(value) {
-        values::octets_of(given, &mut octets);
-    }
-    octets
 }
 
 // ---- records
@@ -115,9 +88,7 @@ fn deliver(line: &[u8]) -> SmsDeliver {
 
 fn submit(line: &[u8]) -> SmsSubmit {
     let destination = (!keys::no_destination(line)).then_some(address_of(line));
-    let period = period_of(value(line, Key::Vp));
-    let digits = period_digits_of(value(line, Key::Vp));
-    let octets = period_octets_of(value(line, Key::Vp));
+    let (period, digits, octets) = period_of(value(line, Key::Vp));
     let ud = user_data(line);
     SmsSubmit {
         tp_rp: flag(line, Key::Rp),
@@ -196,7 +167,7 @@ fn status_report(line: &[u8]) -> SmsStatusReport {
 // ---- answers
 
 // Writes a record within the published crate's limit of user data.
-fn write(kind: Kind, line: &[u8], lent: &mut Lent) -> Result<usize, Refusal> {
+fn write(kind: Kind, line: &[u8], lent: &mut [u8]) -> Result<usize, Refusal> {
     match kind {
         Kind::Deliver => deliver(line).encode(lent),
         Kind::Submit => submit(line).encode(lent),
@@ -208,14 +179,11 @@ fn write(kind: Kind, line: &[u8], lent: &mut Lent) -> Result<usize, Refusal> {
 
 // The answer to a line that gives a record of a kind.
 pub fn answer(kind: Kind, line: &[u8], out: &mut Output) -> Result<(), Refusal> {
-    let mut lent = [0u8; 255];
-    let n = write(kind, line, &mut lent)?;
-    fields::written(out, first(&lent, n));
-    Ok(())
+    fields::written::<255, _>(out, |lent| write(kind, line, lent))
 }
 
 // Writes a report within the standard's limit.
-fn write_to_standard(report: Report, line: &[u8], lent: &mut Lent) -> Result<usize, Refusal> {
+fn write_to_standard(report: Report, line: &[u8], lent: &mut [u8]) -> Result<usize, Refusal> {
     match report {
         Report::SubmitReport => submit_report(line).encode_to_standard(lent),
         Report::DeliverReport => deliver_report(line).encode_to_standard(lent),
@@ -224,8 +192,5 @@ fn write_to_standard(report: Report, line: &[u8], lent: &mut Lent) -> Result<usi
 }
 
 pub fn answer_to_standard(report: Report, line: &[u8], out: &mut Output) -> Result<(), Refusal> {
-    let mut lent = [0u8; 255];
-    let n = write_to_standard(report, line, &mut lent)?;
-    fields::written(out, first(&lent, n));
-    Ok(())
+    fields::written::<255, _>(out, |lent| write_to_standard(report, line, lent))
 }

@@ -3,7 +3,7 @@ use Rattle.std.specs.Prelude.{ℕ, ◌+◌, List, replicate, Option, Some, None,
 use Rattle.octets.specs.Answers.{Said}
 use Rattle.octets.specs.Refusals.{refusal_number}
 use Rattle.address.specs.declared.SMSAddress.{SMSAddress}
-use Rattle.coding.specs.declared.UserData.{UserData}
+use Rattle.coding.specs.Coding.{UserData}
 use Rattle.gsm7.specs.declared.packing.Packed.{Packed}
 use Rattle.gsm7.specs.declared.decode.Unpacked.{Unpacked}
 use Rattle.concatenation.specs.declared.Concatenated.{Concatenated}
@@ -11,10 +11,10 @@ use Rattle.reassembly.specs.declared.PartAccepted.{PartAccepted}
 use Rattle.reassembly.specs.declared.MessageTaken.{MessageTaken}
 use Rattle.columns.specs.declared.Strings.{Strings}
 use Rattle.submit.specs.declared.SubmitRead.{SubmitRead}
-use Rattle.deliver.specs.declared.DeliverRead.{DeliverRead}
-use Rattle.status_report.specs.declared.StatusReportRead.{StatusReportRead}
-use Rattle.submit_report.specs.declared.SubmitReportRead.{SubmitReportRead}
-use Rattle.deliver_report.specs.declared.DeliverReportRead.{DeliverReportRead}
+use Rattle.deliver.specs.Deliver.{DeliverRead}
+use Rattle.status_report.specs.StatusReport.{StatusReportRead}
+use Rattle.submit_report.specs.SubmitReport.{SubmitReportRead}
+use Rattle.deliver_report.specs.DeliverReport.{DeliverReportRead}
 use Rattle.header_elements.specs.declared.HeaderElements.{HeaderElements}
 use Rattle.relay_address.specs.declared.RelayAddress.{RelayAddress}
 use Rattle.relay_address.specs.declared.RelayAddressRead.{RelayAddressRead}
@@ -30,12 +30,12 @@ count_number = numbered (λ n. n)
 -- ---- messages: the number of octets of user data, or of octets read; and their arrays
 
 abbrev pub deliver_number : Said DeliverRead → ℕ × List ℕ × List ℕ × List ℕ
-deliver_number (Ok r) = let m = r.message in (m.tp_user_data.length, m.tp_originating_address.address, m.tp_service_centre_timestamp.digits, m.tp_user_data.octets)
+deliver_number (Ok r) = let m = r.message in (m.tp_user_data.length, m.tp_originating_address.address.octets, m.tp_service_centre_timestamp.octets, m.tp_user_data.octets)
 deliver_number (Err why) = (256 + refusal_number why, replicate 290 0, replicate 14 0, replicate 255 0)
 
 -- the arrays of what a message may have
 abbrev pub address_array : Option SMSAddress → List ℕ
-address_array (Some a) = a.address
+address_array (Some a) = a.address.octets
 address_array None = replicate 290 0
 
 abbrev pub user_data_array : Option UserData → List ℕ
@@ -49,11 +49,11 @@ submit_number (Err why) = (256 + refusal_number why, replicate 290 0, replicate 
 abbrev pub status_report_number : Said StatusReportRead → ℕ × List ℕ × List ℕ × List ℕ × List ℕ
 status_report_number (Ok r) =
     let m = r.message in
-    (m.tp_user_data.length, m.tp_recipient_address.address, m.tp_service_centre_timestamp.digits, m.tp_discharge_time.digits, m.tp_user_data.octets)
+    (m.tp_user_data.length, m.tp_recipient_address.address.octets, m.tp_service_centre_timestamp.octets, m.tp_discharge_time.octets, m.tp_user_data.octets)
 status_report_number (Err why) = (256 + refusal_number why, replicate 290 0, replicate 14 0, replicate 14 0, replicate 255 0)
 
 abbrev pub submit_report_number : Said SubmitReportRead → ℕ × List ℕ × List ℕ
-submit_report_number (Ok r) = let m = r.message in (m.tp_user_data.length, m.tp_service_centre_timestamp.digits, m.tp_user_data.octets)
+submit_report_number (Ok r) = let m = r.message in (m.tp_user_data.length, m.tp_service_centre_timestamp.octets, m.tp_user_data.octets)
 submit_report_number (Err why) = (256 + refusal_number why, replicate 14 0, replicate 255 0)
 
 abbrev pub deliver_report_number : Said DeliverReportRead → ℕ × List ℕ
@@ -64,7 +64,7 @@ deliver_report_number (Err why) = (256 + refusal_number why, replicate 255 0)
 
 -- the number of octets of text, and the text
 abbrev pub unpacked_number : Said Unpacked → ℕ × List ℕ
-unpacked_number (Ok u) = (u.text_length, u.text)
+unpacked_number (Ok u) = (u.text.length, u.text.octets)
 unpacked_number (Err why) = (256 + refusal_number why, replicate 510 0)
 
 -- 14 digits
@@ -79,7 +79,7 @@ elements_number (Err why) = (256 + refusal_number why, replicate 127 0, replicat
 
 -- the number of octets read of an address of the relay layer, and its digits
 abbrev pub digits_array : Option RelayAddress → List ℕ
-digits_array (Some a) = a.address
+digits_array (Some a) = a.address.octets
 digits_array None = replicate 508 0
 
 abbrev pub relay_number : Said RelayAddressRead → ℕ × List ℕ
@@ -107,7 +107,7 @@ emptied_number r = (numbered (λ x. 0) r.0, r.1)
 
 -- of a part that is accepted: how many are missing; and the store
 abbrev pub accepted_number : Said PartAccepted × List ℕ → ℕ × List ℕ
-accepted_number r = (numbered (λ p. p.missing_count) r.0, r.1)
+accepted_number r = (numbered (λ p. p.missing.length) r.0, r.1)
 
 -- of a message that is taken: its octets, none where it is not open or not whole
 abbrev pub message_octets : MessageTaken → ℕ

@@ -29,10 +29,11 @@ ghost use Rattle.deliver_report.specs.DeliverReport.{layout_of as deliverReportL
 ghost use Rattle.octets.specs.Refusals.{refusal_number};
 ghost use Rattle.bench_exports.specs.Numbers.{address_array, user_data_array, digits_array, count_number, lent_number, packed_number, sent_number, emptied_number, accepted_number, strings_number, message_number, taken_number, deliver_number, submit_number, status_report_number, submit_report_number, deliver_report_number, unpacked_number, digits_number, elements_number, relay_number};
 
+use octets::Held;
 use tpdu::{
     HeaderElements, MessageTaken, Reference, Refusal, RelayAddress, RpOutcome, SMSAddress,
-    SmsDeliver, SmsDeliverReport, SmsStatusReport, SmsSubmit, SmsSubmitReport, SubmitText, Time,
-    UserData, ValidityPeriod,
+    SmsDeliver, SmsDeliverReport, SmsStatusReport, SmsSubmit, SmsSubmitReport, Time, UserData,
+    ValidityPeriod,
 };
 
 // The number of a refusal.
@@ -46,37 +47,49 @@ fn refused(why: Refusal) -> usize
 fn written(w: Result<usize, Refusal>) -> usize
     ensures { result ≡ count_number w }
 {
-    match w {
-        Ok(n) => n,
-        Err(why) => refused(why),
-    }
+    w.unwrap_or_else(|why| refused(why))
 }
 
 // The arrays of what a message may have: zeros where it isn't there.
+#[tactic(auto, unfolding(octets::specs::Held::holding, octets::specs::Arrays::pad))]
 fn address_array(address: Option<SMSAddress>) -> [u8; 290]
     ensures { result ≡ address_array address }
 {
-    match address {
-        Some(given) => given.address,
-        None => [0; 290],
-    }
+    address.unwrap_or_default().address.octets
 }
 
+#[tactic(auto, unfolding(octets::specs::Held::holding, octets::specs::Arrays::pad))]
 fn user_data_array(user_data: Option<UserData>) -> [u8; 255]
     ensures { result ≡ user_data_array user_data }
 {
-    match user_data {
-        Some(given) => given.octets,
-        None => [0; 255],
-    }
+    user_data.unwrap_or_default().octets
 }
 
+#[tactic(auto, unfolding(octets::specs::Held::holding, octets::specs::Arrays::pad))]
 fn digits_array(address: Option<RelayAddress>) -> [u8; 508]
     ensures { result ≡ digits_array address }
 {
-    match address {
-        Some(given) => given.address,
-        None => [0; 508],
+    address.unwrap_or_default().address.octets
+}
+
+// The first octets of an array.
+fn held<const N: usize>(octets: &[u8; N], length: usize) -> Held<N>
+    ensures { result ≡ record { octets = octets.now; length = length } }
+{
+    Held {
+        octets: *octets,
+        length,
+    }
+}
+
+// An address whose text is the first octets of an array.
+fn address_of(ton: u8, npi: u8, text: &[u8; 290], length: usize) -> SMSAddress
+    ensures { result ≡ record { ton = ton; npi = npi; address = record { octets = text.now; length = length } } }
+{
+    SMSAddress {
+        ton,
+        npi,
+        address: held(text, length),
     }
 }
 
@@ -92,9 +105,9 @@ pub extern "C" fn tpdu_read_deliver(
 {
     match SmsDeliver::decode(data) {
         Ok(read) => {
-            let number = read.message.tp_originating_address.address;
+            let number = read.message.tp_originating_address.address.octets;
             *address = number;
-            let sent_digits = read.message.tp_service_centre_timestamp.digits;
+            let sent_digits = read.message.tp_service_centre_timestamp.octets;
             *time = sent_digits;
             let octets = read.message.tp_user_data.octets;
             *user_data = octets;
@@ -153,11 +166,11 @@ pub extern "C" fn tpdu_read_status_report(
 {
     match SmsStatusReport::decode(data) {
         Ok(read) => {
-            let number = read.message.tp_recipient_address.address;
+            let number = read.message.tp_recipient_address.address.octets;
             *address = number;
-            let sent_digits = read.message.tp_service_centre_timestamp.digits;
+            let sent_digits = read.message.tp_service_centre_timestamp.octets;
             *sent = sent_digits;
-            let done_digits = read.message.tp_discharge_time.digits;
+            let done_digits = read.message.tp_discharge_time.octets;
             *done = done_digits;
             let octets = read.message.tp_user_data.octets;
             *user_data = octets;
@@ -183,7 +196,7 @@ pub extern "C" fn tpdu_read_submit_report(
 {
     match SmsSubmitReport::decode_for_rp_ack(data) {
         Ok(read) => {
-            let sent_digits = read.message.tp_service_centre_timestamp.digits;
+            let sent_digits = read.message.tp_service_centre_timestamp.octets;
             *time = sent_digits;
             let octets = read.message.tp_user_data.octets;
             *user_data = octets;
@@ -219,10 +232,7 @@ pub extern "C" fn tpdu_read_deliver_report(data: &[u8], user_data: &mut [u8; 255
 pub extern "C" fn tpdu_pack(text: &[u8], out: &mut [u8]) -> usize
     ensures { (result, out.new) ≡ packed_number (lend (packing [] text.now) out.old) }
 {
-    match tpdu::pack_gsm7(text, out) {
-        Ok(packed) => packed.octets,
-        Err(why) => refused(why),
-    }
+    written(tpdu::pack_gsm7(text, out).map(|packed| packed.octets))
 }
 
 // The number of octets of a text's messages.
@@ -230,10 +240,7 @@ pub extern "C" fn tpdu_pack(text: &[u8], out: &mut [u8]) -> usize
 pub extern "C" fn tpdu_concatenate(text: &[u8], reference: u8, out: &mut [u8]) -> usize
     ensures { (result, out.new) ≡ sent_number (lend (concatenating reference text.now) out.old) }
 {
-    match tpdu::pack_gsm7_concatenated(text, reference, out) {
-        Ok(sent) => sent.octets,
-        Err(why) => refused(why),
-    }
+    written(tpdu::pack_gsm7_concatenated(text, reference, out).map(|sent| sent.octets))
 }
 
 // The number of octets of a block by column.
@@ -249,10 +256,7 @@ pub extern "C" fn tpdu_to_columns(octets: &[u8], lengths: &[usize], out: &mut [u
 pub extern "C" fn tpdu_from_columns(block: &[u8], octets: &mut [u8], lengths: &mut [usize]) -> usize
     ensures { (result, octets.new, lengths.new) ≡ strings_number (lend_both (reading block.now) octets.old lengths.old) }
 {
-    match tpdu::from_columns(block, octets, lengths) {
-        Ok(strings) => strings.octets,
-        Err(why) => refused(why),
-    }
+    written(tpdu::from_columns(block, octets, lengths).map(|strings| strings.octets))
 }
 
 // 0, and the store is empty.
@@ -260,10 +264,7 @@ pub extern "C" fn tpdu_from_columns(block: &[u8], octets: &mut [u8], lengths: &m
 pub extern "C" fn tpdu_empty_store(store: &mut [u8]) -> usize
     ensures { (result, store.new) ≡ emptied_number (emptied store.old) }
 {
-    match tpdu::empty_store(store) {
-        Ok(()) => 0,
-        Err(why) => refused(why),
-    }
+    written(tpdu::empty_store(store).map(|()| 0))
 }
 
 // How many parts of the message are still missing.
@@ -271,10 +272,7 @@ pub extern "C" fn tpdu_empty_store(store: &mut [u8]) -> usize
 pub extern "C" fn tpdu_accept_part(store: &mut [u8], data: &[u8]) -> usize
     ensures { (result, store.new) ≡ accepted_number (accepting «data».now store.old) }
 {
-    match tpdu::accept_part(store, data) {
-        Ok(part) => part.missing_count,
-        Err(why) => refused(why),
-    }
+    written(tpdu::accept_part(store, data).map(|accepted| accepted.missing.length))
 }
 
 // The number of octets of text, and the text.
@@ -284,9 +282,9 @@ pub extern "C" fn tpdu_unpack(data: &[u8], septets: usize, text: &mut [u8; 510])
 {
     match tpdu::unpack_gsm7(data, septets) {
         Ok(read) => {
-            let shown = read.text;
+            let shown = read.text.octets;
             *text = shown;
-            read.text_length
+            read.text.length
         }
         Err(why) => {
             *text = [0; 510];
@@ -300,10 +298,7 @@ pub extern "C" fn tpdu_unpack(data: &[u8], septets: usize, text: &mut [u8; 510])
 pub extern "C" fn tpdu_ucs2_to_gsm7(ucs2: &[u8], out: &mut [u8]) -> usize
     ensures { (result, out.new) ≡ packed_number (lend (to_gsm7 ucs2.now) out.old) }
 {
-    match tpdu::ucs2_to_gsm7(ucs2, out) {
-        Ok(packed) => packed.octets,
-        Err(why) => refused(why),
-    }
+    written(tpdu::ucs2_to_gsm7(ucs2, out).map(|packed| packed.octets))
 }
 
 // The number of octets of UCS2.
@@ -323,16 +318,9 @@ pub extern "C" fn tpdu_address(
     length: usize,
     out: &mut [u8],
 ) -> usize
-    ensures { (result, out.new) ≡ lent_number (lend (encoding (record { ton = ton; npi = npi; address = text.now; address_length = length })) out.old) }
+    ensures { (result, out.new) ≡ lent_number (lend (encoding (record { ton = ton; npi = npi; address = record { octets = text.now; length = length } })) out.old) }
 {
-    let address = *text;
-    let a = SMSAddress {
-        ton,
-        npi,
-        address,
-        address_length: length,
-    };
-    written(a.encode(out))
+    written(address_of(ton, npi, text, length).encode(out))
 }
 
 // The digits of a time, and their number.
@@ -401,14 +389,11 @@ pub extern "C" fn tpdu_write_elements(
 ) -> usize
     ensures { (result, out.new) ≡ lent_number (lend (header_making (record { count = count; identifiers = identifiers.now; lengths = lengths.now; octets = values.now })) out.old) }
 {
-    let given = *identifiers;
-    let sizes = *lengths;
-    let octets = *values;
     let e = HeaderElements {
         count,
-        identifiers: given,
-        lengths: sizes,
-        octets,
+        identifiers: *identifiers,
+        lengths: *lengths,
+        octets: *values,
     };
     written(e.encode(out))
 }
@@ -439,14 +424,12 @@ pub extern "C" fn tpdu_write_relay_address(
     length: usize,
     out: &mut [u8],
 ) -> usize
-    ensures { (result, out.new) ≡ lent_number (lend (relay_making (Some (record { ton = ton; npi = npi; address = digits.now; address_length = length }))) out.old) }
+    ensures { (result, out.new) ≡ lent_number (lend (relay_making (Some (record { ton = ton; npi = npi; address = record { octets = digits.now; length = length } }))) out.old) }
 {
-    let address = *digits;
     let a = RelayAddress {
         ton,
         npi,
-        address,
-        address_length: length,
+        address: held(digits, length),
     };
     written(RelayAddress::encode(Some(a), out))
 }
@@ -476,15 +459,9 @@ pub extern "C" fn tpdu_take_message(
     total: u8,
     out: &mut [u8],
 ) -> usize
-    ensures { (result, store.new, out.new) ≡ taken_number (taking_by (record { ton = ton; npi = npi; address = text.now; address_length = length }) (Eight reference) total store.old out.old) }
+    ensures { (result, store.new, out.new) ≡ taken_number (taking_by (record { ton = ton; npi = npi; address = record { octets = text.now; length = length } }) (Eight reference) total store.old out.old) }
 {
-    let address = *text;
-    let a = SMSAddress {
-        ton,
-        npi,
-        address,
-        address_length: length,
-    };
+    let a = address_of(ton, npi, text, length);
     message_octets(tpdu::take_message(store, a, Reference::Eight(reference), total, out))
 }
 
@@ -509,19 +486,8 @@ pub extern "C" fn tpdu_write_deliver(
     length: usize,
     out: &mut [u8],
 ) -> usize
-    ensures { (result, out.new) ≡ lent_number (lend (delivering (record { tp_rp = tp_rp; tp_udhi = tp_udhi; tp_sri = tp_sri; tp_lp = tp_lp; tp_mms = tp_mms; tp_mti = tp_mti; tp_originating_address = record { ton = ton; npi = npi; address = address.now; address_length = address_length }; tp_pid = tp_pid; tp_dcs = tp_dcs; tp_service_centre_timestamp = record { digits = time.now; length = 14 }; tp_user_data_length = tp_user_data_length; tp_user_data = record { octets = user_data.now; length = length } })) out.old) }
+    ensures { (result, out.new) ≡ lent_number (lend (delivering (record { tp_rp = tp_rp; tp_udhi = tp_udhi; tp_sri = tp_sri; tp_lp = tp_lp; tp_mms = tp_mms; tp_mti = tp_mti; tp_originating_address = record { ton = ton; npi = npi; address = record { octets = address.now; length = address_length } }; tp_pid = tp_pid; tp_dcs = tp_dcs; tp_service_centre_timestamp = record { octets = time.now; length = 14 }; tp_user_data_length = tp_user_data_length; tp_user_data = record { octets = user_data.now; length = length } })) out.old) }
 {
-    let text = *address;
-    let number = SMSAddress {
-        ton,
-        npi,
-        address: text,
-        address_length,
-    };
-    let digits = *time;
-    let sent = Time { digits, length: 14 };
-    let octets = *user_data;
-    let held = UserData { length, octets };
     let m = SmsDeliver {
         tp_rp,
         tp_udhi,
@@ -529,12 +495,12 @@ pub extern "C" fn tpdu_write_deliver(
         tp_lp,
         tp_mms,
         tp_mti,
-        tp_originating_address: number,
+        tp_originating_address: address_of(ton, npi, address, address_length),
         tp_pid,
         tp_dcs,
-        tp_service_centre_timestamp: sent,
+        tp_service_centre_timestamp: held(time, 14),
         tp_user_data_length,
-        tp_user_data: held,
+        tp_user_data: held(user_data, length),
     };
     written(m.encode(out))
 }
@@ -557,42 +523,23 @@ pub extern "C" fn tpdu_write_status_report(
     length: usize,
     out: &mut [u8],
 ) -> usize
-    ensures { (result, out.new) ≡ lent_number (lend (status_reporting (record { tp_udhi = tp_udhi; tp_srq = tp_srq; tp_lp = tp_lp; tp_mms = tp_mms; tp_mr = tp_mr; tp_recipient_address = record { ton = ton; npi = npi; address = address.now; address_length = address_length }; tp_service_centre_timestamp = record { digits = sent.now; length = 14 }; tp_discharge_time = record { digits = done.now; length = 14 }; tp_status = tp_status; tp_parameter_indicator = None; tp_pid = None; tp_dcs = None; tp_user_data_length = None; tp_user_data = record { octets = user_data.now; length = length } })) out.old) }
+    ensures { (result, out.new) ≡ lent_number (lend (status_reporting (record { tp_udhi = tp_udhi; tp_srq = tp_srq; tp_lp = tp_lp; tp_mms = tp_mms; tp_mr = tp_mr; tp_recipient_address = record { ton = ton; npi = npi; address = record { octets = address.now; length = address_length } }; tp_service_centre_timestamp = record { octets = sent.now; length = 14 }; tp_discharge_time = record { octets = done.now; length = 14 }; tp_status = tp_status; tp_parameter_indicator = None; tp_pid = None; tp_dcs = None; tp_user_data_length = None; tp_user_data = record { octets = user_data.now; length = length } })) out.old) }
 {
-    let text = *address;
-    let number = SMSAddress {
-        ton,
-        npi,
-        address: text,
-        address_length,
-    };
-    let sent_digits = *sent;
-    let first = Time {
-        digits: sent_digits,
-        length: 14,
-    };
-    let done_digits = *done;
-    let second = Time {
-        digits: done_digits,
-        length: 14,
-    };
-    let octets = *user_data;
-    let held = UserData { length, octets };
     let m = SmsStatusReport {
         tp_udhi,
         tp_srq,
         tp_lp,
         tp_mms,
         tp_mr,
-        tp_recipient_address: number,
-        tp_service_centre_timestamp: first,
-        tp_discharge_time: second,
+        tp_recipient_address: address_of(ton, npi, address, address_length),
+        tp_service_centre_timestamp: held(sent, 14),
+        tp_discharge_time: held(done, 14),
         tp_status,
         tp_parameter_indicator: None,
         tp_pid: None,
         tp_dcs: None,
         tp_user_data_length: None,
-        tp_user_data: held,
+        tp_user_data: held(user_data, length),
     };
     written(m.encode(out))
 }
@@ -609,21 +556,17 @@ pub extern "C" fn tpdu_write_submit_report(
     length: usize,
     out: &mut [u8],
 ) -> usize
-    ensures { (result, out.new) ≡ lent_number (lend (submit_reporting (record { tp_udhi = tp_udhi; tp_failure_cause = None; tp_parameter_indicator = tp_parameter_indicator; tp_service_centre_timestamp = record { digits = time.now; length = 14 }; tp_pid = Some pid; tp_dcs = Some dcs; tp_user_data_length = Some udl; tp_user_data = record { octets = user_data.now; length = length }; rp_outcome = RpAck })) out.old) }
+    ensures { (result, out.new) ≡ lent_number (lend (submit_reporting (record { tp_udhi = tp_udhi; tp_failure_cause = None; tp_parameter_indicator = tp_parameter_indicator; tp_service_centre_timestamp = record { octets = time.now; length = 14 }; tp_pid = Some pid; tp_dcs = Some dcs; tp_user_data_length = Some udl; tp_user_data = record { octets = user_data.now; length = length }; rp_outcome = RpAck })) out.old) }
 {
-    let digits = *time;
-    let sent = Time { digits, length: 14 };
-    let octets = *user_data;
-    let held = UserData { length, octets };
     let m = SmsSubmitReport {
         tp_udhi,
         tp_failure_cause: None,
         tp_parameter_indicator,
-        tp_service_centre_timestamp: sent,
+        tp_service_centre_timestamp: held(time, 14),
         tp_pid: Some(pid),
         tp_dcs: Some(dcs),
         tp_user_data_length: Some(udl),
-        tp_user_data: held,
+        tp_user_data: held(user_data, length),
         rp_outcome: RpOutcome::RpAck,
     };
     written(m.encode(out))
@@ -642,8 +585,6 @@ pub extern "C" fn tpdu_write_deliver_report(
 ) -> usize
     ensures { (result, out.new) ≡ lent_number (lend (deliver_reporting (record { tp_udhi = tp_udhi; tp_failure_cause = None; tp_parameter_indicator = tp_parameter_indicator; tp_pid = Some pid; tp_dcs = Some dcs; tp_user_data_length = Some udl; tp_user_data = record { octets = user_data.now; length = length }; rp_outcome = RpAck })) out.old) }
 {
-    let octets = *user_data;
-    let held = UserData { length, octets };
     let m = SmsDeliverReport {
         tp_udhi,
         tp_failure_cause: None,
@@ -651,7 +592,7 @@ pub extern "C" fn tpdu_write_deliver_report(
         tp_pid: Some(pid),
         tp_dcs: Some(dcs),
         tp_user_data_length: Some(udl),
-        tp_user_data: held,
+        tp_user_data: held(user_data, length),
         rp_outcome: RpOutcome::RpAck,
     };
     written(m.encode(out))
@@ -684,31 +625,8 @@ pub extern "C" fn tpdu_write_submit(
     text_length: usize,
     out: &mut [u8],
 ) -> usize
-    ensures { (result, out.new) ≡ lent_number (lend (submitting (record { tp_rp = tp_rp; tp_udhi = tp_udhi; tp_srr = tp_srr; tp_mti = tp_mti; tp_rd = tp_rd; tp_vpf = tp_vpf; tp_mr = tp_mr; tp_destination_address = Some (record { ton = ton; npi = npi; address = address.now; address_length = address_length }); tp_pid = tp_pid; tp_dcs = tp_dcs; tp_validity_period = Relative period; validity_period_digits = record { digits = replicate 14 0; length = 0 }; validity_period_octets = replicate 7 0; tp_user_data_length = tp_user_data_length; tp_user_data_raw = record { octets = user_data.now; length = length }; tp_user_data_header = then_some has_user_data_header (record { octets = header.now; length = header_length }); tp_user_data = record { octets = text.now; length = text_length } })) out.old) }
+    ensures { (result, out.new) ≡ lent_number (lend (submitting (record { tp_rp = tp_rp; tp_udhi = tp_udhi; tp_srr = tp_srr; tp_mti = tp_mti; tp_rd = tp_rd; tp_vpf = tp_vpf; tp_mr = tp_mr; tp_destination_address = Some (record { ton = ton; npi = npi; address = record { octets = address.now; length = address_length } }); tp_pid = tp_pid; tp_dcs = tp_dcs; tp_validity_period = Relative period; validity_period_digits = record { octets = replicate 14 0; length = 0 }; validity_period_octets = replicate 7 0; tp_user_data_length = tp_user_data_length; tp_user_data_raw = record { octets = user_data.now; length = length }; tp_user_data_header = then_some has_user_data_header (record { octets = header.now; length = header_length }); tp_user_data = record { octets = text.now; length = text_length } })) out.old) }
 {
-    let number_text = *address;
-    let number = SMSAddress {
-        ton,
-        npi,
-        address: number_text,
-        address_length,
-    };
-    let none = Time {
-        digits: [0u8; 14],
-        length: 0,
-    };
-    let octets = *user_data;
-    let raw = UserData { length, octets };
-    let header_octets = *header;
-    let front = UserData {
-        length: header_length,
-        octets: header_octets,
-    };
-    let text_octets = *text;
-    let shown = SubmitText {
-        octets: text_octets,
-        length: text_length,
-    };
     let m = SmsSubmit {
         tp_rp,
         tp_udhi,
@@ -717,16 +635,16 @@ pub extern "C" fn tpdu_write_submit(
         tp_rd,
         tp_vpf,
         tp_mr,
-        tp_destination_address: Some(number),
+        tp_destination_address: Some(address_of(ton, npi, address, address_length)),
         tp_pid,
         tp_dcs,
         tp_validity_period: ValidityPeriod::Relative(period),
-        validity_period_digits: none,
+        validity_period_digits: Time::default(),
         validity_period_octets: [0u8; 7],
         tp_user_data_length,
-        tp_user_data_raw: raw,
-        tp_user_data_header: has_user_data_header.then_some(front),
-        tp_user_data: shown,
+        tp_user_data_raw: held(user_data, length),
+        tp_user_data_header: has_user_data_header.then_some(held(header, header_length)),
+        tp_user_data: held(text, text_length),
     };
     written(m.encode(out))
 }

@@ -1,4 +1,4 @@
--- User data in records and among a writer's checks.
+-- User data among a writer's checks.
 -- Assumes nothing.
 use Prim.Native.Nat.{ℕ, ◌≤◌}
 use native.Mathlib.Omega.{arith}
@@ -14,26 +14,9 @@ use Rattle.std.specs.Prelude.{if◌then◌else◌}
 use Rattle.octets.specs.Lent.{refused}
 use Rattle.octets.specs.declared.Refusal.TheVariants.{UserDataLengthDisagrees, UserDataTooLong}
 use Rattle.octets.proofs.Checks.{checked_then, holds}
-use Rattle.octets.proofs.Laws.{take_pad, cleared_pad}
-use Rattle.coding.specs.declared.UserData.{UserData}
 use Rattle.coding.specs.declared.UserDataCoding.{UserDataCoding}
 use Rattle.coding.specs.declared.UserDataCoding.TheVariants.{Gsm7Bit, EightBit, Ucs2, Compressed}
-use Rattle.coding.specs.Coding.{coding_of, data_octets, data_within, checked_data, data_checks, data_with, data_of, cleared_data}
-
--- what is stored is held
-pub data_held : (xs : List ℕ) → data_of (data_with xs) ≡ xs
-unfolding data_with
-data_held xs = take_pad 255 xs
-
--- and is cleared
-pub data_cleared : (xs : List ℕ) → cleared_data (data_with xs) ≡ data_with xs
-unfolding data_with
-data_cleared xs = rw (cleared_pad 255 xs)
-
--- a record's user data, cleared
-pub data_back : (d : UserData) → size (data_of d) ≡ d.length → data_with (data_of d) ≡ cleared_data d
-unfolding data_with
-data_back d n = rw n
+use Rattle.coding.specs.Coding.{coding_of, data_octets, data_within, checked_data, data_checks}
 
 -- the number of octets of user data, as the calls tell it
 pub size_told : {n : ℕ} (dcs udl : ℕ) {k : UserDataCoding} → n ≡ data_octets k udl → k ≡ coding_of dcs → n ≡ data_octets (coding_of dcs) udl

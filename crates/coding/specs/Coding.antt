@@ -1,10 +1,9 @@
 -- TP-Data-Coding-Scheme (TS 23.038 §4) and TP-User-Data-Length (TS 23.040 §9.2.3.16).
 use Rattle.std.specs.Prelude.{ℕ, ◌+◌, ◌*◌, ◌/◌, ◌%◌, ◌≡◌, refl, List, [], ◌∷◌, eqb, leb, length as size, take, if◌then◌else◌, Err}
 use Rattle.octets.specs.Answers.{Said, fine}
-use Rattle.octets.specs.Arrays.{pad, cleared_array}
 use Rattle.octets.specs.Checks.{Check, ◌unless◌, found}
 use Rattle.octets.specs.declared.Refusal.TheVariants.{UserDataLengthDisagrees, UserDataTooLong}
-use Rattle.coding.specs.declared.UserData.{UserData}
+use Rattle.octets.specs.declared.Held.{Held}
 use Rattle.coding.specs.declared.UserDataCoding.{UserDataCoding}
 use Rattle.coding.specs.declared.UserDataCoding.TheVariants.{Gsm7Bit, EightBit, Ucs2, Compressed}
 
@@ -48,18 +47,6 @@ known_sizes : (data_octets Gsm7Bit 160 ≡ 140) × (checked_data 0x00 160 140 �
 unfolding coding_of character_set data_octets checked_data
 known_sizes = (refl, refl, refl, refl)
 
--- octets as the user data of a record
-unfoldable pub data_with : List ℕ → UserData
-data_with xs = record { octets = pad 255 xs; length = size xs }
-
--- the user data that a record holds
-abbrev pub data_of : UserData → List ℕ
-data_of d = take d.length d.octets
-
--- what lies after the length is no part of a record: set to zero
-abbrev pub cleared_data : UserData → UserData
-cleared_data d = record { length = d.length; octets = cleared_array 255 d.length d.octets }
-
--- the array has the length of its type
-abbrev pub TypedData : UserData → Type 0
-TypedData d = size d.octets ≡ 255
+-- user data in a record
+abbrev pub UserData : Type 0
+UserData = Held 255

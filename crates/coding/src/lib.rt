@@ -1,11 +1,11 @@
 // TP-Data-Coding-Scheme (TS 23.038 §4), and what TP-User-Data-Length counts.
 #![tactic(auto)]
 
-ghost use Rattle.std.specs.Prelude.{◌≡◌, [], ◌≤◌, length};
+ghost use Rattle.std.specs.Prelude.{◌≡◌};
 ghost use Rattle.octets.specs.Checks.{found};
-ghost use Rattle.coding.specs.Coding.{coding_of, data_octets, data_with, data_within, checked_data};
+ghost use Rattle.coding.specs.Coding.{coding_of, data_octets, data_within, checked_data};
 
-use octets::Refusal;
+use octets::{Held, Refusal};
 
 #[derive(Clone, Copy, Debug, PartialEq, Eq)]
 pub enum UserDataCoding {
@@ -43,7 +43,7 @@ pub fn user_data_coding(dcs: u8) -> UserDataCoding
     }
 }
 
-// The octets of a TP-User-Data whose TP-User-Data-Length is `length`.
+// The octets of a TP-User-Data whose TP-User-Data-Length is `length`. (This crate stands beside septets, which counts so too.)
 pub fn user_data_octets(coding: UserDataCoding, length: u8) -> usize
     ensures { result ≡ data_octets coding length }
 {
@@ -55,34 +55,8 @@ pub fn user_data_octets(coding: UserDataCoding, length: u8) -> usize
     }
 }
 
-// TP-User-Data as a record holds them: how many octets there are, and the octets.
-// An array with its length: there is no heap, and a length past the array is what refusal 1 is of.
-#[derive(Clone, Copy, Debug)]
-pub struct UserData {
-    pub length: usize,
-    pub octets: [u8; 255],
-}
-
-// Octets as a record holds them.
-pub fn data_with(octets: &[u8]) -> UserData
-    requires { length octets.now ≤ 255 }
-    ensures { result ≡ data_with octets.now }
-{
-    UserData {
-        length: octets.len(),
-        octets: octets::stored_octets(octets),
-    }
-}
-
-// No user data.
-pub fn no_data() -> UserData
-    ensures { result ≡ data_with [] }
-{
-    UserData {
-        length: 0,
-        octets: [0u8; 255],
-    }
-}
+// TP-User-Data as a record holds them.
+pub type UserData = Held<255>;
 
 // The octets that user data may have in a ported writer.
 pub const MAX_USER_DATA_OCTETS: usize = 140;

@@ -11,11 +11,10 @@ use borrow.Author.Tests.{le-leb, leb-true, eq-eqb, eqb-true}
 use lib.Dec.{leb, eqb}
 use lib.ListN.{length, take, drop, length-append, length-drop, length-map}
 use lib.Seq.{length-take-le, take_at, drop_at, take-add}
-use Rattle.std.specs.Prelude.{if◌then◌else◌, Ok}
+use Rattle.std.specs.Prelude.{if◌then◌else◌}
 use Rattle.octets.specs.Each.{Octets, each}
 use Rattle.octets.specs.Lent.{made}
 use Rattle.octets.specs.declared.Refusal.TheVariants.{LengthTooLarge, StringsTooLarge, BlockNotWhole}
-use Rattle.octets.specs.Answers.{Said}
 use Rattle.octets.specs.Checks.{◌unless◌}
 use Rattle.octets.proofs.Choice.{and_true}
 use Rattle.octets.proofs.Each.{octets_drop}

@@ -30,8 +30,8 @@ module _ (ns : List ℕ) (i : ℕ) where
   places_inside s h l k p = omega (arith, s.each k (omega (arith, at_most_at 255 ns h i)), place_inside ns i k l p)
 
   -- so that the places can be raised
-  pub places_raised : {body : ℕ} {places : List ℕ} → Starts ns body i places → AtMost 255 ns → i < length ns → body + sum ns < 2 ^ 64 → (length places ≡ 255) × (get_or ns i 0 ≤ 255) × ((k : ℕ) → k < get_or ns i 0 → get_or places k 0 + 1 < 2 ^ 64)
-  places_raised s h l room = (s.size, at_most_at 255 ns h i, λ k p. omega (arith, room, places_inside s h l k p))
+  pub places_raised : {body : ℕ} {places : List ℕ} → Starts ns body i places → AtMost 255 ns → i < length ns → body + sum ns < 2 ^ 64 → (get_or ns i 0 ≤ 255) × ((k : ℕ) → k < get_or ns i 0 → get_or places k 0 + 1 < 2 ^ 64)
+  places_raised s h l room = (at_most_at 255 ns h i, λ k p. omega (arith, room, places_inside s h l k p))
 
 -- ---- taken from the columns
 

@@ -19,6 +19,13 @@ pub struct Strings {
     pub octets: usize,
 }
 
+// The lengths of strings that a block can hold: at most 1,000, of at most 255 octets.
+#[derive(Clone, Copy)]
+struct Lengths<'a> {
+    each: &'a [usize],
+    ghost few: { allowed each.now ≡ true },
+}
+
 // How many groups a number of at most two has.
 fn groups_of(n: usize) -> usize
     requires { n < 16384 }
@@ -27,8 +34,7 @@ fn groups_of(n: usize) -> usize
     if n < 128 { 1 } else { 2 }
 }
 
-// How many octets strings of these lengths have together, and how many the lengths take in a block, where there are at
-// most 1,000 of at most 255 octets.
+// How many octets strings of these lengths have together, and how many the lengths take in a block that can hold them.
 fn sizes_of(lengths: &[usize]) -> Result<(usize, usize), Refusal>
     ensures { result ≡ sizes_of lengths.now }
 {
@@ -60,12 +66,12 @@ fn put_number(out: &mut [u8], at: usize, n: usize) -> usize
 }
 
 // Writes the lengths from `at` on; the place after them.
-fn put_numbers(out: &mut [u8], at: usize, lengths: &[usize]) -> usize
-    requires { (allowed lengths.now ≡ true) × (at + length (numbers lengths.now) ≤ length out.old) }
-    ensures { Wrote at (numbers lengths.now) out.old result out.new }
+fn put_numbers(out: &mut [u8], at: usize, lengths: Lengths<'_>) -> usize
+    requires { at + length (numbers lengths.each.now) ≤ length out.old }
+    ensures { Wrote at (numbers lengths.entry.each.now) out.old result out.new }
 {
     let mut place = at;
-    for &n in lengths {
+    for &n in lengths.each {
         place = put_number(out, place, n);
     }
     place
@@ -73,7 +79,7 @@ fn put_numbers(out: &mut [u8], at: usize, lengths: &[usize]) -> usize
 
 // Raises the first `n` places by one.
 fn raise(places: &mut [usize; 255], n: usize)
-    requires { (length places.old ≡ 255) × (n ≤ 255) × ((k : ℕ) → k < n → get_or places.old k 0 + 1 < 2 ^ 64) }
+    requires { (n ≤ 255) × ((k : ℕ) → k < n → get_or places.old k 0 + 1 < 2 ^ 64) }
     ensures { Raised n places.old places.new }
 {
     for place in &mut places[..n] {
@@ -81,19 +87,20 @@ fn raise(places: &mut [usize; 255], n: usize)
     }
 }
 
-// How many octets each column has.
-fn count_octets(lengths: &[usize], counts: &mut [usize; 255])
-    requires { (allowed lengths.now ≡ true) × (length counts.old ≡ 255) × ((k : ℕ) → get_or counts.old k 0 ≡ 0) }
-    ensures { (length counts.new ≡ 255) × ((k : ℕ) → get_or counts.new k 0 ≡ longer_than k lengths.now) }
+// How many octets each column has. Here and below as in header_elements, whose counts are `u8`: one generic function would
+// need a trait of additions that don't overflow.
+fn count_octets(lengths: Lengths<'_>, counts: &mut [usize; 255])
+    requires { (k : ℕ) → get_or counts.old k 0 ≡ 0 }
+    ensures { (k : ℕ) → get_or counts.new k 0 ≡ longer_than k lengths.entry.each.now }
 {
-    for &n in lengths {
+    for &n in lengths.each {
         raise(counts, n);
     }
 }
 
 // Puts in each count's place where its column starts, the first at `body`.
 fn sum_up(counts: &mut [usize; 255], body: usize)
-    requires { (length counts.old ≡ 255) × (body + sum counts.old < 2 ^ 64) }
+    requires { body + sum counts.old < 2 ^ 64 }
     ensures { SummedUp body counts.old counts.new }
 {
     let mut place = body;
@@ -105,9 +112,9 @@ fn sum_up(counts: &mut [usize; 255], body: usize)
 }
 
 // Where each column starts, the first at `body`.
-fn column_starts(lengths: &[usize], body: usize) -> [usize; 255]
-    requires { (allowed lengths.now ≡ true) × (body + sum lengths.now < 2 ^ 64) }
-    ensures { Starts lengths.now body 0 result }
+fn column_starts(lengths: Lengths<'_>, body: usize) -> [usize; 255]
+    requires { body + sum lengths.each.now < 2 ^ 64 }
+    ensures { Starts lengths.entry.each.now body 0 result }
 {
     let mut starts = [0usize; 255];
     count_octets(lengths, &mut starts);
@@ -117,22 +124,23 @@ fn column_starts(lengths: &[usize], body: usize) -> [usize; 255]
 
 // Writes a string's octets, each to the place of its column.
 fn put_string(octets: &[u8], at: usize, n: usize, places: &[usize; 255], out: &mut [u8])
-    requires { (length places.now ≡ 255) × (n ≤ 255) × (at + n ≤ length octets.now) × ((k : ℕ) → k < n → get_or places.now k 0 < length out.old) }
+    requires { (n ≤ 255) × (at + n ≤ length octets.now) × ((k : ℕ) → k < n → get_or places.now k 0 < length out.old) }
     ensures { out.new ≡ scattered n places.now (drop at octets.now) out.old }
 {
+    // By the index: a zip of places and octets takes 31% longer.
     for (k, place) in places[..n].iter().enumerate() {
         out[*place] = octets[at + k];
     }
 }
 
 // Writes the columns of strings that lie end to end, from `body` on; the place after them.
-fn put_strings(octets: &[u8], lengths: &[usize], out: &mut [u8], body: usize) -> usize
-    requires { (allowed lengths.now ≡ true) × (sum lengths.now ≤ length octets.now) × (body + sum lengths.now ≤ length out.old) }
-    ensures { Wrote body (columns 255 (strings_in lengths.now octets.now)) out.old result out.new }
+fn put_strings(octets: &[u8], lengths: Lengths<'_>, out: &mut [u8], body: usize) -> usize
+    requires { (sum lengths.each.now ≤ length octets.now) × (body + sum lengths.each.now ≤ length out.old) }
+    ensures { Wrote body (columns 255 (strings_in lengths.entry.each.now octets.now)) out.old result out.new }
 {
     let mut places = column_starts(lengths, body);
     let mut at = 0;
-    for &n in lengths {
+    for &n in lengths.each {
         put_string(octets, at, n, &places, out);
         raise(&mut places, n);
         at += n;
@@ -152,6 +160,7 @@ pub fn to_columns(octets: &[u8], lengths: &[usize], out: &mut [u8]) -> Result<us
         return Err(Refusal::OutputTooShort);
     }
     let next = put_number(out, 0, lengths.len());
+    let lengths = Lengths { each: lengths };
     let body = put_numbers(out, next, lengths);
     Ok(put_strings(octets, lengths, out, body))
 }
@@ -161,17 +170,11 @@ pub fn to_columns(octets: &[u8], lengths: &[usize], out: &mut [u8]) -> Result<us
 fn number_at(block: &[u8], at: usize) -> Option<(usize, usize)>
     ensures { NumberAs block.now at result }
 {
-    if block.len() <= at {
-        return None;
-    }
-    let first = block[at] as usize;
+    let first = *block.get(at)? as usize;
     if first < 128 {
         return Some((first, at + 1));
     }
-    if block.len() - at < 2 {
-        return None;
-    }
-    let second = block[at + 1] as usize;
+    let second = *block.get(at + 1)? as usize;
     if second == 0 {
         return None;
     }
@@ -189,9 +192,7 @@ fn measure(block: &[u8], at: usize, count: usize) -> Option<(usize, usize)>
     let mut total = 0;
     let mut place = at;
     for _ in 0..count {
-        let Some((n, next)) = number_at(block, place) else {
-            return None;
-        };
+        let (n, next) = number_at(block, place)?;
         if 255 < n {
             return None;
         }
@@ -218,9 +219,10 @@ fn put_lengths(block: &[u8], at: usize, count: usize, lengths: &mut [usize])
 
 // Writes a string from `at` on, each octet from the place of its column; the place after it.
 fn take_string(block: &[u8], places: &[usize; 255], n: usize, octets: &mut [u8], at: usize) -> usize
-    requires { (length places.now ≡ 255) × (n ≤ 255) × (at + n ≤ length octets.old) × ((k : ℕ) → k < n → get_or places.now k 0 < length block.now) }
+    requires { (n ≤ 255) × (at + n ≤ length octets.old) × ((k : ℕ) → k < n → get_or places.now k 0 < length block.now) }
     ensures { Wrote at (picked n places.now block.now) octets.old result octets.new }
 {
+    // By the index: nothing can be proved of what a zip of iter_mut wrote.
     for (k, place) in places[..n].iter().enumerate() {
         octets[at + k] = block[*place];
     }
@@ -228,13 +230,13 @@ fn take_string(block: &[u8], places: &[usize; 255], n: usize, octets: &mut [u8],
 }
 
 // Writes the strings whose columns start at `body`, end to end; the place after them.
-fn take_strings(block: &[u8], body: usize, lengths: &[usize], octets: &mut [u8]) -> usize
-    requires { (allowed lengths.now ≡ true) × (body + sum lengths.now ≡ length block.now) × (sum lengths.now ≤ length octets.old) }
-    ensures { Wrote 0 (joined (dealt 255 lengths.now (drop body block.now))) octets.old result octets.new }
+fn take_strings(block: &[u8], body: usize, lengths: Lengths<'_>, octets: &mut [u8]) -> usize
+    requires { (body + sum lengths.each.now ≡ length block.now) × (sum lengths.each.now ≤ length octets.old) }
+    ensures { Wrote 0 (joined (dealt 255 lengths.entry.each.now (drop body block.now))) octets.old result octets.new }
 {
     let mut places = column_starts(lengths, body);
     let mut at = 0;
-    for &n in lengths {
+    for &n in lengths.each {
         at = take_string(block, &places, n, octets, at);
         raise(&mut places, n);
     }
@@ -249,15 +251,11 @@ pub fn from_columns(
 ) -> Result<Strings, Refusal>
     ensures { (result, octets.new, lengths.new) ≡ lend_both (reading block.now) octets.old lengths.old }
 {
-    let Some((count, at)) = number_at(block, 0) else {
-        return Err(Refusal::BlockNotWhole);
-    };
+    let (count, at) = number_at(block, 0).ok_or(Refusal::BlockNotWhole)?;
     if 1000 < count {
         return Err(Refusal::BlockNotWhole);
     }
-    let Some((total, body)) = measure(block, at, count) else {
-        return Err(Refusal::BlockNotWhole);
-    };
+    let (total, body) = measure(block, at, count).ok_or(Refusal::BlockNotWhole)?;
     if block.len() - body != total {
         return Err(Refusal::BlockNotWhole);
     }
@@ -268,7 +266,10 @@ pub fn from_columns(
         return Err(Refusal::OutputTooShort);
     }
     put_lengths(block, at, count, lengths);
-    take_strings(block, body, &lengths[..count], octets);
+    let held = Lengths {
+        each: &lengths[..count],
+    };
+    take_strings(block, body, held, octets);
     Ok(Strings {
         strings: count,
         octets: total,

@@ -10,7 +10,7 @@ fn write<R: Print>(rt: &R, octets: &[u8], lengths: &[usize], out: &mut [u8]) -> 
     print!(rt; "{} for the block: ", out.len())?;
     match tpdu::to_columns(octets, lengths, out) {
         Ok(n) => println!(rt; "{n} octets"),
-        Err(why) => println!(rt; "refused {}", why.number()),
+        Err(why) => println!(rt; "{why}"),
     }
 }
 
@@ -29,18 +29,13 @@ fn read<R: Print>(
     print!(rt; "and {} lengths: ", lengths.len())?;
     match tpdu::from_columns(block, octets, lengths) {
         Ok(read) => println!(rt; "{} strings, {} octets", read.strings, read.octets),
-        Err(why) => println!(rt; "refused {}", why.number()),
+        Err(why) => println!(rt; "{why}"),
     }
 }
 
 // Says four octets.
 fn say_octets<R: Print>(rt: &R, what: &str, a: u8, b: u8, c: u8, d: u8) -> io::Result<()> {
     println!(rt; "{what} {a} {b} {c} {d}")
-}
-
-// The first n octets.
-fn first(octets: &[u8], n: usize) -> &[u8] {
-    &octets[..n.min(octets.len())]
 }
 
 // One octet too few is lent, then one too few for the block; then a string has 256 octets.
@@ -52,7 +47,8 @@ fn not_written<R: Print>(
 ) -> io::Result<()> {
     let mut less = [0u8; 257001];
     let long = [256usize; 1];
-    write(rt, first(octets, 254999), lengths, block)?;
+    let fewer = octets.get(..254999).unwrap_or_default();
+    write(rt, fewer, lengths, block)?;
     write(rt, octets, lengths, &mut less)?;
     write(rt, octets, &long, block)
 }
@@ -66,7 +62,8 @@ fn not_read<R: Print>(
 ) -> io::Result<()> {
     let mut less = [0u8; 254999];
     let mut fewer = [0usize; 999];
-    read(rt, first(block, 257001), octets, lengths)?;
+    let cut = block.get(..257001).unwrap_or_default();
+    read(rt, cut, octets, lengths)?;
     read(rt, block, &mut less, lengths)?;
     read(rt, block, octets, &mut fewer)
 }

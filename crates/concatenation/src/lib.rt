@@ -4,7 +4,6 @@
 ghost use Rattle.std.specs.Prelude.{◌≡◌, ◌+◌, ◌<◌, ◌≤◌, [], length};
 ghost use Rattle.octets.specs.Lent.{lend, Wrote};
 ghost use Rattle.septets.specs.Septets.{Digits, header_septets};
-ghost use Rattle.gsm7.specs.Internal.{Codes};
 ghost use Rattle.gsm7.specs.Writing.{septets_of};
 ghost use Rattle.concatenation.specs.Cutting.{parts_of};
 ghost use Rattle.concatenation.specs.Messages.{message, numbered, concatenating};
@@ -28,37 +27,16 @@ struct Counted {
 }
 
 // Stores the septets of the part that starts at `from`, as many as it can hold, at the array's start.
-fn store_part(
-    table: &[u8; 256],
-    text: &[u8],
-    from: usize,
-    codes: &mut [u8; 255],
-) -> Result<(usize, usize), Refusal>
-    requires { Codes table.now × (from < length text.now) × (length codes.old ≡ 255) }
+fn store_part(text: &[u8], from: usize, codes: &mut [u8; 255]) -> Result<(usize, usize), Refusal>
+    requires { (from < length text.now) × (length codes.old ≡ 255) }
     ensures { StoredAs text.now from codes.new result }
 {
     let mut count = 0;
     let mut i = from;
     // A `while`: a character is one to three octets of the text, so no range counts them.
     while i < text.len() {
-        let octet = text[i];
-        if octet < 0x80 {
-            let code = table[octet as usize];
-            if code < 128 {
-                if 152 < count {
-                    break;
-                }
-                codes[count] = code;
-                count += 1;
-                i += 1;
-                continue;
-            }
-        }
         let (c, width) = gsm7::encode::character_at(text, i)?;
-        let next = gsm7::encode::add_character(table, codes, count, c);
-        if next == count {
-            return Err(Refusal::NotInAlphabet);
-        }
+        let next = gsm7::encode::add_character(codes, count, c).ok_or(Refusal::NotInAlphabet)?;
         if 153 < next {
             break;
         }
@@ -69,8 +47,7 @@ fn store_part(
 }
 
 // How many parts a text is cut into, and how many septets they have.
-fn count_parts(table: &[u8; 256], text: &[u8]) -> Result<Counted, Refusal>
-    requires { Codes table.now }
+fn count_parts(text: &[u8]) -> Result<Counted, Refusal>
     ensures { result ≡ counted_as (septets_of text.now) }
 {
     let mut codes = [0u8; 255];
@@ -80,7 +57,7 @@ fn count_parts(table: &[u8; 256], text: &[u8]) -> Result<Counted, Refusal>
     let mut from = 0;
     // A `while`: where a part ends is known when it is stored.
     while from < text.len() {
-        let (count, next) = store_part(table, text, from, &mut codes)?;
+        let (count, next) = store_part(text, from, &mut codes)?;
         septets += count;
         parts += 1;
         last = count;
@@ -101,12 +78,12 @@ fn put_message(header: &[u8], codes: &[u8], out: &mut [u8], at: usize) -> usize
     let in_header = septets::header_septets(header.len());
     let data = octets::put_octet(out, at, (in_header + codes.len()) as u8);
     let text = octets::put_octets(out, data, header);
-    septets::pack_octets(codes, in_header * 7 - header.len() * 8, out, text)
+    septets::pack_octets(codes, septets::fill_bits(header.len()), out, text)
 }
 
 // Writes the parts, one after the other; the place after them.
-fn put_parts(table: &[u8; 256], text: &[u8], reference: u8, total: u8, out: &mut [u8]) -> usize
-    requires { Codes table.now × Coded text.now × (total ≡ length (parts_of (codes_of text.now))) × (length (numbered reference total 1 (parts_of (codes_of text.now))) ≤ length out.old) }
+fn put_parts(text: &[u8], reference: u8, total: u8, out: &mut [u8]) -> usize
+    requires { Coded text.now × (total ≡ length (parts_of (codes_of text.now))) × (length (numbered reference total 1 (parts_of (codes_of text.now))) ≤ length out.old) }
     ensures { Wrote 0 (numbered reference total 1 (parts_of (codes_of text.now))) out.old result out.new }
 {
     let mut codes = [0u8; 255];
@@ -115,7 +92,7 @@ fn put_parts(table: &[u8; 256], text: &[u8], reference: u8, total: u8, out: &mut
     let mut number = 0;
     // A `while`: as in `count_parts`.
     while from < text.len() {
-        let Ok((count, next)) = store_part(table, text, from, &mut codes) else {
+        let Ok((count, next)) = store_part(text, from, &mut codes) else {
             return at;
         };
         number += 1;
@@ -146,12 +123,11 @@ pub fn pack_gsm7_concatenated(
 ) -> Result<Concatenated, Refusal>
     ensures { (result, out.new) ≡ lend (concatenating reference text.now) out.old }
 {
-    let table = gsm7::encode::CODES;
     let Counted {
         septets,
         parts,
         last,
-    } = count_parts(&table, text)?;
+    } = count_parts(text)?;
     if septets <= 160 {
         if out.len() < 1 + (septets * 7 + 7) / 8 {
             return Err(Refusal::OutputTooShort);
@@ -170,7 +146,7 @@ pub fn pack_gsm7_concatenated(
     if out.len() < full * 141 + 1 + ((last + 7) * 7 + 7) / 8 {
         return Err(Refusal::OutputTooShort);
     }
-    let octets = put_parts(&table, text, reference, parts as u8, out);
+    let octets = put_parts(text, reference, parts as u8, out);
     Ok(Concatenated {
         octets,
         messages: parts,

@@ -6,14 +6,14 @@ use Rattle.layout.specs.Layout.{Layout, Reached, read, answer}
 use Rattle.submit.specs.Submit as Submit
 use Rattle.submit.specs.declared.SubmitRead.{SubmitRead}
 use Rattle.deliver.specs.Deliver as Deliver
-use Rattle.deliver.specs.declared.DeliverRead.{DeliverRead}
+use Rattle.deliver.specs.Deliver.{DeliverRead}
 use Rattle.parameters.specs.declared.RpOutcome.TheVariants.{RpAck, RpError}
 use Rattle.submit_report.specs.SubmitReport as SubmitReport
-use Rattle.submit_report.specs.declared.SubmitReportRead.{SubmitReportRead}
+use Rattle.submit_report.specs.SubmitReport.{SubmitReportRead}
 use Rattle.deliver_report.specs.DeliverReport as DeliverReport
-use Rattle.deliver_report.specs.declared.DeliverReportRead.{DeliverReportRead}
+use Rattle.deliver_report.specs.DeliverReport.{DeliverReportRead}
 use Rattle.status_report.specs.StatusReport as StatusReport
-use Rattle.status_report.specs.declared.StatusReportRead.{StatusReportRead}
+use Rattle.status_report.specs.StatusReport.{StatusReportRead}
 
 -- what a layout's reader finds from a place on; past the end there are no octets
 abbrev pub from : {R : Type 0} → Layout R → List ℕ → ℕ → Reached R

@@ -13,12 +13,14 @@ use Rattle.std.specs.Prelude.{if◌then◌else◌}
 use Rattle.octets.specs.Each.{Octets}
 use Rattle.octets.specs.Lent.{Making, refused, made}
 use Rattle.octets.specs.declared.Refusal.TheVariants.{LengthTooLarge, WrongMessageType, NotATime, UserDataTooLong, AddressTooLong}
+use Rattle.octets.specs.Held.{holding, filled}
+use Rattle.octets.proofs.Holding.{filled_holding, holding_cleared}
 use Rattle.octets.proofs.Checks.{check_holds, no_checks}
 use Rattle.octets.proofs.Laws.{take_cleared}
-use Rattle.coding.specs.Coding.{coding_of, data_octets, data_checks, data_with, data_of}
-use Rattle.coding.proofs.Laws.{data_held, data_at_most, data_limit, data_cleared}
-use Rattle.time.specs.Time.{is_time, time_digits, time_in, digits_of}
-use Rattle.time.proofs.Laws.{octets_back, digits_time, length_digits, time_held, time_cleared}
+use Rattle.coding.specs.Coding.{coding_of, data_octets, data_checks}
+use Rattle.coding.proofs.Laws.{data_at_most, data_limit}
+use Rattle.time.specs.Time.{is_time, time_digits, time_in}
+use Rattle.time.proofs.Laws.{octets_back, digits_time, length_digits}
 use Rattle.address.specs.Writing.{address_checks}
 use Rattle.address.specs.Address.{canonical_address, text_held}
 use Rattle.address.proofs.Laws.{address_cleared, canonical_reads, octets_again, length_short, read_checked, Field as AddressField}
@@ -39,8 +41,8 @@ of_cleared : (r : SmsDeliver) → Typed r → delivering (cleared r) ≡ deliver
 unfolding delivering
 of_cleared r (a, t, d) =
     rw (
-      take_cleared 290 r.tp_originating_address.address_length r.tp_originating_address.address a,
-      take_cleared 14 r.tp_service_centre_timestamp.length r.tp_service_centre_timestamp.digits t,
+      take_cleared 290 r.tp_originating_address.address.length r.tp_originating_address.address.octets a,
+      take_cleared 14 r.tp_service_centre_timestamp.length r.tp_service_centre_timestamp.octets t,
       take_cleared 255 r.tp_user_data.length r.tp_user_data.octets d,
     )
 
@@ -51,7 +53,7 @@ written_alike r q f g e = sym (of_cleared r f) ∙ ap delivering e ∙ of_cleare
 -- a record that was made of fields is cleared
 pub made_cleared : (x : Fields) → cleared (delivered x) ≡ delivered x
 unfolding delivered
-made_cleared x = rw (address_cleared x.oa, time_cleared x.scts, data_cleared x.ud)
+made_cleared x = rw (address_cleared x.oa, holding_cleared 14 (time_digits x.scts), holding_cleared 255 x.ud)
 
 -- ---- a record that was read: its octets, and how its checks fare
 
@@ -65,29 +67,29 @@ module _ (x : ℕ) (mti : eqb (message_type (kept bits x)) 0 ≡ true) (f : List
 
   its_octets : octets_of r ≡ octets
   unfolding delivered
-  its_octets = rw (canonical_reads f wf, ap (λ n. first_octet n (flags_in bits (kept bits x))) (sym (eqb-true _ 0 mti)) ∙ told_first bits refl x, octets_again f wf, time_held t, octets_back t ot, data_held d)
+  its_octets = rw (canonical_reads f wf, ap (λ n. first_octet n (flags_in bits (kept bits x))) (sym (eqb-true _ 0 mti)) ∙ told_first bits refl x, octets_again f wf, filled_holding 14 (time_digits t), octets_back t ot, filled_holding 255 d)
 
   -- what its checks come to
   abbrev answered : List ℕ → Making ℕ
   answered xs = if ltb 140 (length d) then refused UserDataTooLong else if ltb 12 (length (canonical_address f)) then refused AddressTooLong else made xs (length xs)
 
   abbrev later : List Check
-  later = address_checks r.tp_originating_address.ton r.tp_originating_address.npi (text_held r.tp_originating_address) ++ (NotATime unless is_time (digits_of r.tp_service_centre_timestamp)) ∷ []
+  later = address_checks r.tp_originating_address.ton r.tp_originating_address.npi (text_held r.tp_originating_address) ++ (NotATime unless is_time (filled r.tp_service_centre_timestamp)) ∷ []
 
-  its_checks : (xs : List ℕ) → checked (data_checks dcs udl (length (data_of r.tp_user_data)) ++ later) xs ≡ answered xs
+  its_checks : (xs : List ℕ) → checked (data_checks dcs udl (length (filled r.tp_user_data)) ++ later) xs ≡ answered xs
   unfolding delivered
   its_checks xs =
-      rw (data_held d)
+      rw (filled_holding 255 d)
       (data_limit dcs udl (length d) wd later xs
-      ∙ rw (canonical_reads f wf, read_checked f wf ((NotATime unless is_time (digits_of (time_in t))) ∷ []) xs, time_held t, check_holds (digits_time t ot (sym wt)) NotATime [] xs, no_checks))
+      ∙ rw (canonical_reads f wf, read_checked f wf ((NotATime unless is_time (filled (time_in t))) ∷ []) xs, filled_holding 14 (time_digits t), check_holds (digits_time t ot (sym wt)) NotATime [] xs, no_checks))
 
   its_making : delivering r ≡ answered octets
-  unfolding delivering delivered time_in data_with
+  unfolding delivering delivered holding
   its_making =
       let short : length (time_digits t) ≤ 14 = omega (arith, length_digits t) in
       let few : length d ≤ 255 = omega (arith, data_at_most (coding_of dcs) udl) in
       check_holds (fits r (rw (canonical_reads f wf) (length_short f wf)) short few) LengthTooLarge _ (octets_of r)
-      ∙ check_holds mti WrongMessageType (data_checks dcs udl (length (data_of r.tp_user_data)) ++ later) (octets_of r)
+      ∙ check_holds mti WrongMessageType (data_checks dcs udl (length (filled r.tp_user_data)) ++ later) (octets_of r)
       ∙ its_checks (octets_of r) ∙ ap answered its_octets
 
 delivered_makes : Makes (Writes cleared delivering octets_of) format

@@ -3,3 +3,4 @@ pub mod FieldByField
 pub mod RecordWritten
 pub mod RecordRead
 pub mod Demand
+pub mod Blank

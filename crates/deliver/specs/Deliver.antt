@@ -3,17 +3,16 @@ use Rattle.std.specs.Prelude.{ℕ, Bool, false, List, [], ◌∷◌, ◌++◌, e
 use Rattle.octets.specs.Checks.{◌unless◌, checked, all_fit}
 use Rattle.octets.specs.Lent.{Making}
 use Rattle.octets.specs.declared.Refusal.TheVariants.{LengthTooLarge, WrongMessageType, NotATime}
-use Rattle.coding.specs.Coding.{data_checks, data_with, data_of, cleared_data, TypedData}
-use Rattle.coding.specs.declared.UserData.{UserData}
+use Rattle.octets.specs.Held.{holding, filled, cleared_held, TypedHeld}
+use Rattle.coding.specs.Coding.{data_checks, UserData}
 use Rattle.gsm7.specs.Reading.{replaced_in_all}
-use Rattle.time.specs.Time.{is_time, time_in, time_octets, digits_of, cleared_time, capital_time, TypedTime}
-use Rattle.time.specs.declared.Time.{Time}
+use Rattle.time.specs.Time.{is_time, time_in, time_octets, capital_time, Time}
 use Rattle.address.specs.Address.{address_in, address_with, septets_read, text_held, cleared_address, TypedAddress}
 use Rattle.address.specs.Writing.{address_octets, octets_or, address_checks}
 use Rattle.address.specs.declared.SMSAddress.{SMSAddress}
 use Rattle.layout.specs.Layout.{Format, Layout, plain, done, ◌then◌, address as addressKind, is_set, message_type, first_octet, cut}
+use Rattle.layout.specs.declared.MessageRead.{MessageRead}
 use Rattle.deliver.specs.Layout.{Fields, fields}
-use Rattle.deliver.specs.declared.DeliverRead.{DeliverRead}
 use Rattle.deliver.specs.declared.SmsDeliver.{SmsDeliver}
 
 -- ---- reading
@@ -32,7 +31,7 @@ delivered x = record {
   tp_dcs = x.dcs;
   tp_service_centre_timestamp = time_in x.scts;
   tp_user_data_length = x.udl;
-  tp_user_data = data_with x.ud;
+  tp_user_data = holding 255 x.ud;
 }
 
 -- the layout of fields, and the record
@@ -56,14 +55,18 @@ blank = record {
   tp_dcs = 0;
   tp_service_centre_timestamp = time_in [];
   tp_user_data_length = 0;
-  tp_user_data = data_with [];
+  tp_user_data = holding 255 [];
 }
 
 -- what is read as text in a string: the originating address, after the first octet, where its type is 5. User data stay octets
 abbrev pub texts_read : List ℕ → SmsDeliver → List (List ℕ)
 texts_read s r = septets_read (cut addressKind (drop 1 s)) ∷ []
 
--- what the reader gives of a string, of its record and of the place reached: the record, and beside it how many escapes were replaced
+-- what the reader gives
+abbrev pub DeliverRead : Type 0
+DeliverRead = MessageRead SmsDeliver
+
+-- of a string, of its record and of the place reached: the record, and beside it how many escapes were replaced
 abbrev pub read_with : List ℕ → SmsDeliver → ℕ → DeliverRead
 read_with s r at = record { message = r; replaced_escapes = replaced_in_all (texts_read s r) }
 
@@ -71,7 +74,7 @@ read_with s r at = record { message = r; replaced_escapes = replaced_in_all (tex
 
 -- the lengths of a record, each with the size of its array
 abbrev pub lengths_of : SmsDeliver → List (ℕ × ℕ)
-lengths_of r = (r.tp_originating_address.address_length, 290) ∷ (r.tp_service_centre_timestamp.length, 14) ∷ (r.tp_user_data.length, 255) ∷ []
+lengths_of r = (r.tp_originating_address.address.length, 290) ∷ (r.tp_service_centre_timestamp.length, 14) ∷ (r.tp_user_data.length, 255) ∷ []
 
 -- its flags, each with its bit
 abbrev pub flags_of : SmsDeliver → List (ℕ × Bool)
@@ -81,15 +84,15 @@ flags_of r = (7, r.tp_rp) ∷ (6, r.tp_udhi) ∷ (5, r.tp_sri) ∷ (3, r.tp_lp) 
 abbrev pub octets_of : SmsDeliver → List ℕ
 octets_of r =
     let a = r.tp_originating_address in
-    first_octet 0 (flags_of r) ∷ (octets_or [] (address_octets a.ton a.npi (text_held a)) ++ (r.tp_pid ∷ r.tp_dcs ∷ (time_octets (digits_of r.tp_service_centre_timestamp) ++ (r.tp_user_data_length ∷ data_of r.tp_user_data))))
+    first_octet 0 (flags_of r) ∷ (octets_or [] (address_octets a.ton a.npi (text_held a)) ++ (r.tp_pid ∷ r.tp_dcs ∷ (time_octets (filled r.tp_service_centre_timestamp) ++ (r.tp_user_data_length ∷ filled r.tp_user_data))))
 
 -- what the writer makes of it: refusals 1, 3, 7 and 8 of the data, 9 to 11 of the address, and 12
 unfoldable pub delivering : SmsDeliver → Making ℕ
 delivering r =
     let a = r.tp_originating_address in
     checked
-    ((LengthTooLarge unless all_fit (lengths_of r)) ∷ (WrongMessageType unless eqb r.tp_mti 0) ∷ (data_checks r.tp_dcs r.tp_user_data_length (length (data_of r.tp_user_data))
-    ++ (address_checks a.ton a.npi (text_held a) ++ ((NotATime unless is_time (digits_of r.tp_service_centre_timestamp)) ∷ []))))
+    ((LengthTooLarge unless all_fit (lengths_of r)) ∷ (WrongMessageType unless eqb r.tp_mti 0) ∷ (data_checks r.tp_dcs r.tp_user_data_length (length (filled r.tp_user_data))
+    ++ (address_checks a.ton a.npi (text_held a) ++ ((NotATime unless is_time (filled r.tp_service_centre_timestamp)) ∷ []))))
     (octets_of r)
 
 -- ---- what is no part of a record
@@ -113,7 +116,7 @@ changed address time user_data r = record {
 
 -- what lies after a length set to zero: records are equal where these are
 abbrev pub cleared : SmsDeliver → SmsDeliver
-cleared = changed cleared_address cleared_time cleared_data
+cleared = changed cleared_address cleared_held cleared_held
 
 -- the time's letters capital
 abbrev pub capitalised : SmsDeliver → SmsDeliver
@@ -121,4 +124,4 @@ capitalised = changed (λ a. a) capital_time (λ d. d)
 
 -- the arrays have the lengths of their types
 abbrev pub Typed : SmsDeliver → Type 0
-Typed r = TypedAddress r.tp_originating_address × TypedTime r.tp_service_centre_timestamp × TypedData r.tp_user_data
+Typed r = TypedAddress r.tp_originating_address × TypedHeld r.tp_service_centre_timestamp × TypedHeld r.tp_user_data

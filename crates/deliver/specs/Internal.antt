@@ -1,8 +1,9 @@
 -- What only functions of this crate say to each other: the rest of the layout from a field on, fields by their places in a string, and values that are written.
-use Rattle.std.specs.Prelude.{ℕ, ◌+◌, ◌≤◌, ◌≡◌, List, [], ◌∷◌, ◌++◌, eqb, length, take, drop, Ok, Err}
+use Rattle.std.specs.Prelude.{ℕ, ◌+◌, ◌≤◌, ◌≡◌, List, [], ◌∷◌, ◌++◌, length, take, drop, Ok, Err}
 use Rattle.octets.specs.Answers.{Said}
-use Rattle.octets.specs.Checks.{Check, ◌unless◌}
-use Rattle.octets.specs.declared.Refusal.TheVariants.{WrongMessageType, NotATime}
+use Rattle.octets.specs.Checks.{◌unless◌, checked}
+use Rattle.octets.specs.Lent.{Making}
+use Rattle.octets.specs.declared.Refusal.TheVariants.{NotATime}
 use Rattle.coding.specs.Coding.{coding_of, data_octets, data_checks}
 use Rattle.time.specs.Time.{is_time, time_octets}
 use Rattle.address.specs.Address.{address_size, canonical_address}
@@ -10,6 +11,7 @@ use Rattle.address.specs.Writing.{address_octets, octets_or, address_checks}
 use Rattle.layout.specs.Layout.{Format, Reached, reached, halted, field, one, time, done, address as addressKind, user_data, kept, cut}
 use Rattle.deliver.specs.Layout.{Fields, bits}
 use Rattle.deliver.specs.declared.reading.DeliverFields.{DeliverFields}
+use Rattle.deliver.specs.declared.writing.DeliverValues.{DeliverValues}
 
 -- ---- reading
 
@@ -49,13 +51,13 @@ abbrev pub Inside : List ℕ → ℕ → DeliverFields → Type 0
 Inside s at p =
     (p.address + address_size (drop p.address s) ≤ length s) × (p.timestamp + 7 ≤ length s) × (reached_at p ≤ length s) × (p.octets ≤ 255) × (p.address ≡ at)
 
--- ---- writing
-
--- the checks of values, in document 01's order
-unfoldable pub checks_in : ℕ → ℕ → ℕ → List ℕ → ℕ → List ℕ → ℕ → List ℕ → List Check
-checks_in mti ton npi text dcs digits udl ud =
-    (WrongMessageType unless eqb mti 0) ∷ (data_checks dcs udl (length ud) ++ (address_checks ton npi text ++ ((NotATime unless is_time digits) ∷ [])))
+-- ---- writing: values, the address's type, plan and text, the time's digits, the user data
 
 -- their octets, in the layout's order
-unfoldable pub octets_in : ℕ → ℕ → ℕ → List ℕ → ℕ → ℕ → List ℕ → ℕ → List ℕ → List ℕ
-octets_in first ton npi text pid dcs digits udl ud = first ∷ (octets_or [] (address_octets ton npi text) ++ (pid ∷ dcs ∷ (time_octets digits ++ (udl ∷ ud))))
+abbrev pub octets_in : DeliverValues → ℕ → ℕ → List ℕ → List ℕ → List ℕ → List ℕ
+octets_in v ton npi text digits ud = v.first ∷ (octets_or [] (address_octets ton npi text) ++ (v.pid ∷ v.dcs ∷ (time_octets digits ++ (v.udl ∷ ud))))
+
+-- what a writer makes of them, where no length passes its array and the type is DELIVER's
+unfoldable pub making : DeliverValues → ℕ → ℕ → List ℕ → List ℕ → List ℕ → Making ℕ
+making v ton npi text digits ud =
+    checked (data_checks v.dcs v.udl (length ud) ++ (address_checks ton npi text ++ ((NotATime unless is_time digits) ∷ []))) (octets_in v ton npi text digits ud)

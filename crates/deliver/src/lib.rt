@@ -8,17 +8,18 @@ ghost use Rattle.std.specs.Prelude.{◌≡◌};
 ghost use Rattle.octets.specs.Lent.{lend};
 ghost use Rattle.layout.specs.Layout.{read, answer};
 ghost use Rattle.deliver.specs.Internal.{fields_at, reached_at, Inside};
-ghost use Rattle.deliver.specs.Deliver.{delivered, deliver, blank, read_with, delivering};
+ghost use Rattle.deliver.specs.Deliver.{delivered, deliver, read_with, delivering};
 
 use crate::reading::DeliverFields;
+use crate::writing::DeliverValues;
 use address::SMSAddress;
-use address::writing::Number;
 use coding::UserData;
-use layout::MTI_DELIVER;
+use layout::{MTI_DELIVER, MessageRead};
 use octets::Refusal;
 use time::Time;
 
-#[derive(Clone, Copy, Debug)]
+// Its default is the blank message.
+#[derive(Clone, Copy, Debug, Default)]
 pub struct SmsDeliver {
     pub tp_rp: bool,
     pub tp_udhi: bool,
@@ -34,46 +35,8 @@ pub struct SmsDeliver {
     pub tp_user_data: UserData,
 }
 
-// What reading gives: the message, and the number of escapes in its text that led to no character of the extension table.
-#[derive(Clone, Copy, Debug)]
-pub struct DeliverRead {
-    pub message: SmsDeliver,
-    pub replaced_escapes: usize,
-}
-
-// The blank message.
-impl Default for SmsDeliver {
-    ghost is_default = { λ r. r ≡ blank };
-
-    fn default() -> Self {
-        SmsDeliver {
-            tp_rp: false,
-            tp_udhi: false,
-            tp_sri: false,
-            tp_lp: false,
-            tp_mms: false,
-            tp_mti: 0,
-            tp_originating_address: address::no_address(),
-            tp_pid: 0,
-            tp_dcs: 0,
-            tp_service_centre_timestamp: time::no_time(),
-            tp_user_data_length: 0,
-            tp_user_data: coding::no_data(),
-        }
-    }
-}
-
-// The blank message, and nothing replaced.
-impl Default for DeliverRead {
-    ghost is_default = { λ r. r ≡ record { message = blank; replaced_escapes = 0 } };
-
-    fn default() -> Self {
-        DeliverRead {
-            message: SmsDeliver::default(),
-            replaced_escapes: 0,
-        }
-    }
-}
+// What reading gives.
+pub type DeliverRead = MessageRead<SmsDeliver>;
 
 // The message of fields that are there.
 fn message(data: &[u8], f: DeliverFields) -> DeliverRead
@@ -86,7 +49,7 @@ fn message(data: &[u8], f: DeliverFields) -> DeliverRead
     let read = address::address_at(data, f.address);
     let originator = read.address;
     let timestamp = time::time_at(data, f.timestamp);
-    let user_data = coding::data_with(&data[start..end]);
+    let user_data = octets::hold(&data[start..end]);
     DeliverRead {
         message: SmsDeliver {
             tp_rp: first / 128 % 2 == 1,
@@ -111,38 +74,33 @@ impl SmsDeliver {
     pub fn encode(self, out: &mut [u8]) -> Result<usize, Refusal>
         ensures { (result, out.new) ≡ lend (delivering self) out.old }
     {
-        let n = self.tp_originating_address.address_length;
-        let m = self.tp_service_centre_timestamp.length;
-        let k = self.tp_user_data.length;
-        if !((n <= 290) & ((m <= 14) & (k <= 255))) {
+        let fit = self.tp_originating_address.address.fits()
+            & (self.tp_service_centre_timestamp.fits() & self.tp_user_data.fits());
+        if !fit {
             return Err(Refusal::LengthTooLarge);
         }
-        let first = layout::first_octet(
-            MTI_DELIVER,
-            self.tp_rp,
-            self.tp_udhi,
-            self.tp_sri,
-            false,
-            self.tp_lp,
-            self.tp_mms,
-        );
-        let text = self.tp_originating_address.address;
-        let digits = self.tp_service_centre_timestamp.digits;
-        let octets = self.tp_user_data.octets;
-        let number = Number {
-            ton: self.tp_originating_address.ton,
-            npi: self.tp_originating_address.npi,
-            text: &text[..n],
+        if self.tp_mti != MTI_DELIVER {
+            return Err(Refusal::WrongMessageType);
+        }
+        let values = DeliverValues {
+            first: layout::first_octet(
+                MTI_DELIVER,
+                self.tp_rp,
+                self.tp_udhi,
+                self.tp_sri,
+                false,
+                self.tp_lp,
+                self.tp_mms,
+            ),
+            pid: self.tp_pid,
+            dcs: self.tp_dcs,
+            udl: self.tp_user_data_length,
         };
         writing::encode_fields(
-            first,
-            self.tp_mti,
-            number,
-            self.tp_pid,
-            self.tp_dcs,
-            &digits[..m],
-            self.tp_user_data_length,
-            &octets[..k],
+            values,
+            self.tp_originating_address.number(),
+            self.tp_service_centre_timestamp.as_slice(),
+            self.tp_user_data.as_slice(),
             out,
         )
     }

@@ -9,10 +9,10 @@ use borrow.Author.Tests.{le-leb}
 use lib.ListN.{length}
 use Rattle.octets.specs.Checks.{checked}
 use Rattle.octets.specs.Each.{Octets, each}
+use Rattle.octets.specs.Held.{holding}
+use Rattle.octets.proofs.Holding.{filled_holding, holding_cleared}
 use Rattle.octets.proofs.Each.{octets_tested}
 use Rattle.octets.proofs.Laws.{take_cleared}
-use Rattle.coding.specs.Coding.{data_with}
-use Rattle.coding.proofs.Laws.{data_held, data_cleared}
 use Rattle.layout.specs.Demand.{Demand3}
 use Rattle.layout.specs.Layout.{Field, joined, any_past_limit, Format, done, ◌then◌, kept, indicator_size, reached, after, reading, read_from, fields_of, read, canonical_of, unwritable}
 use Rattle.layout.proofs.Demand.{Answers, Stopped, stopped_in_format}
@@ -45,7 +45,7 @@ standard_written_alike r q f g e = written_alike _ r q f g e ∙ ap (λ (o : Sms
 -- a record that was made of fields is cleared
 pub made_cleared : (x : Fields) → cleared (deliver_reported x) ≡ deliver_reported x
 unfolding deliver_reported
-made_cleared x = rw (data_cleared x.parameters.ud)
+made_cleared x = rw (holding_cleared 255 x.parameters.ud)
 
 -- ---- a record that was read
 
@@ -60,11 +60,11 @@ none (y ∷ t) e = absurd (omega arith)
 module _ (outcome : RpOutcome) (x : Fields) (cs : List Field) (h : made.Stands 0 false outcome x cs) where
   held : written (cleared (deliver_reported x)) ≡ octets_of 0 x
   unfolding deliver_reported
-  held = ap written (made_cleared x) ∙ rw (data_held x.parameters.ud, none x.scts h.time_size)
+  held = ap written (made_cleared x) ∙ rw (filled_holding 255 x.parameters.ud, none x.scts h.time_size)
 
   making : deliver_reporting (deliver_reported x) ≡ checked (checks_within 140 true x) (octets_of 0 x)
-  unfolding deliver_reported data_with reportMaking
-  making = by_fields 140 (deliver_reported x) (le-leb (length x.parameters.ud) 255 h.few) h.agrees ∙ rw (data_held x.parameters.ud, none x.scts h.time_size)
+  unfolding deliver_reported holding reportMaking
+  making = by_fields 140 (deliver_reported x) (le-leb (length x.parameters.ud) 255 h.few) h.agrees ∙ rw (filled_holding 255 x.parameters.ud, none x.scts h.time_size)
 
 -- ---- demand 3, and what the writer makes of a record that was read, whatever the buffer
 

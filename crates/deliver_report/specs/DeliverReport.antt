@@ -4,18 +4,18 @@ use Rattle.octets.specs.Answers.{fine}
 use Rattle.octets.specs.Checks.{◌unless◌, found, checked, all_fit}
 use Rattle.octets.specs.Lent.{Making}
 use Rattle.octets.specs.declared.Refusal.TheVariants.{LengthTooLarge, OctetsEnd, WrongMessageType, UserDataTooLong, OutcomeDisagrees}
-use Rattle.coding.specs.Coding.{coding_of, character_set, data_octets, data_with, data_of, cleared_data, TypedData}
-use Rattle.coding.specs.declared.UserData.{UserData}
+use Rattle.octets.specs.Held.{holding, filled, cleared_held, TypedHeld}
+use Rattle.coding.specs.Coding.{coding_of, character_set, data_octets, UserData}
 use Rattle.gsm7.specs.Reading.{replaced_in_all}
 use Rattle.layout.specs.Layout.{indicator_size, kept, Layout, records, stops, reached, halted, after, reading, read_from, read, fields_of, canonical_of}
+use Rattle.layout.specs.declared.MessageRead.{MessageRead}
 use Rattle.parameters.specs.Checking.{data_within}
 use Rattle.parameters.specs.Layout.{parameters}
 use Rattle.parameters.specs.Outcome.{outcome_agrees}
 use Rattle.parameters.specs.declared.RpOutcome.{RpOutcome}
 use Rattle.parameters.specs.declared.RpOutcome.TheVariants.{RpAck, RpError}
-use Rattle.report.specs.Report.{Fields, format, blank as blankFields, stopped as stoppedFields, layout_of as reportLayout, texts_read, octets_of, checks_within}
+use Rattle.report.specs.Report.{Fields, format, blank as blankFields, stopped as stoppedFields, layout_of as reportLayout, texts_read, octets_of, checks_within, standard_limit as limit_of}
 use Rattle.deliver_report.specs.declared.SmsDeliverReport.{SmsDeliverReport}
-use Rattle.deliver_report.specs.declared.DeliverReportRead.{DeliverReportRead}
 
 -- ---- reading
 
@@ -28,7 +28,7 @@ deliver_reported x = record {
   tp_pid = x.parameters.pid;
   tp_dcs = x.parameters.dcs;
   tp_user_data_length = x.parameters.udl;
-  tp_user_data = data_with x.parameters.ud;
+  tp_user_data = holding 255 x.parameters.ud;
   rp_outcome = x.outcome;
 }
 
@@ -51,7 +51,11 @@ known_reports : (read (layout_of RpError) (0x04 ∷ []) ≡ reached stopped 1) �
 unfolding format read read_from reading after stops canonical_of fields_of parameters kept indicator_size coding_of character_set data_octets
 known_reports = (refl, refl, refl, refl, refl, refl)
 
--- what a reader gives of a record: it, and how many escapes in its texts were replaced
+-- what a reader gives
+abbrev pub DeliverReportRead : Type 0
+DeliverReportRead = MessageRead SmsDeliverReport
+
+-- of a record: it, and how many escapes in its texts were replaced
 abbrev pub read_with : List ℕ → SmsDeliverReport → ℕ → DeliverReportRead
 read_with s r at = record { message = r; replaced_escapes = replaced_in_all (texts_read s r) }
 
@@ -65,7 +69,7 @@ fields_in r = record {
   cause = r.tp_failure_cause;
   indicator = r.tp_parameter_indicator;
   scts = [];
-  parameters = record { pid = r.tp_pid; dcs = r.tp_dcs; udl = r.tp_user_data_length; ud = data_of r.tp_user_data };
+  parameters = record { pid = r.tp_pid; dcs = r.tp_dcs; udl = r.tp_user_data_length; ud = filled r.tp_user_data };
 }
 
 -- its lengths, each with the size of its array
@@ -85,8 +89,7 @@ deliver_reporting = deliver_reporting_within 140
 
 -- the limits of the standard's two tables (TS 23.040 §9.2.2.1a): 159 in an RP-ACK, 158 in an RP-ERROR, which a cause means
 abbrev pub standard_limit : Option ℕ → ℕ
-standard_limit None = 159
-standard_limit (Some cause) = 158
+standard_limit = limit_of 159 158
 
 -- the writer to the standard: within these
 abbrev pub deliver_reporting_to_standard : SmsDeliverReport → Making ℕ
@@ -115,7 +118,7 @@ changed user_data outcome r = record {
 
 -- what lies after the user data's length set to zero: records are equal where these are
 abbrev pub cleared : SmsDeliverReport → SmsDeliverReport
-cleared r = changed cleared_data r.rp_outcome r
+cleared r = changed cleared_held r.rp_outcome r
 
 -- two records are equal without their outcomes where they are with another's
 abbrev pub with_outcome : RpOutcome → SmsDeliverReport → SmsDeliverReport
@@ -123,4 +126,4 @@ with_outcome = changed (λ d. d)
 
 -- the array has the length of its type
 abbrev pub Typed : SmsDeliverReport → Type 0
-Typed r = TypedData r.tp_user_data
+Typed r = TypedHeld r.tp_user_data

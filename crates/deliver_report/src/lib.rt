@@ -5,19 +5,21 @@ ghost use Rattle.std.specs.Prelude.{◌≡◌};
 ghost use Rattle.octets.specs.Lent.{lend};
 ghost use Rattle.layout.specs.Layout.{read, answer};
 ghost use Rattle.parameters.specs.declared.RpOutcome.TheVariants.{RpAck, RpError};
-ghost use Rattle.deliver_report.specs.DeliverReport.{blank as blankReport, layout_of, read_with, standard_limit, deliver_reporting_within, deliver_reporting, deliver_reporting_to_standard};
+ghost use Rattle.deliver_report.specs.DeliverReport.{layout_of, read_with, deliver_reporting_within, deliver_reporting, deliver_reporting_to_standard};
 
 use coding::UserData;
-use layout::MTI_DELIVER;
+use layout::{MTI_DELIVER, MessageRead};
 use octets::Refusal;
 use parameters::{ParameterOctets, RpOutcome};
+use report::writing::ReportValues;
 
 // The octets of user data in the standard's tables of a report in an RP-ACK and in an RP-ERROR (TS 23.040 §9.2.2.1a).
 const RP_ACK_USER_DATA_OCTETS: usize = 159;
 
 const RP_ERROR_USER_DATA_OCTETS: usize = 158;
 
-#[derive(Clone, Copy, Debug)]
+// The default is the blank record, which holds RP-ACK whatever the entry point.
+#[derive(Clone, Copy, Debug, Default)]
 pub struct SmsDeliverReport {
     pub tp_udhi: bool,
     pub tp_failure_cause: Option<u8>,
@@ -29,37 +31,15 @@ pub struct SmsDeliverReport {
     pub rp_outcome: RpOutcome,
 }
 
-// The blank record holds RP-ACK, whatever the entry point.
-impl Default for SmsDeliverReport {
-    ghost is_default = { λ r. r ≡ blankReport };
-
-    fn default() -> Self {
-        SmsDeliverReport {
-            tp_udhi: false,
-            tp_failure_cause: None,
-            tp_parameter_indicator: 0,
-            tp_pid: None,
-            tp_dcs: None,
-            tp_user_data_length: None,
-            tp_user_data: coding::no_data(),
-            rp_outcome: RpOutcome::RpAck,
-        }
-    }
-}
-
-// What reading gives: the message, and the number of escapes in its text that led to no character of the extension table. The kind has no text: 0.
-#[derive(Clone, Copy, Debug, Default)]
-pub struct DeliverReportRead {
-    pub message: SmsDeliverReport,
-    pub replaced_escapes: usize,
-}
+// What reading gives; the kind has no text, so no escapes were replaced: 0.
+pub type DeliverReportRead = MessageRead<SmsDeliverReport>;
 
 // The report that a string is, read as one of this outcome.
 fn decode(data: &[u8], rp_outcome: RpOutcome) -> Result<DeliverReportRead, Refusal>
     ensures { result ≡ answer (read_with «data».now) (read (layout_of rp_outcome) «data».now) }
 {
     let f = report::reading::fields_of(data, MTI_DELIVER, false, rp_outcome)?;
-    Ok(DeliverReportRead {
+    Ok(MessageRead {
         message: SmsDeliverReport {
             tp_udhi: f.udhi,
             tp_failure_cause: f.cause,
@@ -67,21 +47,11 @@ fn decode(data: &[u8], rp_outcome: RpOutcome) -> Result<DeliverReportRead, Refus
             tp_pid: f.parameters.pid,
             tp_dcs: f.parameters.dcs,
             tp_user_data_length: f.parameters.udl,
-            tp_user_data: coding::data_with(&data[f.data..f.data + f.octets]),
+            tp_user_data: octets::hold(&data[f.data..f.data + f.octets]),
             rp_outcome: f.rp_outcome,
         },
         replaced_escapes: 0,
     })
-}
-
-// The standard's limit of user data: a cause held means RP-ERROR.
-fn standard_limit(cause: Option<u8>) -> usize
-    ensures { result ≡ standard_limit cause }
-{
-    match cause {
-        None => RP_ACK_USER_DATA_OCTETS,
-        Some(_) => RP_ERROR_USER_DATA_OCTETS,
-    }
 }
 
 impl SmsDeliverReport {
@@ -104,29 +74,24 @@ impl SmsDeliverReport {
     fn encode_within(self, limit: usize, out: &mut [u8]) -> Result<usize, Refusal>
         ensures { (result, out.new) ≡ lend (deliver_reporting_within limit self) out.old }
     {
-        let n = self.tp_user_data.length;
-        if !(n <= 255) {
+        if !self.tp_user_data.fits() {
             return Err(Refusal::LengthTooLarge);
         }
         if !parameters::outcome_agrees(self.rp_outcome, self.tp_failure_cause) {
             return Err(Refusal::OutcomeDisagrees);
         }
-        let octets = self.tp_user_data.octets;
-        report::writing::encode_fields(
-            limit,
-            MTI_DELIVER,
-            self.tp_udhi,
-            self.tp_failure_cause,
-            self.tp_parameter_indicator,
-            None,
-            ParameterOctets {
+        let values = ReportValues {
+            mti: MTI_DELIVER,
+            udhi: self.tp_udhi,
+            cause: self.tp_failure_cause,
+            indicator: self.tp_parameter_indicator,
+            parameters: ParameterOctets {
                 pid: self.tp_pid,
                 dcs: self.tp_dcs,
                 udl: self.tp_user_data_length,
             },
-            &octets[..n],
-            out,
-        )
+        };
+        report::writing::encode_fields(limit, values, None, self.tp_user_data.as_slice(), out)
     }
 
     // Writes the report to the start of a lent output.
@@ -140,6 +105,11 @@ impl SmsDeliverReport {
     pub fn encode_to_standard(self, out: &mut [u8]) -> Result<usize, Refusal>
         ensures { (result, out.new) ≡ lend (deliver_reporting_to_standard self) out.old }
     {
-        self.encode_within(standard_limit(self.tp_failure_cause), out)
+        let limit = report::standard_limit(
+            RP_ACK_USER_DATA_OCTETS,
+            RP_ERROR_USER_DATA_OCTETS,
+            self.tp_failure_cause,
+        );
+        self.encode_within(limit, out)
     }
 }

@@ -15,10 +15,12 @@ use Rattle.octets.specs.Answers.{fine}
 use Rattle.octets.specs.Checks.{Check, ◌unless◌, all_fit}
 use Rattle.octets.specs.Lent.{made}
 use Rattle.octets.specs.declared.Refusal.TheVariants.{LengthTooLarge, WrongMessageType, NotATime}
+use Rattle.octets.specs.Held.{filled}
+use Rattle.octets.proofs.Holding.{held_back}
 use Rattle.octets.proofs.Checks.{never, holds, both_hold, made_told, made_counts, all_fit_lem}
-use Rattle.coding.specs.Coding.{coding_of, data_octets, data_of, data_checks, checked_data}
-use Rattle.coding.proofs.Laws.{data_back, data_passed}
-use Rattle.time.specs.Time.{is_time, time_octets, digits_of}
+use Rattle.coding.specs.Coding.{coding_of, data_octets, data_checks, checked_data}
+use Rattle.coding.proofs.Laws.{data_passed}
+use Rattle.time.specs.Time.{is_time, time_octets}
 use Rattle.time.proofs.Laws.{time_back, time_size}
 use Rattle.address.specs.Writing.{address_octets, octets_or, address_checks}
 use Rattle.address.specs.Address.{text_held}
@@ -44,10 +46,10 @@ module _ (r : SmsDeliver) where
   oa = octets_or [] (address_octets r.tp_originating_address.ton r.tp_originating_address.npi (text_held r.tp_originating_address))
 
   abbrev digits : List ℕ
-  digits = digits_of r.tp_service_centre_timestamp
+  digits = filled r.tp_service_centre_timestamp
 
   abbrev ud : List ℕ
-  ud = data_of r.tp_user_data
+  ud = filled r.tp_user_data
 
   -- the checks that a written record passed
   record Passed (os : List ℕ) : Type 0 where
@@ -111,12 +113,12 @@ module _ {os : List ℕ} {answer : ℕ} (r : SmsDeliver) (e : delivering r ≡ m
       let a = r.tp_originating_address in
       let stamp = r.tp_service_centre_timestamp in
       let d = r.tp_user_data in
-      let la : length (text_held a) ≡ a.address_length = length-take-le a.address_length a.address (omega (arith, ha, fit.0)) in
-      let lt : length (digits_of stamp) ≡ stamp.length = length-take-le stamp.length stamp.digits (omega (arith, ht, fit.1.0)) in
-      let ld : length (data_of d) ≡ d.length = length-take-le d.length d.octets (omega (arith, hd, fit.1.1.0)) in
+      let la : length (text_held a) ≡ a.address.length = length-take-le a.address.length a.address.octets (omega (arith, ha, fit.0)) in
+      let lt : length (filled stamp) ≡ stamp.length = length-take-le stamp.length stamp.octets (omega (arith, ht, fit.1.0)) in
+      let ld : length (filled d) ≡ d.length = length-take-le d.length d.octets (omega (arith, hd, fit.1.1.0)) in
       let tells = first_flag 0 (omega arith) (flags_of r) refl in
       made_cleared _
-      ∙ rw (tells 7 refl, tells 6 refl, tells 5 refl, tells 3 refl, tells 2 refl, first_type 0 (omega arith) (flags_of r) refl, p.mti_is, p.address.back ∙ address_held a la, time_back stamp p.time_is lt, data_back d ld)
+      ∙ rw (tells 7 refl, tells 6 refl, tells 5 refl, tells 3 refl, tells 2 refl, first_type 0 (omega arith) (flags_of r) refl, p.mti_is, p.address.back ∙ address_held a la, time_back stamp p.time_is lt, held_back d ld)
 
 pub deliver_demand2 : Demand2 Typed cleared capitalised (λ r. deliver) delivering (λ r. fine) (λ r. false)
 deliver_demand2 = record {

@@ -14,9 +14,9 @@ use Rattle.octets.specs.Answers.{fine}
 use Rattle.octets.specs.Checks.{◌unless◌, all_fit}
 use Rattle.octets.specs.Lent.{made}
 use Rattle.octets.specs.declared.Refusal.TheVariants.{LengthTooLarge, OutcomeDisagrees}
+use Rattle.octets.specs.Held.{filled}
+use Rattle.octets.proofs.Holding.{held_back}
 use Rattle.octets.proofs.Checks.{holds, made_told, made_counts, all_fit_lem}
-use Rattle.coding.specs.Coding.{data_of}
-use Rattle.coding.proofs.Laws.{data_back}
 use Rattle.layout.specs.Cut.{Cut}
 use Rattle.layout.specs.Demand.{Demand2}
 use Rattle.layout.specs.Layout.{first_octet}
@@ -45,7 +45,7 @@ told limit r os answer e =
     record {
       is = x;
       passed = record { agrees = a; checks = c; time_size = refl };
-      same = λ t. let n : length (data_of d) ≡ d.length = length-take-le d.length d.octets (omega (arith, t, (all_fit_lem (lengths_of r) l).0)) in made_cleared (fields_in r) ∙ rw (data_back d n);
+      same = λ t. let n : length (filled d) ≡ d.length = length-take-le d.length d.octets (omega (arith, t, (all_fit_lem (lengths_of r) l).0)) in made_cleared (fields_in r) ∙ rw (held_back d n);
     }
 
 -- ---- the writer within the limit of each record

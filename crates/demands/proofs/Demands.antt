@@ -16,7 +16,7 @@ use Rattle.std.specs.Prelude.{Ok}
 use Rattle.std.specs.Result.{result_map_both}
 use Rattle.octets.specs.Answers.{fine}
 use Rattle.octets.specs.declared.Refusal.{Refusal}
-use Rattle.coding.specs.Coding.{data_of}
+use Rattle.octets.specs.Held.{filled}
 use Rattle.layout.specs.Cut.{Cut, AnswersCut}
 use Rattle.layout.specs.Demand.{Demand2, Demand3, Answers2, Answers3}
 use Rattle.layout.specs.Layout.{Reached, reached, halted, answer, alone}
@@ -29,24 +29,22 @@ use Rattle.submit.specs.declared.SmsSubmit.{SmsSubmit}
 use Rattle.submit.specs.declared.SubmitRead.{SubmitRead}
 use Rattle.submit.proofs.Demand.{submit_demand3}
 use Rattle.deliver.specs.Deliver as Deliver
+use Rattle.deliver.specs.Deliver.{DeliverRead}
 use Rattle.deliver.specs.declared.SmsDeliver.{SmsDeliver}
-use Rattle.deliver.specs.declared.DeliverRead.{DeliverRead}
 use Rattle.deliver.proofs.Demand.{deliver_demand3}
 use Rattle.submit_report.specs.SubmitReport as SubmitReport
+use Rattle.submit_report.specs.SubmitReport.{SubmitReportRead}
 use Rattle.submit_report.specs.declared.SmsSubmitReport.{SmsSubmitReport}
-use Rattle.submit_report.specs.declared.SubmitReportRead.{SubmitReportRead}
-use Rattle.submit_report.proofs.Demand.{ack_demand3 as submit-ack, error_demand3 as submit-error}
+use Rattle.submit_report.proofs.Demand.{ack_demand3 as submit-ack, error_demand3 as submit-error, outcome_read as submit-outcome}
 use Rattle.submit_report.proofs.Limits.{submit_report_limits}
-use Rattle.submit_report.proofs.Demand.{outcome_read as submit-outcome}
 use Rattle.deliver_report.specs.DeliverReport as DeliverReport
+use Rattle.deliver_report.specs.DeliverReport.{DeliverReportRead}
 use Rattle.deliver_report.specs.declared.SmsDeliverReport.{SmsDeliverReport}
-use Rattle.deliver_report.specs.declared.DeliverReportRead.{DeliverReportRead}
-use Rattle.deliver_report.proofs.Demand.{ack_demand3 as deliver-ack, error_demand3 as deliver-error}
+use Rattle.deliver_report.proofs.Demand.{ack_demand3 as deliver-ack, error_demand3 as deliver-error, outcome_read as deliver-outcome}
 use Rattle.deliver_report.proofs.Limits.{deliver_report_limits}
-use Rattle.deliver_report.proofs.Demand.{outcome_read as deliver-outcome}
 use Rattle.status_report.specs.StatusReport as StatusReport
+use Rattle.status_report.specs.StatusReport.{StatusReportRead}
 use Rattle.status_report.specs.declared.SmsStatusReport.{SmsStatusReport}
-use Rattle.status_report.specs.declared.StatusReportRead.{StatusReportRead}
 use Rattle.status_report.proofs.Demand.{status_report_demand3}
 use Rattle.status_report.proofs.Limits.{status_report_limits}
 use Rattle.demands.specs.Cuts.{cut_after_status, without_indicator}
@@ -182,13 +180,13 @@ pub status_report_standard_answers2 : Answers2 StatusReport.Typed StatusReport.c
 status_report_standard_answers2 = answers2 _ _ _ _ _ _ _ status_report_standard_back (status_report_counts StatusReport.standard_limit)
 
 -- a record that both of a kind's writers accept has equal octets from both, and each accepts exactly those that it would but for the limit
-pub submit_report_alike : Limits SubmitReport.submit_reporting_within (λ r. length (data_of r.tp_user_data))
+pub submit_report_alike : Limits SubmitReport.submit_reporting_within (λ r. length (filled r.tp_user_data))
 submit_report_alike = submit_report_limits
 
-pub deliver_report_alike : Limits DeliverReport.deliver_reporting_within (λ r. length (data_of r.tp_user_data))
+pub deliver_report_alike : Limits DeliverReport.deliver_reporting_within (λ r. length (filled r.tp_user_data))
 deliver_report_alike = deliver_report_limits
 
-pub status_report_alike : Limits StatusReport.status_reporting_within (λ r. length (data_of r.tp_user_data))
+pub status_report_alike : Limits StatusReport.status_reporting_within (λ r. length (filled r.tp_user_data))
 status_report_alike = status_report_limits
 
 -- ---- the outcome in both reports' records: that of the entry point, so that records of one reader are as equal or different as without it

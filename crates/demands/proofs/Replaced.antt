@@ -7,7 +7,8 @@ use mathlib.Core.List.{List, [], ◌∷◌, ◌++◌}
 use Rattle.octets.specs.Answers.{Said}
 use Rattle.octets.specs.Arrays.{pad}
 use Rattle.octets.specs.declared.Refusal.TheVariants.{OctetsEnd}
-use Rattle.coding.specs.Coding.{coding_of, character_set, data_octets, data_with}
+use Rattle.octets.specs.Held.{holding}
+use Rattle.coding.specs.Coding.{coding_of, character_set, data_octets}
 use Rattle.septets.specs.Septets.{number_of, lowest_digits, septets_in, packed_septets}
 use Rattle.gsm7.specs.Alphabet.{row_with, index_of, character, escaped, replaced}
 use Rattle.gsm7.specs.Reading.{utf8, text_of, after_escape, replaced_in, replaced_after, replaced_in_all}
@@ -60,5 +61,5 @@ sum s = answer (λ r at. (Submit.read_with s r at).replaced_escapes) (read Submi
 
 -- "A" after an escape, in 7-bit coding and in 8-bit; after the header 01 1B too
 known_submit : (sum (to 0x01 0x00 0x02 (0x9b ∷ 0x20 ∷ [])) ≡ Ok 2) × (sum (to 0x01 0x04 0x02 (0x9b ∷ 0x20 ∷ [])) ≡ Ok 1) × (sum (to 0x41 0x00 0x05 (0x01 ∷ 0x1b ∷ 0x60 ∷ 0x13 ∷ 0x04 ∷ [])) ≡ Ok 2)
-unfolding read read_from reading after kept Submit.format SubmitLayout.fields Submit.submitted period_size SubmitLayout.header_size in_count coding_of character_set data_octets data_with pad Submit.data_septets septets_read value_septets number_of lowest_digits septets_in replaced_in_all replaced_in replaced_after replaced row_with
+unfolding read read_from reading after kept Submit.format SubmitLayout.fields Submit.submitted period_size SubmitLayout.header_size in_count coding_of character_set data_octets holding pad Submit.data_septets septets_read value_septets number_of lowest_digits septets_in replaced_in_all replaced_in replaced_after replaced row_with
 known_submit = (refl, refl, refl)

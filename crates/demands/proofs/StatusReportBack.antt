@@ -18,10 +18,10 @@ use Rattle.octets.specs.Answers.{fine}
 use Rattle.octets.specs.Checks.{◌unless◌, found, all_fit}
 use Rattle.octets.specs.Lent.{made}
 use Rattle.octets.specs.declared.Refusal.TheVariants.{LengthTooLarge, OctetsEnd, NotATime, ParametersWithoutIndicator}
+use Rattle.octets.specs.Held.{holding, filled, cleared_held}
+use Rattle.octets.proofs.Holding.{held_back}
 use Rattle.octets.proofs.Checks.{never, holds, both_hold, made_told, made_counts, all_fit_lem}
-use Rattle.coding.specs.Coding.{data_with, data_of, cleared_data}
-use Rattle.coding.proofs.Laws.{data_back}
-use Rattle.time.specs.Time.{is_time, time_octets, time_in, digits_of, cleared_time, capital_time}
+use Rattle.time.specs.Time.{is_time, time_octets, time_in, capital_time}
 use Rattle.time.proofs.Laws.{time_back, time_size}
 use Rattle.address.specs.Writing.{address_checks}
 use Rattle.address.specs.Address.{address_in, text_held, cleared_address}
@@ -48,10 +48,10 @@ use Rattle.demands.proofs.ParametersBack.{parameters_endless, indicator_here, no
 
 module _ (r : SmsStatusReport) where
   abbrev stamp : List ℕ
-  stamp = digits_of r.tp_service_centre_timestamp
+  stamp = filled r.tp_service_centre_timestamp
 
   abbrev late : List ℕ
-  late = digits_of r.tp_discharge_time
+  late = filled r.tp_discharge_time
 
   -- the fields up to status, their octets, and those that follow
   abbrev parts : List Field
@@ -200,7 +200,7 @@ unfolding read format
 to_refusal s e = then_ends s fields 0 e (λ x. done (status_reported x))
 
 same_record : (r : SmsStatusReport) (ra scts dt : List ℕ) → address_in ra ≡ cleared_address r.tp_recipient_address
-    → time_in scts ≡ capital_time (cleared_time r.tp_service_centre_timestamp) → time_in dt ≡ capital_time (cleared_time r.tp_discharge_time) → data_with (data_of r.tp_user_data) ≡ cleared_data r.tp_user_data
+    → time_in scts ≡ capital_time (cleared_held r.tp_service_centre_timestamp) → time_in dt ≡ capital_time (cleared_held r.tp_discharge_time) → holding 255 (filled r.tp_user_data) ≡ cleared_held r.tp_user_data
     → status_reported (fields_with (first_octet 2 (flags_of r)) r.tp_mr ra scts dt r.tp_status r.tp_parameter_indicator (parameters_of r)) ≡ capitalised (cleared r)
 unfolding status_reported
 same_record r ra scts dt ea et eu ed =
@@ -235,7 +235,7 @@ module _ {os : List ℕ} {answer : ℕ} (limit : ℕ) (r : SmsStatusReport) (e :
   -- as the same record; and what is read where no indicator follows is the record without it
   record_back : Typed r
       → (cleared (status_reported (fields_of r r.tp_parameter_indicator (parameters_of r))) ≡ capitalised (cleared r)) × (cleared (status_reported (fields_of r None no_parameters)) ≡ capitalised (cleared (without_indicator r)))
-  unfolding data_with
+  unfolding holding
   record_back (ha, ht, hu, hd) =
       let p = passed in
       let a = r.tp_recipient_address in
@@ -243,14 +243,14 @@ module _ {os : List ℕ} {answer : ℕ} (limit : ℕ) (r : SmsStatusReport) (e :
       let l = r.tp_discharge_time in
       let d = r.tp_user_data in
       let fit = all_fit_lem (lengths_of r) p.fit in
-      let la : length (text_held a) ≡ a.address_length = length-take-le a.address_length a.address (omega (arith, ha, fit.0)) in
-      let lt : length (digits_of s) ≡ s.length = length-take-le s.length s.digits (omega (arith, ht, fit.1.0)) in
-      let lu : length (digits_of l) ≡ l.length = length-take-le l.length l.digits (omega (arith, hu, fit.1.1.0)) in
-      let ld : length (data_of d) ≡ d.length = length-take-le d.length d.octets (omega (arith, hd, fit.1.1.1.0)) in
+      let la : length (text_held a) ≡ a.address.length = length-take-le a.address.length a.address.octets (omega (arith, ha, fit.0)) in
+      let lt : length (filled s) ≡ s.length = length-take-le s.length s.octets (omega (arith, ht, fit.1.0)) in
+      let lu : length (filled l) ≡ l.length = length-take-le l.length l.octets (omega (arith, hu, fit.1.1.0)) in
+      let ld : length (filled d) ≡ d.length = length-take-le d.length d.octets (omega (arith, hd, fit.1.1.1.0)) in
       let ea = p.address.back ∙ address_held a la in
       let et = time_back s p.time_is lt in
       let eu = time_back l p.discharge_is lu in
-      (made_cleared _ ∙ same_record r _ _ _ ea et eu (data_back d ld), made_cleared _ ∙ same_record (without_indicator r) _ _ _ ea et eu refl)
+      (made_cleared _ ∙ same_record r _ _ _ ea et eu (held_back d ld), made_cleared _ ∙ same_record (without_indicator r) _ _ _ ea et eu refl)
 
   -- each proper beginning of it is refused with 2, but for that up to status
   cut_back : (k : ℕ) → k < length os → (k ≡ up_to_status r → ⊥) → read status_report (take k os) ≡ halted OctetsEnd

@@ -17,15 +17,15 @@ use Rattle.octets.specs.Choice.{length_if}
 use Rattle.octets.specs.Lent.{made}
 use Rattle.octets.specs.declared.Refusal.{Refusal}
 use Rattle.octets.specs.declared.Refusal.TheVariants.{OctetsEnd}
+use Rattle.octets.specs.Held.{holding, filled, cleared_held, TypedHeld}
+use Rattle.octets.proofs.Holding.{held_back}
 use Rattle.octets.proofs.Checks.{never, made_counts}
 use Rattle.octets.proofs.Laws.{pad_full}
-use Rattle.coding.specs.Coding.{coding_of, data_of, data_with, cleared_data}
+use Rattle.coding.specs.Coding.{coding_of}
 use Rattle.coding.specs.declared.UserDataCoding.{UserDataCoding}
 use Rattle.coding.specs.declared.UserDataCoding.TheVariants.{Gsm7Bit, EightBit, Ucs2, Compressed}
-use Rattle.coding.proofs.Laws.{data_back}
 use Rattle.user_data_header.specs.Header.{in_count}
-use Rattle.time.specs.Time.{time_in, time_digits, capitals, digits_of, cleared_time, capital_time, TypedTime}
-use Rattle.time.specs.declared.Time.{Time}
+use Rattle.time.specs.Time.{time_in, time_digits, capitals, capital_time, Time}
 use Rattle.time.proofs.Laws.{time_back}
 use Rattle.address.specs.Address.{address_in, cleared_address, text_held}
 use Rattle.address.specs.declared.SMSAddress.{SMSAddress}
@@ -94,21 +94,21 @@ format_small ValidityPeriod.Enhanced = omega arith
 
 -- ---- the period, and the digits and octets beside it
 
-period_back : (p : ValidityPeriod) (t : Time) (enhanced : List ℕ) → TypedTime t → length_if (is_absolute p) t.length ≤ 14 → length enhanced ≡ 7 → time_holds p (digits_of t) ≡ true
-    → (let vp = period_octets p (digits_of t) enhanced in
-    (period_in (format_of p) vp ≡ p) × (time_in (of_format 3 (format_of p) vp) ≡ capital_time (if is_absolute p then cleared_time t else time_in [])) × (pad 7 (of_format 1 (format_of p) vp) ≡ (if eqb (format_of p) 1 then enhanced else pad 7 [])))
-unfolding period_in time_in time_digits capitals pad
+period_back : (p : ValidityPeriod) (t : Time) (enhanced : List ℕ) → TypedHeld t → length_if (is_absolute p) t.length ≤ 14 → length enhanced ≡ 7 → time_holds p (filled t) ≡ true
+    → (let vp = period_octets p (filled t) enhanced in
+    (period_in (format_of p) vp ≡ p) × (time_in (of_format 3 (format_of p) vp) ≡ capital_time (if is_absolute p then cleared_held t else time_in [])) × (pad 7 (of_format 1 (format_of p) vp) ≡ (if eqb (format_of p) 1 then enhanced else pad 7 [])))
+unfolding period_in holding time_digits capitals pad
 period_back ValidityPeriod.None t enhanced n few seven h = (refl, refl, refl)
 period_back (ValidityPeriod.Relative x) t enhanced n few seven h = (refl, refl, refl)
-period_back ValidityPeriod.Absolute t enhanced n few seven h = (refl, time_back t h (length-take-le t.length t.digits (omega (arith, n))), refl)
+period_back ValidityPeriod.Absolute t enhanced n few seven h = (refl, time_back t h (length-take-le t.length t.octets (omega (arith, n))), refl)
 period_back ValidityPeriod.Enhanced t enhanced n few seven h = (refl, refl, pad_full 7 enhanced seven)
 
 -- ---- the record that the octets make
 
 same_record : (r : SmsSubmit) (f : ℕ) → Tells r f → r.tp_mti ≡ 1 → {to : SMSAddress} → r.tp_destination_address ≡ Some to → (da vp : List ℕ) → address_in da ≡ cleared_address to → (let p = r.tp_validity_period in
-    period_in (format_in f) vp ≡ p → time_in (of_format 3 (format_in f) vp) ≡ capital_time (if is_absolute p then cleared_time r.validity_period_digits else time_in [])
-    → pad 7 (of_format 1 (format_in f) vp) ≡ (if eqb (format_of p) 1 then r.validity_period_octets else pad 7 []) → data_with (data_of r.tp_user_data_raw) ≡ cleared_data r.tp_user_data_raw
-    → underived (submitted (record { first = f; mr = r.tp_mr; da = da; pid = r.tp_pid; dcs = r.tp_dcs; vp = vp; udl = r.tp_user_data_length; ud = data_of r.tp_user_data_raw })) ≡ capitalised (compared r))
+    period_in (format_in f) vp ≡ p → time_in (of_format 3 (format_in f) vp) ≡ capital_time (if is_absolute p then cleared_held r.validity_period_digits else time_in [])
+    → pad 7 (of_format 1 (format_in f) vp) ≡ (if eqb (format_of p) 1 then r.validity_period_octets else pad 7 []) → holding 255 (filled r.tp_user_data_raw) ≡ cleared_held r.tp_user_data_raw
+    → underived (submitted (record { first = f; mr = r.tp_mr; da = da; pid = r.tp_pid; dcs = r.tp_dcs; vp = vp; udl = r.tp_user_data_length; ud = filled r.tp_user_data_raw })) ≡ capitalised (compared r))
 unfolding submitted
 same_record r f t mti there da vp ea ep et ee ed = rw (t.rp_is, t.udhi_is, t.srr_is, t.rd_is, t.mti_is, mti, ea, ep, et, ee, ed, t.vpf_is, there)
 
@@ -126,9 +126,9 @@ module _ {octets : List ℕ} {answer : ℕ} (r : SmsSubmit) (typed : Typed r) (e
     da = destination_octets r.tp_destination_address;
     pid = r.tp_pid;
     dcs = r.tp_dcs;
-    vp = period_octets r.tp_validity_period (digits_of r.validity_period_digits) r.validity_period_octets;
+    vp = period_octets r.tp_validity_period (filled r.validity_period_digits) r.validity_period_octets;
     udl = r.tp_user_data_length;
-    ud = data_of r.tp_user_data_raw;
+    ud = filled r.tp_user_data_raw;
   }
 
   passed : Passed r octets
@@ -147,7 +147,7 @@ module _ {octets : List ℕ} {answer : ℕ} (r : SmsSubmit) (typed : Typed r) (e
   spelled = destination_spelled passed.there (address_passed _ _ _ passed.address)
 
   period_is : period_size (format_in (first_of r)) ≡ length to_fields.vp
-  period_is = rw format_told (sym (period_size_lem r.tp_validity_period (digits_of r.validity_period_digits) r.validity_period_octets passed.time typed.2))
+  period_is = rw format_told (sym (period_size_lem r.tp_validity_period (filled r.validity_period_digits) r.validity_period_octets passed.time typed.2))
 
   -- it is read as its fields, or as the answer of its header says
   read_back : read submit octets ≡ ends (header_answer r) (submitted to_fields) (length octets)
@@ -165,13 +165,13 @@ module _ {octets : List ℕ} {answer : ℕ} (r : SmsSubmit) (typed : Typed r) (e
       let d = r.tp_user_data_raw in
       let few_digits = p.fits.1.0 in
       let few-data = p.fits.1.1.0 in
-      let few : to.address_length ≤ 290 = rw p.there at p.fits.0 in
-      let long : length to.address ≡ 290 = (rw p.there at typed.0) in
-      let la : length (text_held to) ≡ to.address_length = length-take-le to.address_length to.address (omega arith) in
-      let ld : length (data_of d) ≡ d.length = length-take-le d.length d.octets (omega (arith, typed.3)) in
+      let few : to.address.length ≤ 290 = rw p.there at p.fits.0 in
+      let long : length to.address.octets ≡ 290 = (rw p.there at typed.0) in
+      let la : length (text_held to) ≡ to.address.length = length-take-le to.address.length to.address.octets (omega arith) in
+      let ld : length (filled d) ≡ d.length = length-take-le d.length d.octets (omega (arith, typed.3)) in
       let (period, digits, enhanced) = period_back r.tp_validity_period r.validity_period_digits r.validity_period_octets typed.1 few_digits typed.2 p.time in
       ap underived (made_cleared to_fields)
-      ∙ same_record r (first_of r) told p.mti_is p.there _ _ (spelled.back ∙ address_held to la) (rw format_told period) (rw format_told digits) (rw format_told enhanced) (data_back d ld)
+      ∙ same_record r (first_of r) told p.mti_is p.there _ _ (spelled.back ∙ address_held to la) (rw format_told period) (rw format_told digits) (rw format_told enhanced) (held_back d ld)
 
 -- without UDHI nothing is said of a header
 no_header : (coding : UserDataCoding) (udl : ℕ) → in_count coding udl 0 ≡ true
@@ -187,7 +187,7 @@ only_udhi r why e = by r.tp_udhi refl
   where
     by : (b : Bool) → r.tp_udhi ≡ b → r.tp_udhi ≡ true
     by true u = u
-    by false u = absurd (never (rw (u, le-leb 0 (length (data_of r.tp_user_data_raw)) (omega arith), no_header (coding_of r.tp_dcs) r.tp_user_data_length) at e))
+    by false u = absurd (never (rw (u, le-leb 0 (length (filled r.tp_user_data_raw)) (omega arith), no_header (coding_of r.tp_dcs) r.tp_user_data_length) at e))
 
 pub submit_demand2 : Demand2 Typed compared capitalised (λ r. submit) submitting header_answer (λ r. r.tp_udhi)
 submit_demand2 = record {

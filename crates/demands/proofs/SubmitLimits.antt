@@ -11,8 +11,8 @@ use lib.ListN.{length, length-append}
 use Rattle.std.specs.Prelude.{if◌then◌else◌, Option}
 use Rattle.octets.specs.Each.{Octets}
 use Rattle.octets.specs.Lent.{made}
+use Rattle.octets.specs.Held.{holding, filled}
 use Rattle.coding.specs.Coding.{coding_of}
-use Rattle.time.specs.Time.{digits_of}
 use Rattle.address.specs.Address.{text_held}
 use Rattle.address.specs.declared.SMSAddress.{SMSAddress}
 use Rattle.address.proofs.Checks.{checks_passed}
@@ -23,12 +23,12 @@ use Rattle.validity_period.specs.Validity.{format_of, period_size}
 use Rattle.validity_period.proofs.Period.{period_size_lem}
 use Rattle.submit.specs.declared.SmsSubmit.{SmsSubmit}
 use Rattle.submit.specs.Layout.{header_size, bits, fields}
-use Rattle.submit.specs.Submit.{text_with, submitted, format, submit, destination_octets, submitting, Typed}
+use Rattle.submit.specs.Submit.{submitted, format, submit, destination_octets, submitting, Typed}
 use Rattle.submit.proofs.CheckByCheck.{all_passed}
 use Rattle.submit.proofs.Text.{readable_short}
 
 short : Makes (λ (r : SmsSubmit) (cs : List Field). r.tp_user_data.length ≤ 510) format
-unfolding format fields submitted text_with
+unfolding format fields submitted holding
 short x lx m mr lmr a wa pid lpid dcs ldcs vp ovp nvp udl ludl ud oud nud fits counted =
     readable_short (coding_of dcs) udl (header_size (is_set 6 (kept bits x)) ud) ud (omega arith) (leb-true _ _ fits) counted (sym nud)
 
@@ -57,6 +57,6 @@ pub at_most : {octets : List ℕ} {answer : ℕ} (r : SmsSubmit) → Typed r →
 at_most r typed e =
     let p = all_passed r e in
     let to = p.destination in
-    let vp = period_size_lem r.tp_validity_period (digits_of r.validity_period_digits) r.validity_period_octets p.time typed.2 in
+    let vp = period_size_lem r.tp_validity_period (filled r.validity_period_digits) r.validity_period_octets p.time typed.2 in
     let size = ap (λ (o : Option SMSAddress). length (destination_octets o)) p.there in
     rw (← p.octets_are) (simp length-append (omega (arith, p.few, size, checks_passed to.ton to.npi (text_held to) p.address, vp, at_most_seven (format_of r.tp_validity_period))))

@@ -17,10 +17,10 @@ use Rattle.octets.specs.Checks.{◌unless◌, all_fit}
 use Rattle.octets.specs.Choice.{flag}
 use Rattle.octets.specs.Lent.{made}
 use Rattle.octets.specs.declared.Refusal.TheVariants.{LengthTooLarge, UdhiTooLarge, NotATime, OutcomeDisagrees}
+use Rattle.octets.specs.Held.{filled}
+use Rattle.octets.proofs.Holding.{held_back}
 use Rattle.octets.proofs.Checks.{holds, both_hold, made_told, made_counts, all_fit_lem}
-use Rattle.coding.specs.Coding.{data_of}
-use Rattle.coding.proofs.Laws.{data_back}
-use Rattle.time.specs.Time.{is_time, digits_of}
+use Rattle.time.specs.Time.{is_time}
 use Rattle.time.proofs.Laws.{time_back, time_size}
 use Rattle.layout.specs.Cut.{Cut}
 use Rattle.layout.specs.Demand.{Demand2}
@@ -54,21 +54,21 @@ told limit r os answer e =
     let stamp = r.tp_service_centre_timestamp in
     let d = r.tp_user_data in
     let last = data_within limit p.dcs p.udl (length p.ud) in
-    let of_Fields = checks_within limit (is_time (digits_of stamp)) (fields_in r) in
+    let of_Fields = checks_within limit (is_time (filled stamp)) (fields_in r) in
     let (f, x) = made_told _ _ e in
     let (l, g) = holds LengthTooLarge (all_fit (lengths_of r)) ((OutcomeDisagrees unless outcome_agrees r.rp_outcome r.tp_failure_cause) ∷ (UdhiTooLarge unless leb r.tp_udhi 1) ∷ of_Fields) f in
     let (a, h) = holds OutcomeDisagrees (outcome_agrees r.rp_outcome r.tp_failure_cause) ((UdhiTooLarge unless leb r.tp_udhi 1) ∷ of_Fields) g in
     let (u, c) = holds UdhiTooLarge (leb r.tp_udhi 1) of_Fields h in
-    let (i, k) = both_hold (indicator_checks r.tp_parameter_indicator p.pid p.dcs p.udl) ((NotATime unless is_time (digits_of stamp)) ∷ last) c in
-    let t = (holds NotATime (is_time (digits_of stamp)) last k).0 in
+    let (i, k) = both_hold (indicator_checks r.tp_parameter_indicator p.pid p.dcs p.udl) ((NotATime unless is_time (filled stamp)) ∷ last) c in
+    let t = (holds NotATime (is_time (filled stamp)) last k).0 in
     let (m, (n, z)) = all_fit_lem (lengths_of r) l in
     record {
       is = x;
-      passed = record { agrees = a; checks = rw t at c; time_size = sym (time_size (digits_of stamp) t) };
+      passed = record { agrees = a; checks = rw t at c; time_size = sym (time_size (filled stamp) t) };
       same = λ typed.
-          let lt : length (digits_of stamp) ≡ stamp.length = length-take-le stamp.length stamp.digits (omega (arith, typed.0, m)) in
-          let ld : length (data_of d) ≡ d.length = length-take-le d.length d.octets (omega (arith, typed.1, n)) in
-          made_cleared (fields_in r) ∙ rw (udhi_again r.tp_udhi (leb-true _ _ u), time_back stamp t lt, data_back d ld);
+          let lt : length (filled stamp) ≡ stamp.length = length-take-le stamp.length stamp.octets (omega (arith, typed.0, m)) in
+          let ld : length (filled d) ≡ d.length = length-take-le d.length d.octets (omega (arith, typed.1, n)) in
+          made_cleared (fields_in r) ∙ rw (udhi_again r.tp_udhi (leb-true _ _ u), time_back stamp t lt, held_back d ld);
     }
 
 -- ---- the writer within the limit of each record

@@ -4,7 +4,7 @@ use Rattle.std.proofs.Math.Option as Math
 use Rattle.std.proofs.Math.Option.{none, some}
 use Rattle.octets.specs.Each.{each}
 use Rattle.octets.specs.SemiOctets.{in_pairs}
-use Rattle.coding.specs.Coding.{data_with}
+use Rattle.octets.specs.Held.{holding}
 use Rattle.address.specs.Address.{address_with, text_held}
 use Rattle.address.specs.Writing.{address_octets, octets_or}
 use Rattle.status_report.specs.StatusReport.{blank}
@@ -42,10 +42,10 @@ without_indicator r = record {
   tp_pid = None;
   tp_dcs = None;
   tp_user_data_length = None;
-  tp_user_data = data_with [];
+  tp_user_data = holding 255 [];
 }
 
 -- a report with an address without digits, 00 80, has 19 octets up to status; without an indicator none is cut there
 known_cuts : (up_to_status blank ≡ 19) × (cut_after_status blank ≡ none)
-unfolding up_to_status blank address_with address_octets each in_pairs
+unfolding up_to_status blank address_with address_octets each in_pairs holding
 known_cuts = (refl, refl)

@@ -10,9 +10,9 @@ use crate::lines::{
 };
 use crate::user_data::{optional_user_data, user_data};
 use output::Output;
+use request_line::readers::{Reader, read_deliver_report, read_submit_report};
 use tpdu::{
-    DeliverReportRead, Refusal, RpOutcome, SMSAddress, SmsDeliver, SmsDeliverReport,
-    SmsStatusReport, SmsSubmit, SmsSubmitReport, SubmitReportRead, Time, ValidityPeriod,
+    Refusal, RpOutcome, SMSAddress, SmsDeliver, SmsStatusReport, SmsSubmit, Time, ValidityPeriod,
 };
 use wording::labels::Label;
 
@@ -27,7 +27,7 @@ fn stand_ins(out: &mut Output, in_data: usize, counted: usize) {
     stand_ins_line(out, in_data.min(MOST_REPLACED) + counted.min(MOST_REPLACED));
 }
 
-pub fn show_deliver(octets: &[u8], out: &mut Output) -> Result<(), Refusal> {
+fn deliver(out: &mut Output, octets: &[u8]) -> Result<(), Refusal> {
     out.put(b"SMS-DELIVER\n");
     let read = SmsDeliver::decode(octets)?;
     let message = read.message;
@@ -82,7 +82,7 @@ fn before_user_data(out: &mut Output, message: SmsSubmit) {
 }
 
 // The reader has counted its user data too.
-pub fn show_submit(octets: &[u8], out: &mut Output) -> Result<(), Refusal> {
+fn submit(out: &mut Output, octets: &[u8]) -> Result<(), Refusal> {
     out.put(b"SMS-SUBMIT\n");
     let read = tpdu::decode_sms_submit_tpdu(octets)?;
     let message = read.message;
@@ -114,13 +114,10 @@ fn heading(out: &mut Output, kind: &str, outcome: RpOutcome) {
     }
 }
 
-// What a reader of reports gives. The outcome is the one that the record holds; a refusal has no record, and then it is
-// the one that was asked for.
-fn submit_report(
-    out: &mut Output,
-    asked: RpOutcome,
-    read: Result<SubmitReportRead, Refusal>,
-) -> Result<(), Refusal> {
+// The outcome of a report is the one that its record holds; a refusal has no record, and then it is the one that was
+// asked for.
+fn submit_report(out: &mut Output, octets: &[u8], asked: RpOutcome) -> Result<(), Refusal> {
+    let read = read_submit_report(octets, asked);
     let outcome = read.map_or(asked, |read| read.message.rp_outcome);
     heading(out, "SMS-SUBMIT-REPORT", outcome);
     let read = read?;
@@ -138,11 +135,8 @@ fn submit_report(
     Ok(())
 }
 
-fn deliver_report(
-    out: &mut Output,
-    asked: RpOutcome,
-    read: Result<DeliverReportRead, Refusal>,
-) -> Result<(), Refusal> {
+fn deliver_report(out: &mut Output, octets: &[u8], asked: RpOutcome) -> Result<(), Refusal> {
+    let read = read_deliver_report(octets, asked);
     let outcome = read.map_or(asked, |read| read.message.rp_outcome);
     heading(out, "SMS-DELIVER-REPORT", outcome);
     let read = read?;
@@ -166,7 +160,7 @@ fn fate(out: &mut Output, sent: Time, done: Time, status: u8) {
     status_line(out, status);
 }
 
-pub fn show_status_report(octets: &[u8], out: &mut Output) -> Result<(), Refusal> {
+fn status_report(out: &mut Output, octets: &[u8]) -> Result<(), Refusal> {
     out.put(b"SMS-STATUS-REPORT\n");
     let read = SmsStatusReport::decode(octets)?;
     let message = read.message;
@@ -189,31 +183,18 @@ pub fn show_status_report(octets: &[u8], out: &mut Output) -> Result<(), Refusal
     Ok(())
 }
 
-// ---- the reports, by the outcome that their reader is asked for
+// ---- any message
 
-pub fn show_submit_report_ack(octets: &[u8], out: &mut Output) -> Result<(), Refusal> {
-    let read = SmsSubmitReport::decode_for_rp_ack(octets);
-    submit_report(out, RpOutcome::RpAck, read)
-}
-
-pub fn show_submit_report_error(octets: &[u8], out: &mut Output) -> Result<(), Refusal> {
-    let read = SmsSubmitReport::decode_for_rp_error(octets);
-    submit_report(out, RpOutcome::RpError, read)
-}
-
-pub fn show_deliver_report_ack(octets: &[u8], out: &mut Output) -> Result<(), Refusal> {
-    let read = SmsDeliverReport::decode_for_rp_ack(octets);
-    deliver_report(out, RpOutcome::RpAck, read)
-}
-
-pub fn show_deliver_report_error(octets: &[u8], out: &mut Output) -> Result<(), Refusal> {
-    let read = SmsDeliverReport::decode_for_rp_error(octets);
-    deliver_report(out, RpOutcome::RpError, read)
-}
-
-// ---- refusals
-
-// What is shown after the kind of a message whose reader gives no record.
-pub fn show_refusal(refusal: Refusal, out: &mut Output) {
-    refused_line(out, refusal);
+// A message in several lines; after its kind, why its reader gives no record.
+pub fn show_message(reader: Reader, octets: &[u8], out: &mut Output) {
+    let shown = match reader {
+        Reader::Deliver => deliver(out, octets),
+        Reader::Submit => submit(out, octets),
+        Reader::SubmitReport(asked) => submit_report(out, octets, asked),
+        Reader::DeliverReport(asked) => deliver_report(out, octets, asked),
+        Reader::StatusReport => status_report(out, octets),
+    };
+    if let Err(why) = shown {
+        refused_line(out, why);
+    }
 }

@@ -1,9 +1,8 @@
 // User data shown: the coding, the header with its elements if there is one, and the text, or the data as they are.
 use crate::lines::{coding_line, octets_line, unread_line, utf8_line, utf16_line};
 use output::Output;
-use text_fields::slices::first;
-use tpdu::{UserData, UserDataCoding};
-use wording::elements::put_elements;
+use tpdu::{Refusal, UserData, UserDataCoding};
+use wording::elements::put_lines;
 use wording::labels::Label;
 
 // ---- headers
@@ -13,7 +12,7 @@ fn header_lines(out: &mut Output, header: &[u8]) {
     match tpdu::read_header_elements(header) {
         Ok(elements) => {
             octets_line(out, Label::Header, header);
-            put_elements(out, elements, true);
+            put_lines(out, &elements);
         }
         Err(why) => unread_line(out, Label::Header, header, why),
     }
@@ -21,32 +20,17 @@ fn header_lines(out: &mut Output, header: &[u8]) {
 
 // ---- 7-bit coding: each gives how many escapes were replaced in the text
 
-// The text, or the data that it couldn't be read from.
-fn septets(out: &mut Output, udl: u8, data: &[u8]) -> usize {
-    match tpdu::unpack_gsm7(data, usize::from(udl)) {
-        Ok(read) => {
-            utf8_line(out, first(&read.text, read.text_length));
-            read.replaced_escapes
-        }
-        Err(why) => {
-            unread_line(out, Label::Data, data, why);
-            0
-        }
-    }
+fn septets(out: &mut Output, udl: u8, data: &[u8]) -> Result<usize, Refusal> {
+    let read = tpdu::unpack_gsm7(data, usize::from(udl))?;
+    utf8_line(out, read.text.as_slice());
+    Ok(read.replaced_escapes)
 }
 
-fn header_and_septets(out: &mut Output, udl: u8, data: &[u8]) -> usize {
-    match tpdu::unpack_gsm7_with_header(data, usize::from(udl)) {
-        Ok(read) => {
-            header_lines(out, first(&read.header, read.header_length));
-            utf8_line(out, first(&read.text, read.text_length));
-            read.replaced_escapes
-        }
-        Err(why) => {
-            unread_line(out, Label::Data, data, why);
-            0
-        }
-    }
+fn header_and_septets(out: &mut Output, udl: u8, data: &[u8]) -> Result<usize, Refusal> {
+    let read = tpdu::unpack_gsm7_with_header(data, usize::from(udl))?;
+    header_lines(out, read.header.as_slice());
+    utf8_line(out, read.text.as_slice());
+    Ok(read.replaced_escapes)
 }
 
 // ---- other codings
@@ -79,31 +63,28 @@ fn header_and_text(
     coding: UserDataCoding,
     udl: u8,
     data: &[u8],
-) -> usize {
+) -> Result<usize, Refusal> {
     match (coding, udhi) {
-        (UserDataCoding::Gsm7Bit, true) => header_and_septets(out, udl, data),
-        (UserDataCoding::Gsm7Bit, false) => septets(out, udl, data),
-        (_, true) => {
-            header_and_octets(out, coding, data);
-            0
-        }
-        (_, false) => {
-            whole_octets(out, coding, data);
+        (UserDataCoding::Gsm7Bit, true) => return header_and_septets(out, udl, data),
+        (UserDataCoding::Gsm7Bit, false) => return septets(out, udl, data),
+        (_, true) => header_and_octets(out, coding, data),
+        (_, false) => whole_octets(out, coding, data),
+    }
+    Ok(0)
+}
+
+// The coding, and what is in the data, or the data that their text can't be read from; how many escapes were replaced in
+// their text.
+pub fn user_data(out: &mut Output, udhi: bool, dcs: u8, udl: u8, data: UserData) -> usize {
+    coding_line(out, dcs);
+    let octets = data.as_slice();
+    match header_and_text(out, udhi, tpdu::user_data_coding(dcs), udl, octets) {
+        Ok(replaced) => replaced,
+        Err(why) => {
+            unread_line(out, Label::Data, octets, why);
             0
         }
     }
-}
-
-// The coding, and what is in the data; how many escapes were replaced in their text.
-pub fn user_data(out: &mut Output, udhi: bool, dcs: u8, udl: u8, data: UserData) -> usize {
-    coding_line(out, dcs);
-    header_and_text(
-        out,
-        udhi,
-        tpdu::user_data_coding(dcs),
-        udl,
-        first(&data.octets, data.length),
-    )
 }
 
 // The user data of a report; without TP-UDL, the coding alone, if it is held. No TP-DCS means 0.

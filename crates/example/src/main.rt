@@ -5,15 +5,6 @@
 use std::io;
 use tpdu::{Refusal, SMSAddress, SmsDeliver, SmsSubmit, UserData};
 
-// The first n octets of an array: what lies after its length is not held by a record.
-fn first(octets: &[u8], n: usize) -> &[u8] {
-    &octets[..n.min(octets.len())]
-}
-
-fn say_refusal<R: Print>(rt: &R, why: Refusal) -> io::Result<()> {
-    println!(rt; "refused {}", why.number())
-}
-
 // Says octets in hexadecimal.
 fn say_hex<R: Print>(rt: &R, octets: &[u8]) -> io::Result<()> {
     for octet in octets {
@@ -23,18 +14,18 @@ fn say_hex<R: Print>(rt: &R, octets: &[u8]) -> io::Result<()> {
 }
 
 fn say_number<R: Print>(rt: &R, sender: SMSAddress) -> io::Result<()> {
-    rt.write_all(first(&sender.address, sender.address_length))?;
+    rt.write_all(sender.address.as_slice())?;
     rt.write_all(b": ")
 }
 
 // Says the text of user data in 7-bit coding, or why there is none.
 fn say_text<R: Print>(rt: &R, data: UserData, septets: u8) -> io::Result<()> {
-    match tpdu::unpack_gsm7(first(&data.octets, data.length), septets as usize) {
+    match tpdu::unpack_gsm7(data.as_slice(), septets as usize) {
         Ok(read) => {
-            rt.write_all(first(&read.text, read.text_length))?;
+            rt.write_all(read.text.as_slice())?;
             println!(rt)
         }
-        Err(why) => say_refusal(rt, why),
+        Err(why) => println!(rt; "{why}"),
     }
 }
 
@@ -73,11 +64,11 @@ fn send<R: Print>(
 ) -> io::Result<usize> {
     match write(destination, reference, text, out) {
         Ok(n) => {
-            say_hex(rt, first(out, n))?;
+            say_hex(rt, out.get(..n).unwrap_or_default())?;
             Ok(n)
         }
         Err(why) => {
-            say_refusal(rt, why)?;
+            println!(rt; "{why}")?;
             Ok(0)
         }
     }
@@ -101,7 +92,7 @@ fn read_after<R: Print>(rt: &R, octets: &[u8], count: usize) -> io::Result<usize
             Ok(read.octets_read)
         }
         Err(why) => {
-            say_refusal(rt, why)?;
+            println!(rt; "{why}")?;
             Ok(0)
         }
     }
@@ -112,7 +103,7 @@ fn main(rt: HostRuntime) -> io::Result<()> {
         \x15\x53\x28\x48\x5a\x2c\x32\x67\xa0\xe6\x33\x39\xa5\x56\xa5\x45\xd0\xcd\x55\x03";
     let message = match SmsDeliver::decode(octets) {
         Ok(read) => read.message,
-        Err(why) => return say_refusal(&rt, why),
+        Err(why) => return println!(rt; "{why}"),
     };
     say_number(&rt, message.tp_originating_address)?;
     say_text(&rt, message.tp_user_data, message.tp_user_data_length)?;

@@ -9,14 +9,13 @@ use borrow.Author.Tests.{ltb-true, lt-ltb, le-ltb, ne_eqb}
 use lib.Dec.{ltb}
 use lib.ListN.{get_or}
 use Rattle.octets.specs.Answers.{Said}
-use Rattle.std.specs.Prelude.{if◌then◌else◌, Ok, Err}
-use Rattle.octets.specs.declared.Refusal.TheVariants.{NotInAlphabet}
+use Rattle.std.specs.Prelude.{if◌then◌else◌, None, Some, Option as Maybe}
 use Rattle.octets.proofs.Table.{below}
 use Rattle.gsm7.specs.Alphabet.{alphabet, row_with, index_of}
 use Rattle.gsm7.specs.Writing.{same, code_of, extended_code}
-use Rattle.gsm7.specs.Internal.{entry, Codes}
+use Rattle.gsm7.specs.Internal.{entry_code, single_or}
 use Rattle.gsm7.proofs.Rows.{index_found}
-use Rattle.gsm7.proofs.Tables.{same_code, Ten, ten, ten_or, code_says_lem, extended_says, same_code_lem}
+use Rattle.gsm7.proofs.Tables.{same_code, Ten, ten, code_says_lem, extended_says, same_code_lem}
 
 abbrev pub by_character : List ℕ
 by_character =
@@ -43,22 +42,29 @@ greek =
     0x18 ∷ 0xff ∷ 0xff ∷ 0x12 ∷ 0xff ∷ 0x17 ∷ 0x15 ∷ []
 
 -- a table's entry is right where the test says so
-entry_right : (c x : ℕ) (others : Said (List ℕ)) → Ten others → same_code (code_of c) (entry x others) ≡ true → code_of c ≡ entry x others
-entry_right c x others h = same_code_lem (code_of c) (entry x others) (ten c (code_of c) (code_says_lem c)) (ten_or (ltb x 128) (Ok (x ∷ [])) others tt h)
+abbrev by_entry : ℕ → Said (List ℕ) → Said (List ℕ)
+by_entry x others = single_or (entry_code x) others
+
+ten_single : (o : Maybe ℕ) (others : Said (List ℕ)) → Ten others → Ten (single_or o others)
+ten_single None others t = t
+ten_single (Some k) others t = tt
+
+entry_right : (c x : ℕ) → same_code (code_of c) (by_entry x (extended_code c)) ≡ true → code_of c ≡ by_entry x (extended_code c)
+entry_right c x = same_code_lem (code_of c) (by_entry x (extended_code c)) (ten c (code_of c) (code_says_lem c)) (ten_single (entry_code x) (extended_code c) (ten c (extended_code c) (extended_says c)))
 
 code_test : ℕ → Bool
-code_test c = same_code (code_of c) (entry (get_or by_character c 0) (extended_code c))
+code_test c = same_code (code_of c) (by_entry (get_or by_character c 0) (extended_code c))
 
-pub codes_right : Codes by_character
+pub codes_right : (c : ℕ) → c < 256 → code_of c ≡ single_or (entry_code (get_or by_character c 0)) (extended_code c)
 unfolding code_test code_of extended_code index_of row_with same
-codes_right c h = entry_right c (get_or by_character c 0) (extended_code c) (ten c (extended_code c) (extended_says c)) (below code_test 256 refl c h)
+codes_right c h = entry_right c (get_or by_character c 0) (below code_test 256 refl c h)
 
 greek_test : ℕ → Bool
-greek_test k = same_code (code_of (0x393 + k)) (entry (get_or greek k 0) (Err NotInAlphabet))
+greek_test k = same_code (code_of (0x393 + k)) (by_entry (get_or greek k 0) (extended_code (0x393 + k)))
 
-pub greek_right : (k : ℕ) → k < 23 → code_of (0x393 + k) ≡ entry (get_or greek k 0) (Err NotInAlphabet)
+pub greek_right : (k : ℕ) → k < 23 → code_of (0x393 + k) ≡ single_or (entry_code (get_or greek k 0)) (extended_code (0x393 + k))
 unfolding greek_test code_of extended_code index_of row_with same
-greek_right k h = entry_right (0x393 + k) (get_or greek k 0) (Err NotInAlphabet) refl (below greek_test 23 refl k h)
+greek_right k h = entry_right (0x393 + k) (get_or greek k 0) (below greek_test 23 refl k h)
 
 -- a character of the default alphabet is below 100 or a Greek letter
 abbrev placed : ℕ → Bool

@@ -3,6 +3,7 @@ pub mod Rows
 pub mod TableSizes
 pub mod PlainSeptets
 pub mod Reading
+pub mod Showing
 pub mod DecodingLaws
 pub mod Tables
 pub mod ByCharacter

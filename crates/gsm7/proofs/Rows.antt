@@ -1,7 +1,7 @@
 -- A search of the extension table from the front, by either column; and the places of what is found.
 -- Assumes nothing.
 use Prim.Native.Nat.{ℕ, zero, suc, ◌+◌, ◌<◌, ◌≤◌}
-use mathlib.Core.Path.{◌≡◌, refl}
+use mathlib.Core.Path.{◌≡◌, refl, sym, ◌∙◌}
 use mathlib.Core.Bool.{Bool, true, false}
 use mathlib.Core.List.{List, [], ◌∷◌}
 use mathlib.Core.Option.{Option, none, some}
@@ -12,9 +12,16 @@ use borrow.Author.Tests.{eq-eqb, ne_eqb, eqb-true}
 use lib.Dec.{eqb}
 use lib.ListN.{length, get_or, drop, drop_of_length-le}
 use lib.Seq.{drop-cons}
-use Rattle.std.specs.Prelude.{if◌then◌else◌}
+use denote.Ref.{Bor}
+use Rattle.std.specs.Prelude.{if◌then◌else◌, None, Some, MatchOption, Option as Maybe}
+use Rattle.std.specs.List.{AllWithin, HoldsAt}
 use Rattle.gsm7.specs.declared.decode.Extension.{Extension}
 use Rattle.gsm7.specs.Alphabet.{row, row_with, index_of}
+
+-- what a search for a row gives
+abbrev pub seen : Maybe (Bor Extension) → Option Extension
+seen None = none
+seen (Some e) = some e.now
 
 module _ (column : Extension → ℕ) (x : ℕ) where
   -- what is found from place i on
@@ -31,6 +38,21 @@ module _ (column : Extension → ℕ) (x : ℕ) where
     pub row_end : length es ≤ i → row_with column x (drop i es) ≡ none
     unfolding row_with
     row_end h = rw (drop_of_length-le es h)
+
+  abbrev pub Other : Extension → Type 0
+  Other e = column e ≡ x → ⊥
+
+  row_from : (es : List Extension) (i : ℕ) → i ≤ length es → AllWithin Other es 0 i → row_with column x es ≡ row_with column x (drop i es)
+  row_from es zero h others = refl
+  row_from es (suc i) h others =
+      row_from es i (omega arith) (λ k d l m. others k d l (omega arith))
+      ∙ rw (← add-one) (row_next es i h refl (others i (row 0 0) (omega arith) (omega arith)))
+
+  pub row_found : (es : List Extension) (r : Maybe (Bor Extension))
+      → MatchOption r (AllWithin Other es 0 (length es)) (λ e. (column e.now ≡ x) × (i : ℕ) × (i < length es) × HoldsAt (λ y. y ≡ e.now) es i × AllWithin Other es 0 i)
+      → row_with column x es ≡ seen r
+  row_found es None others = row_from es (length es) (omega arith) others ∙ row_end es (length es) (omega arith)
+  row_found es (Some e) h = row_from es h.1 (omega (arith, h.2)) h.4 ∙ row_here es h.1 h.2 (sym (h.3 (row 0 0))) h.0
 
   -- a row that is found stands in the table, with x in the column
   abbrev pub Stands : List Extension → Option Extension → Type 0

@@ -10,7 +10,7 @@ use lib.Dec.{ltb}
 use lib.ListN.{length, get_or, take, drop, replicate, length-append, drop_of_length-le}
 use lib.Seq.{drop-cons, drop-drop, sets, length-sets}
 use Rattle.octets.specs.Answers.{Said}
-use Rattle.std.specs.Prelude.{if◌then◌else◌, Ok, Err}
+use Rattle.std.specs.Prelude.{if◌then◌else◌, Ok, Err, None, Some, ok_or, Option as Maybe}
 use Rattle.octets.specs.Lent.{Wrote}
 use Rattle.octets.specs.declared.Refusal.{Refusal}
 use Rattle.octets.specs.declared.Refusal.TheVariants.{NotInAlphabet}
@@ -19,7 +19,7 @@ use Rattle.octets.proofs.Checks.{never}
 use Rattle.gsm7.specs.Characters.{Entry, plain, extended, septets_for}
 use Rattle.gsm7.specs.Reading.{utf8}
 use Rattle.gsm7.specs.Writing.{same, code_of, two_octets, three_octets, first_character, before, starting_with, scan}
-use Rattle.gsm7.specs.Internal.{ScannedAs, stored}
+use Rattle.gsm7.specs.Internal.{ScannedAs, AddedAs}
 use Rattle.gsm7.proofs.FirstCharacter.{two, three}
 use Rattle.gsm7.proofs.Tables.{Says, code_says_lem}
 
@@ -80,25 +80,29 @@ module _ {codes after : List ℕ} {count next : ℕ} where
       let q : count + length (ks ++ ss) ≡ next + length ss = rw (w.place, length-append) (omega arith) in
       λ i. some (p i, q i)
 
-  module _ (c : ℕ) (w : Wrote count (stored (code_of c)) codes next after) where
-    -- a character has at most two septets, and none exactly where it has no code
-    abbrev Stored : Said (List ℕ) → Type 0
-    Stored a = Says c a → Wrote count (stored a) codes next after → (next ≤ count + 2) × ((next ≡ count → ⊥) → (ks : List ℕ) × (a ≡ Ok ks) × Wrote count ks codes next after) × (next ≡ count → a ≡ Err NotInAlphabet)
+-- a character that is added has one septet or two; one that is not has none
+abbrev pub Added : Said (List ℕ) → ℕ → ℕ → List ℕ → List ℕ → Type 0
+Added a count next codes after = (ks : List ℕ) × (a ≡ Ok ks) × Wrote count ks codes next after × (count < next) × (next ≤ count + 2)
 
-    by_septets : (a : Said (List ℕ)) → Stored a
-    by_septets (Ok ks) s w =
-        let few = rw s.2 at (entry_few s.0) in
-        (omega (arith, w.place), (λ n. (ks, refl, w)), λ e. absurd (omega (arith, w.place)))
-    by_septets (Err why) s w = (omega (arith, w.place), (λ n. absurd (n (omega (arith, w.place)))), λ e. ap Err s)
+module _ (c count : ℕ) (codes after : List ℕ) where
+  some_by : (next : ℕ) (a : Said (List ℕ)) → Says c a → AddedAs a count (Some next) codes after → Added a count next codes after
+  some_by next (Ok ks) s (n, is, w) =
+      let same : next ≡ n = cc in
+      let few = rw s.2 at (entry_few s.0) in
+      (ks, refl, rw same w, omega (arith, same, w.place), omega (arith, same, w.place))
+  some_by next (Err why) s h = let q = h.0 in let z : ◌≡◌ {A = ℕ} 0 1 = cc in absurd (omega arith)
 
-    pub stored_few : next ≤ count + 2
-    stored_few = (by_septets (code_of c) (code_says_lem c) w).0
+  none_by : (a : Said (List ℕ)) → Says c a → AddedAs a count None codes after → a ≡ Err NotInAlphabet
+  none_by (Ok ks) s h = let q = h.1 in let z : ◌≡◌ {A = ℕ} 0 1 = cc in absurd (omega arith)
+  none_by (Err why) s h = ap Err s
 
-    pub stored_some : (next ≡ count → ⊥) → (ks : List ℕ) × (code_of c ≡ Ok ks) × Wrote count ks codes next after
-    stored_some = (by_septets (code_of c) (code_says_lem c) w).1
+  pub added : (o : Maybe ℕ) → AddedAs (code_of c) count o codes after → {next : ℕ} → Ok next ≡ ok_or o NotInAlphabet → Added (code_of c) count next codes after
+  added None h e = absurd (never e)
+  added (Some n) h {next} e = let same : next ≡ n = cc in rw same (some_by n (code_of c) (code_says_lem c) h)
 
-    pub stored_none : next ≡ count → code_of c ≡ Err NotInAlphabet
-    stored_none = (by_septets (code_of c) (code_says_lem c) w).2
+  pub not_added : (o : Maybe ℕ) → AddedAs (code_of c) count o codes after → {why : Refusal} → Err why ≡ ok_or o NotInAlphabet → (why ≡ NotInAlphabet) × (code_of c ≡ Err NotInAlphabet)
+  not_added None h e = ((cc), none_by (code_of c) (code_says_lem c) h)
+  not_added (Some n) h e = absurd (never (sym e))
 
 module _ (text : List ℕ) (i : ℕ) where
   pub scan_end : length text ≤ i → scan (drop i text) 0 ≡ some []

@@ -76,10 +76,6 @@ pub ten : (c : ℕ) (a : Said (List ℕ)) → Says c a → Ten a
 ten c (Ok ks) s = tt
 ten c (Err why) s = s
 
-pub ten_or : (t : Bool) (a b : Said (List ℕ)) → Ten a → Ten b → Ten (if t then a else b)
-ten_or true a b p q = p
-ten_or false a b p q = q
-
 pub same_code_lem : (a b : Said (List ℕ)) → Ten a → Ten b → same_code a b ≡ true → a ≡ b
 same_code_lem (Ok xs) (Ok ys) p q t = ap Ok (same_is xs ys t)
 same_code_lem (Ok xs) (Err why) p q t = absurd (false≢true t)

@@ -1,6 +1,7 @@
 -- The default alphabet and its extension table (TS 23.038 §6.2.1, §6.2.1.1), as code points.
 use Rattle.std.specs.Prelude.{ℕ, zero, suc, ◌≡◌, refl, List, [], ◌∷◌, get_or, eqb, if◌then◌else◌}
 use Rattle.std.proofs.Math.Option.{Option, none, some}
+use Rattle.std.specs.Prelude.{None, Some, Option as Maybe}
 use Rattle.gsm7.specs.declared.decode.Extension.{Extension}
 
 -- the character of each code from 00 to 7F; the escape, 1B, reads as a space (NOTE 1)
@@ -55,6 +56,15 @@ character_or other (some e) = e.character
 unfoldable pub escaped : ℕ → ℕ
 escaped code = character_or (character code) (row_with (λ (e : Extension). e.code) code extension)
 
+-- the character of a row, where there is one
+abbrev pub character_of : Option Extension → Maybe ℕ
+character_of none = None
+character_of (some e) = Some e.character
+
+-- the character of a code in the extension table; none where the table has no such code
+unfoldable pub extension_character : ℕ → Maybe ℕ
+extension_character code = character_of (row_with (λ (e : Extension). e.code) code extension)
+
 -- 1 where an escape and the code lead to no character of the extension table, so that the one shown stands in for another; else 0
 abbrev pub one_without : Option Extension → ℕ
 one_without none = 1
@@ -65,5 +75,6 @@ replaced code = one_without (row_with (λ (e : Extension). e.code) code extensio
 
 -- 41 is A, 1B 65 is the euro sign, 1B 41 is A, in place of another; so is the space of 1B 1B
 known_characters : (character 0x41 ≡ 0x41) × (escaped 0x65 ≡ 0x20ac) × (escaped 0x41 ≡ 0x41) × (replaced 0x65 ≡ 0) × (replaced 0x41 ≡ 1) × (replaced 0x1b ≡ 1)
-unfolding character escaped replaced row_with
-known_characters = (refl, refl, refl, refl, refl, refl)
+    × (extension_character 0x65 ≡ Some 0x20ac) × (extension_character 0x41 ≡ None)
+unfolding character escaped replaced extension_character row_with
+known_characters = (refl, refl, refl, refl, refl, refl, refl, refl)

@@ -1,7 +1,7 @@
 -- The text of septets (TS 23.038 §6.2.1.1), in UTF-8, and what the text readers answer.
 use Rattle.std.specs.Prelude.{ℕ, ◌+◌, ◌/◌, ◌%◌, ◌≡◌, refl, List, [], ◌∷◌, ◌++◌, length, eqb, ltb, if◌then◌else◌, Ok, Err}
 use Rattle.octets.specs.Answers.{Said}
-use Rattle.octets.specs.Arrays.{pad}
+use Rattle.octets.specs.Held.{holding}
 use Rattle.octets.specs.declared.Refusal.TheVariants.{LengthTooLarge, TooFewOctets}
 use Rattle.septets.specs.Septets.{number_of, lowest_digits, septets_in, octet_count}
 use Rattle.gsm7.specs.declared.decode.Unpacked.{Unpacked}
@@ -47,7 +47,11 @@ replaced_in_all (text ∷ texts) = replaced_in text + replaced_in_all texts
 
 -- a text in its array, with n escapes replaced
 unfoldable pub text_given : List ℕ → ℕ → Unpacked
-text_given text n = record { text = pad 510 text; text_length = length text; replaced_escapes = n }
+text_given text n = record { text = holding 510 text; replaced_escapes = n }
+
+-- whether n septets are all there; 1 where they are more than 255, 19 where the octets are too few for them
+unfoldable pub counted : List ℕ → ℕ → Said Unit
+counted os n = if ltb 255 n then Err LengthTooLarge else if ltb (length os) (octet_count 0 n) then Err TooFewOctets else Ok tt
 
 -- what reading n septets after f fill bits gives; 1 where they are more than 255, 19 where the octets are too few for them
 unfoldable pub unpacked : List ℕ → ℕ → ℕ → Said Unpacked
@@ -70,5 +74,6 @@ known_replaced = (refl, refl, refl, refl, refl)
 -- 9B 0D is escape and escape, 9B 20 escape and 41, 9B 32 the euro sign; 256 septets; one septet and no octet
 known_readings : (unpacked (0x9b ∷ 0x0d ∷ []) 0 2 ≡ Ok (text_given (0x20 ∷ []) 1)) × (unpacked (0x9b ∷ 0x20 ∷ []) 0 2 ≡ Ok (text_given (0x41 ∷ []) 1)) × (unpacked (0x9b ∷ 0x32 ∷ []) 0 2 ≡ Ok (text_given (0xe2 ∷ 0x82 ∷ 0xac ∷ []) 0))
     × (unpacked [] 0 256 ≡ Err LengthTooLarge) × (unpacked [] 0 1 ≡ Err TooFewOctets)
-unfolding number_of lowest_digits septets_in text_of after_escape replaced_in replaced_after utf8 character escaped replaced row_with unpacked
-known_readings = (refl, refl, refl, refl, refl)
+    × (counted [] 256 ≡ Err LengthTooLarge) × (counted (0x9b ∷ []) 2 ≡ Err TooFewOctets) × (counted (0x9b ∷ 0x0d ∷ []) 2 ≡ Ok tt)
+unfolding number_of lowest_digits septets_in text_of after_escape replaced_in replaced_after utf8 character escaped replaced row_with counted unpacked
+known_readings = (refl, refl, refl, refl, refl, refl, refl, refl)

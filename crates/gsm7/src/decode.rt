@@ -1,18 +1,18 @@
 // GSM 7-bit default alphabet text (TS 23.038 §6.2.1), read: the two tables, and the text of septets.
-ghost use Rattle.std.specs.Prelude.{◌≡◌, ◌+◌, ◌%◌, ◌<◌, ◌≤◌, true, [], ◌∷◌, length, get_or};
+ghost use Rattle.std.specs.Prelude.{◌≡◌, ℕ, ◌+◌, ◌%◌, ◌<◌, ◌≤◌, List, [], ◌∷◌, length};
 ghost use Rattle.octets.specs.Lent.{Wrote};
-ghost use Rattle.gsm7.specs.Alphabet.{alphabet as defaultAlphabet, extension, row, character, escaped, replaced};
+ghost use Rattle.gsm7.specs.Alphabet.{character, extension_character};
 ghost use Rattle.septets.specs.Septets.{septets_in, in_window};
-ghost use Rattle.gsm7.specs.Internal.{plain, four_plain, four_characters};
-ghost use Rattle.gsm7.specs.Reading.{utf8, text_of, replaced_in, text_given, unpacked};
+ghost use Rattle.gsm7.specs.Internal.{plain, four_plain, four_characters, written_by, shown_by};
+ghost use Rattle.gsm7.specs.Reading.{utf8, text_of, replaced_in, text_given, counted, unpacked};
 
-use octets::Refusal;
+use octets::{Held, Refusal};
 use septets::BitPlace;
 
 pub const GSM7_ESCAPE: u8 = 0x1B;
 
 // The default alphabet (TS 23.038 §6.2.1), as code points. The escape reads as a space (NOTE 1).
-pub const ALPHABET: [u16; 128] = [
+pub static ALPHABET: [u16; 128] = [
     0x40, 0xA3, 0x24, 0xA5, 0xE8, 0xE9, 0xF9, 0xEC, 0xF2, 0xC7, 0xA, 0xD8, 0xF8, 0xD, 0xC5, 0xE5,
     0x394, 0x5F, 0x3A6, 0x393, 0x39B, 0x3A9, 0x3A0, 0x3A8, 0x3A3, 0x398, 0x39E, 0x20, 0xC6, 0xE6,
     0xDF, 0xC9, 0x20, 0x21, 0x22, 0x23, 0xA4, 0x25, 0x26, 0x27, 0x28, 0x29, 0x2A, 0x2B, 0x2C, 0x2D,
@@ -32,7 +32,7 @@ pub struct Extension {
 }
 
 // The extension table (TS 23.038 §6.2.1.1).
-const EXTENSION: [Extension; 10] = [
+pub static EXTENSION: [Extension; 10] = [
     Extension {
         code: 0x0A,
         character: 0x0C,
@@ -76,11 +76,9 @@ const EXTENSION: [Extension; 10] = [
 ];
 
 // The text of counted septets, and the number of escapes in them that led to no character of the extension table.
-// An array with its length: there is no heap.
 #[derive(Clone, Copy, Debug)]
 pub struct Unpacked {
-    pub text: [u8; 510],
-    pub text_length: usize,
+    pub text: Held<510>,
     pub replaced_escapes: usize,
 }
 
@@ -91,91 +89,47 @@ pub struct TextPut {
     pub replaced: usize,
 }
 
-// The character of a code that follows an escape; `replaced` is 1 where it is none of the extension table, else 0.
-#[derive(Clone, Copy, Debug, PartialEq, Eq)]
-pub struct AfterEscape {
-    pub character: u16,
-    pub replaced: usize,
-}
-
-// The row at a place of the extension table.
-pub fn extension_row(place: usize) -> Extension
-    requires { place < 10 }
-    ensures { result ≡ get_or extension place (row 0 0) }
-{
-    EXTENSION[place]
-}
-
 // The character of a code of the default alphabet.
-pub fn default_character(alphabet: &[u16; 128], code: u8) -> u16
-    requires { (code < 128) × (alphabet.now ≡ defaultAlphabet) }
+#[tactic(auto, unfolding(crate::specs::Alphabet::character))]
+pub fn default_character(code: u8) -> u16
+    requires { code < 128 }
     ensures { result ≡ character code }
 {
-    alphabet[code as usize]
+    ALPHABET[code as usize]
 }
 
-// The character of a code that follows an escape.
-pub fn escaped_character(alphabet: &[u16; 128], code: u8) -> AfterEscape
-    requires { (code < 128) × (alphabet.now ≡ defaultAlphabet) }
-    ensures { result ≡ record { character = escaped code; replaced = replaced code } }
+// The character of a code of the extension table; none where the table has no such code.
+pub fn escaped_character(code: u8) -> Option<u16>
+    ensures { result ≡ extension_character code }
 {
-    for i in 0..10 {
-        let e = extension_row(i);
-        if e.code == code {
-            return AfterEscape {
-                character: e.character,
-                replaced: 0,
-            };
-        }
-    }
-    AfterEscape {
-        character: default_character(alphabet, code),
-        replaced: 1,
-    }
+    EXTENSION
+        .iter()
+        .find(|row| row.code == code)
+        .map(|row| row.character)
 }
 
 // The character of a septet of a window.
-pub fn character_in(alphabet: &[u16; 128], window: u64, index: usize) -> u16
-    requires { (index < 8) × (alphabet.now ≡ defaultAlphabet) }
+pub fn character_in(window: u64, index: usize) -> u16
+    requires { index < 8 }
     ensures { result ≡ character (in_window window index) }
 {
-    default_character(alphabet, septets::septet_in(window, index))
+    default_character(septets::septet_in(window, index))
 }
 
 // Whether a septet of a window is no escape, and its character takes one octet.
-fn is_plain(alphabet: &[u16; 128], window: u64, index: usize) -> bool
-    requires { (index < 8) × (alphabet.now ≡ defaultAlphabet) }
+#[tactic(auto, unfolding(crate::specs::Internal::plain))]
+fn is_plain(window: u64, index: usize) -> bool
+    requires { index < 8 }
     ensures { result ≡ plain (in_window window index) }
 {
-    (septets::septet_in(window, index) != GSM7_ESCAPE)
-        & (character_in(alphabet, window, index) < 0x80)
+    (septets::septet_in(window, index) != GSM7_ESCAPE) & (character_in(window, index) < 0x80)
 }
 
 // Whether the first four septets of a window are so.
-pub fn four_plain(alphabet: &[u16; 128], window: u64) -> bool
-    requires { alphabet.now ≡ defaultAlphabet }
+pub fn four_plain(window: u64) -> bool
     ensures { result ≡ four_plain window }
 {
-    is_plain(alphabet, window, 0)
-        & is_plain(alphabet, window, 1)
-        & is_plain(alphabet, window, 2)
-        & is_plain(alphabet, window, 3)
-}
-
-// Writes their characters at `at`; the place after them.
-fn put_four(alphabet: &[u16; 128], window: u64, text: &mut [u8], at: usize) -> usize
-    requires { (alphabet.now ≡ defaultAlphabet) × (four_plain window ≡ true) × (at + 4 ≤ length text.old) }
-    ensures { Wrote at (four_characters window) text.old result text.new }
-{
-    let a = character_in(alphabet, window, 0);
-    let b = character_in(alphabet, window, 1);
-    let c = character_in(alphabet, window, 2);
-    let d = character_in(alphabet, window, 3);
-    text[at] = a as u8;
-    text[at + 1] = b as u8;
-    text[at + 2] = c as u8;
-    text[at + 3] = d as u8;
-    at + 4
+    is_plain(window, 0) & is_plain(window, 1) & is_plain(window, 2) & is_plain(window, 3)
 }
 
 // Writes an octet at `at` and the last octet of a character's UTF-8 after it; the place after them.
@@ -188,34 +142,56 @@ fn put_two(text: &mut [u8], at: usize, octet: u8, c: u16) -> usize
     at + 2
 }
 
-// Writes the UTF-8 octets of a character at `at`; the place after them.
-fn put(text: &mut [u8], at: usize, c: u16) -> usize
-    requires { at + length (utf8 c) ≤ length text.old }
-    ensures { Wrote at (utf8 c) text.old result text.new }
-{
-    if c < 0x80 {
-        text[at] = c as u8;
-        return at + 1;
-    }
-    if c < 0x800 {
-        return put_two(text, at, (192 + c / 64) as u8, c);
-    }
-    text[at] = (224 + c / 4096) as u8;
-    put_two(text, at + 1, (128 + c / 64 % 64) as u8, c)
+// How the characters of septets are written.
+pub trait Form {
+    ghost form: { ℕ → List ℕ };
+
+    // Writes the octets of a character at `at`; the place after them.
+    fn put(text: &mut [u8], at: usize, c: u16) -> usize
+        requires { at + length (form c) ≤ length text.old }
+        ensures { Wrote at (form c) text.old result text.new };
 }
 
-// Writes the text of the counted septets, from `fill` bits into the octets, at `at`. What follows an escape that is the last septet counted is not looked at.
-pub fn unpack_septets(
+pub struct Utf8;
+
+impl Form for Utf8 {
+    ghost form = { utf8 };
+
+    fn put(text: &mut [u8], at: usize, c: u16) -> usize {
+        if c < 0x80 {
+            text[at] = c as u8;
+            return at + 1;
+        }
+        if c < 0x800 {
+            return put_two(text, at, (192 + c / 64) as u8, c);
+        }
+        text[at] = (224 + c / 4096) as u8;
+        put_two(text, at + 1, (128 + c / 64 % 64) as u8, c)
+    }
+}
+
+// Writes the characters of the first four septets of a window at `at`; the place after them.
+fn put_four<F: Form>(window: u64, text: &mut [u8], at: usize) -> usize
+    requires { at + length (written_by F.form (four_characters window)) ≤ length text.old }
+    ensures { Wrote at (written_by F.form (four_characters window)) text.old result text.new }
+{
+    let a = F::put(text, at, character_in(window, 0));
+    let b = F::put(text, a, character_in(window, 1));
+    let c = F::put(text, b, character_in(window, 2));
+    F::put(text, c, character_in(window, 3))
+}
+
+// Writes the characters of the counted septets, from `fill` bits into the octets, at `at`. What follows an escape that is the last septet counted is not looked at.
+pub fn put_characters<F: Form>(
     data: &[u8],
     fill: usize,
     septets: usize,
     text: &mut [u8],
     at: usize,
 ) -> TextPut
-    requires { (fill < 8) × (septets ≤ 255) × (at + length (text_of (septets_in «data».now fill septets)) ≤ length text.old) }
-    ensures { Wrote at (text_of (septets_in «data».now fill septets)) text.old result.end text.new × (result.replaced ≡ replaced_in (septets_in «data».now fill septets)) }
+    requires { (fill < 8) × (septets ≤ 255) × (at + length (shown_by F.form (septets_in «data».now fill septets)) ≤ length text.old) }
+    ensures { Wrote at (shown_by F.form (septets_in «data».now fill septets)) text.old result.end text.new × (result.replaced ≡ replaced_in (septets_in «data».now fill septets)) }
 {
-    let alphabet = ALPHABET;
     let mut end = at;
     let mut replaced = 0;
     let mut consumed = 0;
@@ -229,27 +205,41 @@ pub fn unpack_septets(
         let code = septets::septet_in(window, 0);
         if code == GSM7_ESCAPE {
             if consumed + 1 == septets {
-                end = put(text, end, 0x20);
+                end = F::put(text, end, 0x20);
                 replaced += 1;
                 break;
             }
             let next = septets::septet_in(window, 1);
-            let escaped = escaped_character(&alphabet, next);
-            end = put(text, end, escaped.character);
-            replaced += escaped.replaced;
+            let extended = escaped_character(next);
+            end = F::put(text, end, extended.unwrap_or(default_character(next)));
+            replaced += extended.is_none() as usize;
             place = place.next().next();
             consumed += 2;
-        } else if (consumed + 4 <= septets) & four_plain(&alphabet, window) {
-            end = put_four(&alphabet, window, text, end);
+        } else if (consumed + 4 <= septets) & four_plain(window) {
+            end = put_four::<F>(window, text, end);
             place = place.after_four();
             consumed += 4;
         } else {
-            end = put(text, end, default_character(&alphabet, code));
+            end = F::put(text, end, default_character(code));
             place = place.next();
             consumed += 1;
         }
     }
     TextPut { end, replaced }
+}
+
+// Writes the text of the counted septets, from `fill` bits into the octets, at `at`.
+pub fn unpack_septets(
+    data: &[u8],
+    fill: usize,
+    septets: usize,
+    text: &mut [u8],
+    at: usize,
+) -> TextPut
+    requires { (fill < 8) × (septets ≤ 255) × (at + length (text_of (septets_in «data».now fill septets)) ≤ length text.old) }
+    ensures { Wrote at (text_of (septets_in «data».now fill septets)) text.old result.end text.new × (result.replaced ≡ replaced_in (septets_in «data».now fill septets)) }
+{
+    put_characters::<Utf8>(data, fill, septets, text, at)
 }
 
 // The text of counted septets that are all there.
@@ -260,21 +250,31 @@ fn whole_text(data: &[u8], septets: usize) -> Unpacked
     let mut text = [0u8; 510];
     let put = unpack_septets(data, 0, septets, &mut text, 0);
     Unpacked {
-        text,
-        text_length: put.end,
+        text: Held {
+            octets: text,
+            length: put.end,
+        },
         replaced_escapes: put.replaced,
     }
+}
+
+// Whether a count of septets is at most 255, and the octets hold them all.
+pub fn check_count(data: &[u8], septets: usize) -> Result<(), Refusal>
+    ensures { result ≡ counted «data».now septets }
+{
+    if 255 < septets {
+        return Err(Refusal::LengthTooLarge);
+    }
+    if data.len() < septets::octet_count(0, septets) {
+        return Err(Refusal::TooFewOctets);
+    }
+    Ok(())
 }
 
 // The text of exactly `septets` septets.
 pub fn unpack_gsm7(data: &[u8], septets: usize) -> Result<Unpacked, Refusal>
     ensures { result ≡ unpacked «data».now 0 septets }
 {
-    if 255 < septets {
-        return Err(Refusal::LengthTooLarge);
-    }
-    if data.len() < (septets * 7 + 7) / 8 {
-        return Err(Refusal::TooFewOctets);
-    }
+    check_count(data, septets)?;
     Ok(whole_text(data, septets))
 }

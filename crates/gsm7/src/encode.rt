@@ -2,13 +2,13 @@
 ghost use Rattle.std.specs.Prelude.{◌≡◌, ◌+◌, ◌^◌, ◌<◌, ◌≤◌, [], ◌∷◌, length, drop};
 ghost use Rattle.octets.specs.Lent.{Wrote};
 ghost use Rattle.gsm7.specs.Writing.{code_of, extended_code, two_octets, three_octets, first_character, septets_of};
-ghost use Rattle.gsm7.specs.Internal.{code_says, Codes, ScannedAs, stored};
+ghost use Rattle.gsm7.specs.Internal.{entry_code, single_or, escape_says, ScannedAs, AddedAs};
 
-use crate::decode::GSM7_ESCAPE;
+use crate::decode::{EXTENSION, GSM7_ESCAPE};
 use octets::Refusal;
 
-// The code of each character below 100 that is in the default alphabet; FF for the others.
-pub const CODES: [u8; 256] = [
+// The code of each character below 100 that is in the default alphabet; FF for the others: with entries of `Option<u8>` UCS2 takes a third longer.
+static CODES: [u8; 256] = [
     0xFF, 0xFF, 0xFF, 0xFF, 0xFF, 0xFF, 0xFF, 0xFF, 0xFF, 0xFF, 0xA, 0xFF, 0xFF, 0xD, 0xFF, 0xFF,
     0xFF, 0xFF, 0xFF, 0xFF, 0xFF, 0xFF, 0xFF, 0xFF, 0xFF, 0xFF, 0xFF, 0xFF, 0xFF, 0xFF, 0xFF, 0xFF,
     0x20, 0x21, 0x22, 0x23, 0x2, 0x25, 0x26, 0x27, 0x28, 0x29, 0x2A, 0x2B, 0x2C, 0x2D, 0x2E, 0x2F,
@@ -28,64 +28,40 @@ pub const CODES: [u8; 256] = [
 ];
 
 // The code of each character from 393 to 3A9, the Greek letters of the default alphabet; FF for the others.
-const GREEK_CODES: [u8; 23] = [
+static GREEK_CODES: [u8; 23] = [
     0x13, 0x10, 0xFF, 0xFF, 0xFF, 0x19, 0xFF, 0xFF, 0x14, 0xFF, 0xFF, 0x1A, 0xFF, 0x16, 0xFF, 0xFF,
     0x18, 0xFF, 0xFF, 0x12, 0xFF, 0x17, 0x15,
 ];
 
-// The septets of a character.
-#[derive(Clone, Copy, Debug, PartialEq, Eq)]
-pub enum Code {
-    Single(u8),
-    Escaped(u8),
+// What an entry of these tables stands for.
+fn code_in(entry: u8) -> Option<u8>
+    ensures { result ≡ entry_code entry }
+{
+    (entry < 128).then_some(entry)
+}
+
+// The code of a character of the default alphabet; none where it has no such character.
+fn single_of(c: u16) -> Option<u8>
+    ensures { code_of c ≡ single_or result (extended_code c) }
+{
+    match c {
+        0..=0xFF => code_in(CODES[c as usize]),
+        0x393..=0x3A9 => code_in(GREEK_CODES[(c - 0x393) as usize]),
+        _ => None,
+    }
 }
 
 // The code of a character of the extension table; none where it has no such character.
-fn escape_of(c: u16) -> Option<Code>
-    ensures { code_says result ≡ extended_code c }
+fn extended_of(c: u16) -> Option<u8>
+    ensures { extended_code c ≡ escape_says result }
 {
-    for i in 0..10 {
-        let e = crate::decode::extension_row(i);
-        if e.character == c {
-            return Some(Code::Escaped(e.code));
-        }
-    }
-    None
+    EXTENSION
+        .iter()
+        .find(|row| row.character == c)
+        .map(|row| row.code)
 }
 
-// The code of a character from 100 on.
-fn high_code_of(c: u16) -> Option<Code>
-    requires { 256 ≤ c }
-    ensures { code_says result ≡ code_of c }
-{
-    if c < 0x393 {
-        return escape_of(c);
-    }
-    if 0x3A9 < c {
-        return escape_of(c);
-    }
-    let code = GREEK_CODES[(c - 0x393) as usize];
-    if code < 128 {
-        return Some(Code::Single(code));
-    }
-    None
-}
-
-// The code of a character.
-fn code_of(codes: &[u8; 256], c: u16) -> Option<Code>
-    requires { Codes codes.now }
-    ensures { code_says result ≡ code_of c }
-{
-    if 255 < c {
-        return high_code_of(c);
-    }
-    let code = codes[c as usize];
-    if code < 128 {
-        return Some(Code::Single(code));
-    }
-    escape_of(c)
-}
-
+#[inline(always)]
 fn two_octets(a: u16, b: u16) -> Result<(u16, usize), Refusal>
     ensures { result ≡ two_octets a b }
 {
@@ -102,6 +78,7 @@ fn two_octets(a: u16, b: u16) -> Result<(u16, usize), Refusal>
     Ok((c, 2))
 }
 
+#[inline(always)]
 fn three_octets(a: u16, b: u16, d: u16) -> Result<(u16, usize), Refusal>
     ensures { result ≡ three_octets a b d }
 {
@@ -122,11 +99,12 @@ fn three_octets(a: u16, b: u16, d: u16) -> Result<(u16, usize), Refusal>
 }
 
 // The character that starts at `at`.
+#[inline(always)]
 pub fn character_at(text: &[u8], at: usize) -> Result<(u16, usize), Refusal>
     requires { at < length text.now }
     ensures { result ≡ first_character (drop at text.now) }
 {
-    let a = septets::octet_or_zero(text, at);
+    let a = text[at] as u16;
     if a < 0x80 {
         return Ok((a, 1));
     }
@@ -150,55 +128,33 @@ pub fn add(codes: &mut [u8; 255], count: usize, code: u8) -> usize
     count + 1
 }
 
-// Stores the septets of a character after `count` others; their number with these, `count` itself where it has none.
-pub fn add_character(table: &[u8; 256], codes: &mut [u8; 255], count: usize, c: u16) -> usize
-    requires { Codes table.now × (count + 2 < 2 ^ 64) × (length codes.old ≡ 255) }
-    ensures { Wrote count (stored (code_of c)) codes.old result codes.new }
+// Stores the septets of a character after `count` others; their number with these, none where it has no septet.
+#[inline(always)]
+pub fn add_character(codes: &mut [u8; 255], count: usize, c: u16) -> Option<usize>
+    requires { (count + 2 < 2 ^ 64) × (length codes.old ≡ 255) }
+    ensures { AddedAs (code_of c) count result codes.old codes.new }
 {
-    match code_of(table, c) {
-        Some(Code::Single(code)) => add(codes, count, code),
-        Some(Code::Escaped(code)) => {
-            let next = add(codes, count, GSM7_ESCAPE);
-            add(codes, next, code)
-        }
-        None => count,
+    if let Some(code) = single_of(c) {
+        return Some(add(codes, count, code));
     }
+    let code = extended_of(c)?;
+    let next = add(codes, count, GSM7_ESCAPE);
+    Some(add(codes, next, code))
 }
 
-// The septets of a text by a table of codes, counted past the array's end.
-fn scan_by(table: &[u8; 256], text: &[u8], codes: &mut [u8; 255]) -> Result<usize, Refusal>
-    requires { Codes table.now × (length codes.old ≡ 255) }
+// The septets of a text, counted past the array's end. Three loops add characters: of a text to its end, of a text to a part's
+// end (concatenation) and of UCS2; adding one is shared.
+pub fn scan_text(text: &[u8], codes: &mut [u8; 255]) -> Result<usize, Refusal>
+    requires { length codes.old ≡ 255 }
     ensures { ScannedAs (septets_of text.now) result codes.old codes.new }
 {
     let mut count = 0;
     let mut i = 0;
     // A `while`: a character is one to three octets of the text, so no range counts them.
     while i < text.len() {
-        let octet = text[i];
-        if octet < 0x80 {
-            let code = table[octet as usize];
-            if code < 128 {
-                count = add(codes, count, code);
-                i += 1;
-                continue;
-            }
-        }
         let (c, width) = character_at(text, i)?;
-        let next = add_character(table, codes, count, c);
-        if next == count {
-            return Err(Refusal::NotInAlphabet);
-        }
-        count = next;
+        count = add_character(codes, count, c).ok_or(Refusal::NotInAlphabet)?;
         i += width;
     }
     Ok(count)
-}
-
-// The septets of a text, counted past the array's end.
-pub fn scan_text(text: &[u8], codes: &mut [u8; 255]) -> Result<usize, Refusal>
-    requires { length codes.old ≡ 255 }
-    ensures { ScannedAs (septets_of text.now) result codes.old codes.new }
-{
-    let table = CODES;
-    scan_by(&table, text, codes)
 }

@@ -19,7 +19,7 @@ fn put_packed(header: &[u8], codes: &[u8], out: &mut [u8]) -> usize
     requires { (length header.now ≤ 256) × (length codes.now ≤ 255) × Digits 7 codes.now × (length (octets_after header.now codes.now) ≤ length out.old) }
     ensures { Wrote 0 (octets_after header.now codes.now) out.old result out.new }
 {
-    let fill = septets::header_septets(header.len()) * 7 - header.len() * 8;
+    let fill = septets::fill_bits(header.len());
     let at = octets::put_octets(out, 0, header);
     septets::pack_octets(codes, fill, out, at)
 }
@@ -33,7 +33,7 @@ pub fn pack_codes(header: &[u8], codes: &[u8], out: &mut [u8]) -> Result<Packed,
     if 255 < septets {
         return Err(Refusal::TooManySeptets);
     }
-    if out.len() < (septets * 7 + 7) / 8 {
+    if out.len() < septets::octet_count(0, septets) {
         return Err(Refusal::OutputTooShort);
     }
     let octets = put_packed(header, codes, out);

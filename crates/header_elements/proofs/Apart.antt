@@ -8,7 +8,7 @@ use mathlib.Core.Logic.{◌↔◌, ◌⊎◌, inl, inr, ⊎_elim}
 use native.Mathlib.Omega.{arith}
 use borrow.Author.Tests.{leb-true, le-leb, lt-leb, ltb-true, ltb-false, le-ltb}
 use lib.Dec.{leb, ltb}
-use lib.ListN.{length, take, drop, length-append, take-append-drop}
+use lib.ListN.{length, get_or, take, drop, length-append, take-append-drop}
 use lib.Seq.{length-take-le, drop-append_seam, take-append_seam}
 use Rattle.octets.specs.Answers.{Said}
 use Rattle.octets.specs.declared.Refusal.{Refusal}
@@ -28,20 +28,29 @@ skip zero s = refl
 skip (suc n) [] = refl
 skip (suc n) (x ∷ s) = skip n s
 
-module _ (i n : ℕ) (s : List ℕ) where
-  -- an element that is there, and the others
-  pub one_more : n ≤ length s → elements_of (i ∷ n ∷ s) ≡ before (element i (take n s)) (elements_of (drop n s))
-  unfolding elements_after
-  one_more h = rw (le-leb n (length s) h) (ap (before (element i (take n s))) (skip n s))
-
-  -- one that passes the end
-  pub passes : length s < n → elements_of (i ∷ n ∷ s) ≡ Err ElementPassesHeader
-  unfolding elements_after
-  passes h = rw (lt-leb n (length s) h)
-
-pub lone : (i : ℕ) → elements_of (i ∷ []) ≡ Err ElementPassesHeader
+-- an element that is there, and the others
+one_more : (i n : ℕ) (s : List ℕ) → n ≤ length s → elements_of (i ∷ n ∷ s) ≡ before (element i (take n s)) (elements_of (drop n s))
 unfolding elements_after
-lone i = refl
+one_more i n s h = rw (le-leb n (length s) h) (ap (before (element i (take n s))) (skip n s))
+
+pub one_then : (i : ℕ) (v after : List ℕ) → elements_of (i ∷ length v ∷ v ++ after) ≡ before (element i v) (elements_of after)
+one_then i v after =
+    one_more i (length v) (v ++ after) (rw length-append (omega arith))
+    ∙ rw (take-append_seam v after, drop-append_seam v after)
+
+-- a lone identifier octet is left
+pub lone : (s : List ℕ) → length s < 2 → 0 < length s → elements_of s ≡ Err ElementPassesHeader
+unfolding elements_after
+lone [] h l = absurd (omega arith)
+lone (i ∷ []) h l = refl
+lone (i ∷ n ∷ s) h l = absurd (omega arith)
+
+-- an element passes the end
+pub passes : (s : List ℕ) → 2 ≤ length s → length s < 2 + get_or s 1 0 → elements_of s ≡ Err ElementPassesHeader
+unfolding elements_after
+passes [] l h = absurd (omega arith)
+passes (i ∷ []) l h = absurd (omega arith)
+passes (i ∷ n ∷ s) l h = rw (lt-leb n (length s) (omega arith))
 
 -- ---- octets are their elements, one after the other
 
@@ -49,10 +58,7 @@ lone i = refl
 pub joined_reads : (es : List Element) → elements_of (joined es) ≡ Ok es
 unfolding joined elements_after
 joined_reads [] = refl
-joined_reads (e ∷ es) =
-    let v = e.value in
-    one_more e.identifier (length v) (v ++ joined es) (rw length-append (omega arith))
-    ∙ rw (take-append_seam v (joined es), drop-append_seam v (joined es), joined_reads es)
+joined_reads (e ∷ es) = one_then e.identifier e.value (joined es) ∙ rw (joined_reads es)
 
 before_given : {e : Element} {es : List Element} (others : Said (List Element)) → before e others ≡ Ok es → (fs : List Element) × (others ≡ Ok fs) × (es ≡ e ∷ fs)
 before_given (Ok fs) q = (fs, refl, sym (given q))

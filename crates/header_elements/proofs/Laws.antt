@@ -12,7 +12,7 @@ use borrow.Author.Tests.{le-leb, lt-leb, leb-true, leb-false}
 use lib.Dec.{leb}
 use lib.ListN.{length, take}
 use lib.Seq.{take-append_seam, drop-append_seam}
-use Rattle.octets.specs.Answers.{Said, fine}
+use Rattle.octets.specs.Answers.{Said}
 use Rattle.octets.specs.Each.{Octets}
 use Rattle.octets.specs.Lent.{refused, made}
 use Rattle.octets.specs.declared.Refusal.TheVariants.{ElementsTooLong}

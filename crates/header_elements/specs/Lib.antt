@@ -1,4 +1,5 @@
 pub mod Elements
+pub mod InOctets
 pub mod Internal
 pub mod Order
 pub mod Record

@@ -1,6 +1,5 @@
 -- Beginnings of a string: what a layout's reader makes of the front of what it reads (document 02, Ask 9).
 -- Assumes nothing.
-use Rattle.std.specs.Prelude.{Ok}
 use Prim.Native.Nat.{ℕ, zero, suc, ◌+◌, ◌<◌}
 use mathlib.Core.Path.{◌≡◌, refl, sym, ap, ◌∙◌}
 use mathlib.Core.Bool.{Bool, true, false}
@@ -12,7 +11,6 @@ use borrow.Author.Tests.{leb-true, leb-false}
 use lib.Dec.{leb}
 use lib.ListN.{length, take, drop, take-append-drop}
 use lib.Seq.{length-take-le}
-use Rattle.octets.specs.Answers.{Said}
 use Rattle.octets.specs.Lent.{Making, made}
 use Rattle.octets.specs.declared.Refusal.TheVariants.{OctetsEnd}
 use Rattle.octets.proofs.Choice.{chosen}

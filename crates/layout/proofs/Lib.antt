@@ -10,3 +10,4 @@ pub mod Answered
 pub mod LayoutBack
 pub mod Beginnings
 pub mod Records
+pub mod Defaults

@@ -3,9 +3,8 @@
 use Prim.Native.Nat.{ℕ}
 use mathlib.Core.Path.{◌≡◌, refl, ◌∙◌}
 use mathlib.Core.Bool.{Bool, true, false}
-use mathlib.Core.List.{List, []}
+use mathlib.Core.List.{List}
 use Rattle.std.specs.Prelude.{if◌then◌else◌}
-use Rattle.gsm7.specs.Reading.{replaced_in_all}
 use Rattle.layout.specs.Layout.{Format, done, ◌then◌, Reached, reached, halted, reading, read_from, answer, Layout, plain, stopping, stops, read, records}
 use Rattle.layout.proofs.Steps.{go_on, one_by_one}
 

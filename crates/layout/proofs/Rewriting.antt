@@ -5,7 +5,6 @@ use Prim.Native.Nat.{ℕ}
 use mathlib.Core.Path.{◌≡◌, sym, ap, ◌∙◌}
 use mathlib.Core.Bool.{Bool}
 use mathlib.Core.List.{List}
-use native.Mathlib.Omega.{arith}
 use Rattle.octets.specs.Answers.{Said}
 use Rattle.octets.specs.Lent.{Making, lend}
 use Rattle.octets.specs.declared.Refusal.{Refusal}

@@ -12,6 +12,13 @@ pub const MTI_SUBMIT: u8 = 1;
 
 pub const MTI_STATUS_REPORT: u8 = 2;
 
+// What a reader gives: the message, and the number of escapes in its text that led to no character of the extension table.
+#[derive(Clone, Copy, Debug, Default)]
+pub struct MessageRead<M> {
+    pub message: M,
+    pub replaced_escapes: usize,
+}
+
 // A first octet of TP-MTI and its flags, from bit 7 down to bit 2.
 pub fn first_octet(
     mti: u8,

@@ -1,17 +1,13 @@
 -- The first place that passes a test.
 -- Assumes nothing.
 use Prim.Native.Nat.{ℕ, zero, suc, ◌+◌, ◌≤◌, ◌<◌}
-use mathlib.Core.Path.{◌≡◌, refl, sym, ap, ◌∙◌}
-use mathlib.Core.Bool.{Bool, true, false, not}
-use native.Mathlib.Nat.{add-zero, zero-add}
+use mathlib.Core.Path.{◌≡◌, refl, sym, ◌∙◌}
+use mathlib.Core.Bool.{Bool, true, false}
+use native.Mathlib.Nat.{add-zero}
 use native.Mathlib.Omega.{arith}
-use borrow.Author.Tests.{eqb-true, eqb-false, eq-eqb, ne_eqb, le-ltb, lt-ltb}
+use borrow.Author.Tests.{eqb-true, eqb-false}
 use lib.Dec.{eqb}
-use lib.ListN.{length}
-use Rattle.std.specs.Prelude.{Option, None, Some, unwrap_or, MatchOption, if◌then◌else◌, ltb}
-use Rattle.std.specs.Bool.{MatchBool}
-use Rattle.std.specs.List.{range_with_len, AllWithin, HoldsAt}
-use Rattle.std.proofs.lemmas.List.FromFn.{length-range_with_len, get_or-range_with_len}
+use Rattle.std.specs.Prelude.{if◌then◌else◌}
 use Rattle.message_store.specs.Store.{first}
 
 -- true is not false
@@ -70,26 +66,6 @@ module _ (p : ℕ → Bool) where
       by_place : (suc k ≤ j → first p n (suc k) ≡ j) → (t : Bool) → eqb k j ≡ t → first p (suc n) k ≡ j
       by_place ih true q = let is = eqb-true k j q in first_here n k (rw is e) ∙ is
       by_place ih false q = let ne = eqb-false k j q in first_next n k (h k (omega arith) (omega arith)) ∙ ih (omega arith)
-
-  -- what a search among the first n answers
-  pub first_found : (n : ℕ) (r : Option ℕ) → MatchOption r ((k : ℕ) → 0 ≤ k → k < n → p k ≡ false) (λ k. (0 ≤ k) × (k < n) × (p k ≡ true) × ((j : ℕ) → 0 ≤ j → j < k → p j ≡ false))
-      → unwrap_or r n ≡ first p n 0
-  first_found n None h = sym (first_none n 0 (λ j a b. h j a (omega arith)) ∙ zero-add n)
-  first_found n (Some k) (a, b, e, h) = sym (first_is n 0 k a (omega arith) e h)
-
-  pub first_there : (n : ℕ) (r : Option ℕ) → MatchOption r ((k : ℕ) → 0 ≤ k → k < n → p k ≡ false) (λ k. (0 ≤ k) × (k < n) × (p k ≡ true) × ((j : ℕ) → 0 ≤ j → j < k → p j ≡ false))
-      → r ≡ (if ltb (first p n 0) n then Some (first p n 0) else None)
-  first_there n None h = rw (← first_found n None h, le-ltb n n (omega arith))
-  first_there n (Some k) h = rw (← first_found n (Some k) h, lt-ltb k n h.1)
-
--- whether all of the first n pass
-pub first_all : (p : ℕ → Bool) (n : ℕ) (r : Bool) → MatchBool r (AllWithin (λ k. p k ≡ true) (range_with_len 0 n) 0 (length (range_with_len 0 n))) ((k : ℕ) × (k < length (range_with_len 0 n)) × HoldsAt (λ k. p k ≡ false) (range_with_len 0 n) k)
-    → r ≡ eqb (first (λ k. not (p k)) n 0) n
-first_all p n true h = sym (eq-eqb _ _ (first_none (λ k. not (p k)) n 0 (λ j a b. let e = get_or-range_with_len 0 n j 0 (omega arith) ∙ zero-add j in ap not (rw e at (h j 0 a (omega (arith, length-range_with_len 0 n))))) ∙ zero-add n))
-first_all p n false (k, b, e) =
-    let inside : k < n = omega (arith, length-range_with_len 0 n) in
-    let fails : p k ≡ false = rw (get_or-range_with_len 0 n k 0 inside, zero-add k) at (e 0) in
-    sym (ne_eqb _ _ (λ z. true_false (ap not fails) (first_before (λ k. not (p k)) n 0 k (omega arith) (omega (arith, z)))))
 
 -- equal tests
 module _ (p q : ℕ → Bool) where

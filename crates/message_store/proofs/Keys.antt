@@ -6,13 +6,18 @@ use mathlib.Core.Bool.{true}
 use mathlib.Core.List.{List, [], ◌∷◌, ◌++◌}
 use native.Mathlib.Nat.{zero-add}
 use native.Mathlib.Omega.{arith}
-use lib.ListN.{length, get_or, take, drop, length-append, replicate, length-replicate}
+use lib.ListN.{length, get_or, take, drop, length-append, length-take, replicate, length-replicate}
 use lib.Seq.{take_at, drop_at, take-take}
 use Rattle.octets.specs.Lent.{Wrote}
 use Rattle.octets.proofs.Laws.{kept_by, sets_zeros, take_pad}
 use Rattle.part_number.specs.declared.Reference.{Reference}
 use Rattle.part_number.specs.declared.Reference.TheVariants.{Eight, Sixteen}
-use Rattle.message_store.specs.Part.{Key}
+use Rattle.octets.specs.Held.{holding, filled}
+use Rattle.octets.specs.declared.Held.{Held}
+use Rattle.octets.proofs.Holding.{filled_holding}
+use Rattle.address.specs.Address.{text_held}
+use Rattle.address.specs.declared.SMSAddress.{SMSAddress}
+use Rattle.message_store.specs.Part.{Key, key_of}
 use Rattle.message_store.specs.Store.{begins, reference_octets, key_octets}
 use Rattle.message_store.proofs.AtStart.{begins_is}
 
@@ -117,6 +122,16 @@ written_cut N xs l n few w =
     let room : length l ≡ N = kept_by w ∙ length-replicate N (zero) in
     (omega arith, rw (w.list, size, sets_zeros N xs few) (take_pad N xs), omega arith)
 
--- those of a key
-pub key_cut : (k : Key) (l : List ℕ) (n : ℕ) → length k.text ≤ 290 → Wrote 0 (key_octets k) (replicate 298 0) n l → (n ≤ length l) × (take n l ≡ key_octets k) × (n ≤ 298)
-key_cut k l n few w = written_cut 298 (key_octets k) l n (rw length_key (omega arith)) w
+-- ---- a key as it is held
+
+-- an address's text is no longer than its array
+pub text_short : (a : SMSAddress) → a.address.length ≤ 290 → length (text_held a) ≤ 290
+text_short a few = omega (arith, length-take a.address.length a.address.octets)
+
+-- the key of an address by its type, plan and text
+pub key_named : (a : SMSAddress) (r : Reference) (t : ℕ) {ton npi : ℕ} {text : List ℕ} → (ton ≡ a.ton) × (npi ≡ a.npi) × (text ≡ text_held a)
+    → {h : Held 298} → h ≡ holding 298 (key_octets (record { ton = ton; npi = npi; text = text; reference = r; total = t })) → filled h ≡ key_octets (key_of a r t)
+key_named a r t (x, y, z) e = rw (e, x, y, z) (filled_holding 298 (key_octets (key_of a r t)))
+
+pub key_few : (k : Key) → length k.text ≤ 290 → length (key_octets k) ≤ 298
+key_few k few = rw length_key (omega arith)

@@ -1,15 +1,14 @@
 -- Which numbers are missing, and what is shown of a part.
 -- Assumes nothing.
-use Prim.Native.Nat.{ℕ, zero, suc, ◌+◌, ◌-◌, ◌*◌, ◌≤◌, ◌<◌}
+use Prim.Native.Nat.{ℕ, zero, suc, ◌+◌, ◌-◌, ◌≤◌, ◌<◌}
 use mathlib.Core.Path.{◌≡◌, refl, sym, ap, ◌∙◌}
 use mathlib.Core.List.{List, [], ◌∷◌, ◌++◌}
 use mathlib.Core.Option.{Option, none, some}
 use native.Mathlib.Nat.{add-zero, le_refl}
-use native.Mathlib.Numerals.{add-one}
 use native.Mathlib.Omega.{arith}
 use borrow.Author.Tests.{ne_eqb}
 use lib.ListN.{length, get_or, take, drop, length-drop}
-use lib.Seq.{drop-cons, take-take, take_all}
+use lib.Seq.{take_all}
 use Rattle.octets.specs.Lent.{Wrote}
 use Rattle.coding.specs.Coding.{coding_of, data_octets}
 use Rattle.coding.specs.declared.UserDataCoding.{UserDataCoding}
@@ -19,7 +18,7 @@ use Rattle.gsm7.specs.Reading.{text_of}
 use Rattle.gsm7.proofs.DecodingLaws.{text_short}
 use Rattle.user_data_header.specs.Header.{header_octets}
 use Rattle.message_store.specs.Part.{Part, text_after, shown_in}
-use Rattle.message_store.specs.Store.{coding_in, part_at, block, part_of, holding, holdings, missing_from, shown_parts}
+use Rattle.message_store.specs.Store.{coding_in, block, part_of, holding, holdings, missing_from, shown_parts}
 
 -- ---- which numbers are missing
 
@@ -60,21 +59,21 @@ module _ (p : Part) (own : length p.octets ≡ data_octets Gsm7Bit p.udl) (few :
   unfolding text_after septets_in lowest_digits text_of
   text_none l at over = let z : p.udl - header_septets h ≡ 0 = omega arith in rw (← h-is, z) (record { place = sym (add-zero at); list = refl })
 
-  module _ (counted : hs ≤ p.udl) where
+  -- the header ends within the data
+  pub header_within : hs ≤ p.udl → h ≤ length p.octets
+  unfolding data_octets
+  header_within counted = omega (arith, own)
+
+  module _ (counted : hs ≤ p.udl) {fill : ℕ} (fill-is : fill ≡ fill_bits h) where
     abbrev cut_text : List ℕ
-    cut_text = text_of (septets_in (take (length p.octets - h) (drop h p.octets)) (hs * 7 - h * 8) (p.udl - hs))
+    cut_text = text_of (septets_in (take (length p.octets - h) (drop h p.octets)) fill (p.udl - hs))
 
-    -- the header ends within the data
-    pub header_within : h ≤ length p.octets
-    unfolding data_octets
-    header_within = omega (arith, own)
-
-    pub text_room : (at : ℕ) {room : ℕ} → at + 510 ≤ room → (hs * 7 - h * 8 < 8) × (p.udl - hs ≤ 255) × (at + length cut_text ≤ room)
-    text_room at r = (omega arith, omega arith, omega (arith, text_short (take (length p.octets - h) (drop h p.octets)) (hs * 7 - h * 8) (p.udl - hs)))
+    pub text_room : fill < 7 → (at : ℕ) {room : ℕ} → at + 510 ≤ room → (fill < 8) × (p.udl - hs ≤ 255) × (at + length cut_text ≤ room)
+    text_room low at r = (omega arith, omega arith, omega (arith, text_short (take (length p.octets - h) (drop h p.octets)) fill (p.udl - hs)))
 
     pub text_cut : cut_text ≡ text_after p
     unfolding text_after
-    text_cut = rw (take_all (length p.octets - h) (drop h p.octets) (rw length-drop (le_refl _)), hs-is, h-is)
+    text_cut = rw (take_all (length p.octets - h) (drop h p.octets) (rw length-drop (le_refl _)), hs-is, fill-is, h-is)
 
 -- how long it can be
 pub shown_short : (coding : UserDataCoding) (p : Part) → p.udl ≤ 255 → length p.octets ≤ 255 → length (shown_in coding p) ≤ 510
@@ -86,7 +85,7 @@ shown_short Compressed p u h = let e = length-drop (header_octets p.octets) p.oc
 
 -- ---- a loop over the numbers of a whole message
 
-module _ (slot : List ℕ) (size : length slot ≡ 2356) (total n : ℕ) (low : 1 ≤ n) (h : n ≤ total) (eight : total ≤ 8) (whole : missing_from n (holdings n (total + 1 - n) slot) ≡ []) where
+module _ (slot : List ℕ) (total n : ℕ) (h : n ≤ total) (whole : missing_from n (holdings n (total + 1 - n) slot) ≡ []) where
   abbrev dcs : ℕ
   dcs = coding_in slot
 
@@ -97,24 +96,13 @@ module _ (slot : List ℕ) (size : length slot ≡ 2356) (total n : ℕ) (low : 
   still_whole = sym (missing_not slot total n h held) ∙ whole
 
   -- the part as the code cuts it out
-  module _ (k : ℕ) (k_is : k ≡ data_octets (coding_of dcs) (get_or slot (part_at n) 0)) (few : k ≤ 255) where
+  module _ {k : ℕ} (k_is : k ≡ data_octets (coding_of dcs) (get_or (block n slot) 0 0)) where
     abbrev cut : Part
-    cut = record { udl = get_or slot (part_at n) 0; octets = take (part_at n + 1 + k - (part_at n + 1)) (drop (part_at n + 1) slot) }
-
-    block_is : block n slot ≡ get_or slot (part_at n) 0 ∷ take 255 (drop (part_at n + 1) slot)
-    block_is = rw add-one (ap (take 256) (drop-cons slot (part_at n) 0 (omega arith)))
-
-    part_cut : part_of dcs (block n slot) ≡ cut
-    unfolding part_of
-    part_cut =
-        let m : part_at n + 1 + k - (part_at n + 1) ≡ k = omega arith in
-        let d : take (data_octets (coding_of dcs) (get_or slot (part_at n) 0)) (take 255 (drop (part_at n + 1) slot)) ≡ take (part_at n + 1 + k - (part_at n + 1)) (drop (part_at n + 1) slot) =
-        rw (m, ← k_is) (take-take k 255 (drop (part_at n + 1) slot) few) in
-        ap (part_of dcs) block_is ∙ (λ i. record { udl = get_or slot (part_at n) 0; octets = d i })
+    cut = record { udl = get_or (block n slot) 0 0; octets = take (1 + k - 1) (drop 1 (block n slot)) }
 
     holds : holding n slot ≡ some cut
-    unfolding holding
-    holds = let i : 1 + n ≡ n + 1 = omega arith in rw (i, ne_eqb (get_or slot (n + 1) 0) 0 held, part_cut)
+    unfolding holding part_of
+    holds = let i : 1 + n ≡ n + 1 = omega arith in let j : 1 + k - 1 ≡ k = omega arith in rw (i, ne_eqb (get_or slot (n + 1) 0) 0 held, j, k_is)
 
     unrolled_here : holdings n (total + 1 - n) slot ≡ some cut ∷ holdings (n + 1) (total + 1 - (n + 1)) slot
     unfolding holdings

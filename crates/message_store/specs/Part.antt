@@ -1,7 +1,7 @@
 -- The part of a concatenated short message that a DELIVER is (TS 23.040 §9.2.3.24.1, §9.2.3.24.8).
 use Rattle.std.specs.Prelude.{ℕ, ◌-◌, ◌≤◌, ◌≡◌, refl, List, [], ◌∷◌, length, drop, Ok, Err}
 use Rattle.octets.specs.Answers.{Said}
-use Rattle.coding.specs.Coding.{data_of}
+use Rattle.octets.specs.Held.{filled}
 use Rattle.coding.specs.declared.UserDataCoding.{UserDataCoding}
 use Rattle.coding.specs.declared.UserDataCoding.TheVariants.{Gsm7Bit, EightBit, Ucs2, Compressed}
 use Rattle.septets.specs.Septets.{number_of, lowest_digits, septets_in, header_septets, fill_bits}
@@ -50,7 +50,7 @@ arrived_as a dcs udl ud (Err why) = Err why
 -- the part that a DELIVER is: 17, 18, 24, 28
 unfoldable pub arrival_of : SmsDeliver → Said Arrived
 arrival_of m =
-    let ud = data_of m.tp_user_data in
+    let ud = filled m.tp_user_data in
     arrived_as m.tp_originating_address m.tp_dcs m.tp_user_data_length ud (numbering_in m.tp_udhi m.tp_dcs m.tp_user_data_length ud)
 
 -- ---- what is shown of a part: in 7-bit coding its text, read by itself (an escape that ends it is a space); in the others the octets after the header

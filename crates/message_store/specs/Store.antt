@@ -4,7 +4,7 @@
 --     2 to 9     for each number from 1 to 8, 0 where the part is not held
 --     10 to 307  the key: total, width, reference (high octet first), type, plan, length of the text (high octet first), text
 --     308 on     for each number 256 octets: TP-UDL, then the user data
-use Rattle.std.specs.Prelude.{ℕ, zero, suc, ◌+◌, ◌*◌, ◌/◌, ◌%◌, Bool, true, false, not, ◌&&◌, ◌||◌, List, [], ◌∷◌, ◌++◌, length, get_or, set, take, drop, replicate, eqb, leb, ltb, if◌then◌else◌, Some, None, Option as Maybe}
+use Rattle.std.specs.Prelude.{ℕ, zero, suc, ◌+◌, ◌*◌, ◌/◌, ◌%◌, ◌<◌, ◌≡◌, Bool, true, false, not, ◌&&◌, ◌||◌, List, [], ◌∷◌, ◌++◌, length, get_or, set, take, drop, replicate, eqb, leb, ltb, if◌then◌else◌, Some, None, Option as Maybe}
 use Rattle.std.proofs.Math.Option.{Option, none, some}
 use Rattle.std.proofs.lemmas.List.Edits.{sets}
 use Rattle.coding.specs.Coding.{coding_of, data_octets}
@@ -93,6 +93,11 @@ store_octets = 37696
 
 abbrev pub slot_at : ℕ → List ℕ → List ℕ
 slot_at k store = take 2356 (drop (k * 2356) store)
+
+-- the 16 slots of a store, one after the other
+pub record Slots (store : List ℕ) (slots : List (List ℕ)) : Type 0 where
+  pub count : length slots ≡ 16
+  pub each : (k : ℕ) → k < 16 → get_or slots k [] ≡ slot_at k store
 
 abbrev pub with_slot : ℕ → List ℕ → List ℕ → List ℕ
 with_slot k slot store = take (k * 2356) store ++ (slot ++ drop 2356 (drop (k * 2356) store))

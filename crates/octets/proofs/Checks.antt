@@ -8,7 +8,7 @@ use native.Mathlib.Omega.{arith}
 use borrow.Author.Tests.{leb-true}
 use lib.Dec.{leb}
 use lib.ListN.{length}
-use Rattle.octets.specs.Answers.{Said, fine}
+use Rattle.octets.specs.Answers.{fine}
 use Rattle.std.specs.Prelude.{if◌then◌else◌, Ok, Err}
 use Rattle.octets.specs.Checks.{Check, ◌unless◌, found, checked, after_checked, all_fit}
 use Rattle.octets.specs.Lent.{Making, refused, made}

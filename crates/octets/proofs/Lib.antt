@@ -1,7 +1,9 @@
 pub mod Laws
+pub mod Holding
 pub mod Table
 pub mod Choice
 pub mod Checks
 pub mod Places
 pub mod Each
 pub mod SemiOctets
+pub mod Pairs

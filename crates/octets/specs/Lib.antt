@@ -2,6 +2,7 @@ pub mod Choice
 pub mod Refusals
 pub mod Answers
 pub mod Arrays
+pub mod Held
 pub mod Lent
 pub mod Checks
 pub mod Places

@@ -1,5 +1,7 @@
 -- The refusals, by the number that document 01 gives each ("Refused, by number"), and document 02 from 24 on.
-use Rattle.std.specs.Prelude.{ℕ}
+use Rattle.std.specs.Prelude.{ℕ, List, ◌++◌, ◌≡◌, refl}
+use Rattle.std.specs.Fmt.{decimal, digits}
+use Rattle.octets.specs.Texts.{codes}
 use Rattle.octets.specs.declared.Refusal.{Refusal}
 use Rattle.octets.specs.declared.Refusal.TheVariants.{LengthTooLarge, OctetsEnd, WrongMessageType, UdhiTooLarge, ValidityFormatDisagrees, NoDestination, UserDataLengthDisagrees, UserDataTooLong, NumberTypeOrPlanTooLarge, NotInAlphabet, AddressTooLong, NotATime, IndicatorDisagrees, IndicatorExtended, UserDataWithoutLength, ParametersWithoutIndicator, HeaderNotWhole, HeaderPassesCount, TooFewOctets, CalendarOutOfRange, ZoneOutOfRange, TooManySeptets, OutputTooShort, ElementPassesHeader, ElementsTooLong, TooManyParts, StoreFull, NotAPart, OutcomeDisagrees, OddOctets, InNeitherTable, AlphanumericRelayAddress, TooManyRecords, RecipientNotPrintable, StringsTooLarge, BlockNotWhole}
 
@@ -76,3 +78,11 @@ refusal_number RecipientNotPrintable = 34
 refusal_number StringsTooLarge = 35
 -- a block ends early, has octets left over, or has a number too large or with a needless group
 refusal_number BlockNotWhole = 36
+
+-- a refusal as it is printed: `refused` and its number
+unfoldable pub refused_text : Refusal → List ℕ
+refused_text r = codes "refused " ++ decimal (refusal_number r)
+
+known_refused : (refused_text OctetsEnd ≡ codes "refused 2") × (refused_text BlockNotWhole ≡ codes "refused 36")
+unfolding codes refused_text digits
+known_refused = (refl, refl)

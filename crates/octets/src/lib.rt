@@ -1,13 +1,16 @@
 // What the whole codec shares: the refusals, arrays with a length, writing to a lent buffer, and reading at a place.
 #![tactic(auto)]
 
-ghost use Rattle.std.specs.Prelude.{◌≡◌, ◌+◌, ◌≤◌, length, [], ◌∷◌, ok_or};
+ghost use Rattle.std.specs.Prelude.{◌≡◌, ◌+◌, ◌≤◌, length, leb, [], ◌∷◌, ok_or, Some};
 ghost use Rattle.octets.specs.declared.Refusal.TheVariants.{OctetsEnd};
-ghost use Rattle.octets.specs.Choice.{flag as flagWeight};
-ghost use Rattle.octets.specs.Refusals.{refusal_number};
+ghost use Rattle.octets.specs.Choice.{flag as flagWeight, length_if};
+ghost use Rattle.octets.specs.Refusals.{refusal_number, refused_text};
 ghost use Rattle.octets.specs.Arrays.{pad};
+ghost use Rattle.octets.specs.Held.{holding, filled};
 ghost use Rattle.octets.specs.Lent.{Wrote};
 ghost use Rattle.octets.specs.Places.{octet_at, span_at};
+
+use std::fmt;
 
 // Why an input is not taken, with the number that document 01 gives it.
 #[derive(Clone, Copy, Debug, PartialEq, Eq)]
@@ -59,7 +62,19 @@ impl Refusal {
     }
 }
 
-// Writes octets from `at` on; the place after them.
+// As every program says it: `refused 2`.
+impl fmt::Display for Refusal {
+    ghost output = { λ r. Some (refused_text r) };
+
+    #[tactic(auto, unfolding(crate::specs::Texts::codes, crate::specs::Refusals::refused_text))]
+    fn fmt<W: fmt::Write>(&self, f: &mut fmt::Formatter<W>) -> fmt::Result {
+        let number = self.number();
+        write!(f, "refused {number}")
+    }
+}
+
+// Writes octets from `at` on; the place after them. Output and place are two parameters, here and in every function that
+// writes: with a struct of both each contract would say besides that the output is still the one that was lent.
 pub fn put_octets(out: &mut [u8], at: usize, octets: &[u8]) -> usize
     requires { at + length octets.now ≤ length out.old }
     ensures { Wrote at octets.now out.old result out.new }
@@ -78,14 +93,61 @@ pub fn put_octet(out: &mut [u8], at: usize, octet: u8) -> usize
     at + 1
 }
 
-// The octets in an array of user data or of a header, with zeros after them.
-pub fn stored_octets(octets: &[u8]) -> [u8; 255]
-    requires { length octets.now ≤ 255 }
-    ensures { result ≡ pad 255 octets.now }
+// Octets in an array of `N`, and how many of them count: there is no heap. A length past the array is what refusal 1 is of,
+// so a length may be too large. The array stands last: a record that holds one is copied twice less on its way out.
+#[derive(Clone, Copy, Debug)]
+pub struct Held<const N: usize> {
+    pub length: usize,
+    pub octets: [u8; N],
+}
+
+// No octets.
+impl<const N: usize> Default for Held<N> {
+    ghost is_default = { λ h. h ≡ holding N [] };
+
+    fn default() -> Self {
+        Held {
+            length: 0,
+            octets: [0; N],
+        }
+    }
+}
+
+impl<const N: usize> Held<N> {
+    // The octets that count.
+    pub fn as_slice(&self) -> &[u8]
+        ensures { result.now ≡ filled self.now }
+    {
+        &self.octets[..self.length.min(N)]
+    }
+
+    // Whether the length keeps within the array.
+    pub fn fits(&self) -> bool
+        ensures { result ≡ leb self.now.length N }
+    {
+        self.length <= N
+    }
+}
+
+// Octets, with zeros after them.
+fn padded<const N: usize>(octets: &[u8]) -> [u8; N]
+    requires { length octets.now ≤ N }
+    ensures { result ≡ pad N octets.now }
 {
-    let mut array = [0u8; 255];
+    let mut array = [0; N];
     put_octets(&mut array, 0, octets);
     array
+}
+
+// Octets as a record holds them.
+pub fn hold<const N: usize>(octets: &[u8]) -> Held<N>
+    requires { length octets.now ≤ N }
+    ensures { result ≡ holding N octets.now }
+{
+    Held {
+        length: octets.len(),
+        octets: padded(octets),
+    }
 }
 
 // A flag as a bit of an octet.
@@ -93,6 +155,14 @@ pub fn flag(on: bool, weight: u8) -> u8
     ensures { (result ≡ flagWeight on weight) × (result ≤ weight) }
 {
     if on { weight } else { 0 }
+}
+
+// A length that counts: that of what is absent doesn't. Beside `flag`, which is of octets: one function for both types would
+// need a trait that names their zero.
+pub fn length_if(there: bool, length: usize) -> usize
+    ensures { result ≡ length_if there length }
+{
+    if there { length } else { 0 }
 }
 
 // A place in a message; every read hands back the next one.

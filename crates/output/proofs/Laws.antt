@@ -1,26 +1,28 @@
 -- Appending to an output; octets and their hexadecimal: there and back, how many, and one more in a loop; decimal digits.
 -- Assumes nothing.
 use Prim.Native.Char.{code}
-use Prim.Native.Nat.{ℕ, zero, suc, ◌-◌, ◌+◌, ◌*◌, ◌/◌, ◌%◌, ◌<◌, ◌≤◌}
-use mathlib.Core.Path.{◌≡◌, refl, ap₂}
-use mathlib.Core.Bool.{true, false, ◌&&◌}
+use Prim.Native.Nat.{ℕ, zero, suc, ◌+◌, ◌*◌, ◌/◌, ◌%◌, ◌<◌, ◌≤◌}
+use mathlib.Core.Path.{◌≡◌, refl, ap₂, ◌∙◌}
+use mathlib.Core.Bool.{Bool, true, false}
 use mathlib.Core.List.{List, [], ◌∷◌, ◌++◌, append_assoc}
 use mathlib.Core.Logic.{◌↔◌}
 use native.Mathlib.Numerals.{add-one}
 use native.Mathlib.Omega.{arith}
-use borrow.Author.Tests.{le-leb, lt-leb, eq-eqb, ne_eqb, eqb-true, lt-ltb, ltb-false}
-use lib.Dec.{ltb}
-use lib.ListN.{length, take, drop, set, get_or, length-set, length-append, drop_of_length-le}
-use lib.Seq.{sets-eq, length-take-le, take_at, drop-cons, drop-set-lt, get_or-set_same}
+use borrow.Author.Tests.{le-leb, lt-leb, eq-eqb, eqb-true, lt-ltb}
+use lib.Dec.{eqb}
+use lib.ListN.{length, take, drop, get_or, length-append, drop_of_length-le}
+use lib.Seq.{sets-eq, length-take-le, take_at, drop-cons, get_or-take, get_or-drop}
 use Rattle.octets.specs.Each.{Octets, each}
 use Rattle.octets.specs.Lent.{Wrote}
 use Rattle.octets.proofs.Choice.{and_means}
 use Rattle.octets.proofs.Each.{each_means}
 use Rattle.octets.proofs.Laws.{sets_start}
 use Rattle.time.specs.Time.{is_hex, hex_value}
-use Rattle.octets.specs.Decimal.{significant}
+use Rattle.octets.specs.Decimal.{significant, decimal_text}
 use Rattle.output.specs.declared.hexadecimal.HexError.{HexError}
-use Rattle.std.specs.Prelude.{Result, Ok, Err}
+use Rattle.std.specs.Prelude.{Result, Ok, Err, ◌^◌}
+use Rattle.std.specs.Simd.{first_chunks}
+use Rattle.std.specs.Fmt.{decimal, digits, digits_onto}
 use Rattle.output.specs.Output.{appended}
 use Rattle.output.specs.Hexadecimal.{lower_digit, hex_text, is_hex_text, octets_of, read_into}
 use Rattle.output.proofs.Digits.{lower_digit_lem}
@@ -125,18 +127,27 @@ module _ (i : ℕ) where
   unfolding octets_of
   octets_end ds h = rw (drop_of_length-le ds h)
 
--- ---- decimal digits: one more is stored before the others, and none is left
+-- ---- decimal digits: with no zero in front they are the library's
 
-pub digits_next : (first rest : ℕ) (text : List ℕ) → 0 < first → first ≤ length text → 0 < rest
-    → significant (first - 1) (rest / 10) ++ drop (first - 1) (set text (first - 1) (code "0" + rest % 10)) ≡ significant first rest ++ drop first text
+-- all digits of n, where j more than its last are enough
+decimal_onto : (j k n : ℕ) (after : List ℕ) → j ≤ k → n < 10 ^ suc j → digits_onto (suc k) 10 false n after ≡ significant j (n / 10) ++ (code "0" + n % 10) ∷ after
 unfolding significant
-digits_next zero rest text f l r = absurd (omega arith)
-digits_next (suc k) rest text f l r =
-    let e : suc k - 1 ≡ k = omega arith in
-    let n : k < length (set text k (code "0" + rest % 10)) = simp length-set (omega arith) in
-    rw (e, drop-cons (set text k (code "0" + rest % 10)) k 0 n, drop-set-lt (suc k) text k (code "0" + rest % 10) (omega arith), get_or-set_same, ne_eqb rest 0 (λ z. omega arith), append_assoc)
+decimal_onto zero k n after l h =
+    let z : n / 10 ≡ 0 = omega (arith, h) in
+    let d : n % 10 < 10 = omega arith in
+    rw (eq-eqb (n / 10) 0 z, lt-ltb (n % 10) 10 d) refl
+decimal_onto (suc j) zero n after l h = absurd (omega arith)
+decimal_onto (suc j) (suc k) n after l h = by (eqb (n / 10) 0) refl (decimal_onto j k (n / 10) ((code "0" + n % 10) ∷ after) (omega arith) (omega (arith, h)))
+  where
+    d : n % 10 < 10
+    d = omega arith
 
-pub digits_none : (first rest : ℕ) → (ltb 0 first && ltb 0 rest) ≡ false → significant first rest ≡ []
-unfolding significant
-digits_none zero rest e = refl
-digits_none (suc k) rest e = let z = ltb-false 0 rest (rw (lt-ltb 0 (suc k) (omega arith)) at e) in rw (eq-eqb rest 0 (omega arith))
+    by : (b : Bool) → eqb (n / 10) 0 ≡ b
+        → digits_onto (suc k) 10 false (n / 10) ((code "0" + n % 10) ∷ after) ≡ significant j (n / 10 / 10) ++ (code "0" + n / 10 % 10) ∷ (code "0" + n % 10) ∷ after
+        → digits_onto (suc (suc k)) 10 false n after ≡ significant (suc j) (n / 10) ++ (code "0" + n % 10) ∷ after
+    by true e before = rw (e, lt-ltb (n % 10) 10 d) refl
+    by false e before = rw (e, lt-ltb (n % 10) 10 d, append_assoc (significant j (n / 10 / 10)) _ _) before
+
+pub library_decimal : (n : ℕ) → n < 2 ^ 64 → decimal n ≡ decimal_text n
+unfolding digits decimal_text
+library_decimal n h = decimal_onto 19 63 n [] (omega arith) (omega (arith, h))

@@ -70,13 +70,14 @@ fn put_octets_of(text: &[u8], out: &mut [u8]) -> usize
     requires { (is_hex_text text.now ≡ true) × (length text.now / 2 ≤ length out.old) }
     ensures { Wrote 0 (octets_of text.now) out.old result out.new }
 {
-    let n = text.len() / 2;
-    for i in 0..n {
-        let first = digit_value(text[2 * i]).unwrap();
-        let second = digit_value(text[2 * i + 1]).unwrap();
-        out[i] = 16 * first + second;
+    let (pairs, _) = text.as_chunks::<2>();
+    // Stored by index: what a `zip` with `iter_mut` leaves behind did not prove.
+    for (i, &[first, second]) in pairs.iter().enumerate() {
+        let high = digit_value(first).unwrap();
+        let low = digit_value(second).unwrap();
+        out[i] = 16 * high + low;
     }
-    n
+    pairs.len()
 }
 
 // Reads digits, and stores their octets from the start of a lent buffer on, and how many; an error leaves it as it was.

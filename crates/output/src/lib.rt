@@ -3,10 +3,11 @@
 
 pub mod hexadecimal;
 
-ghost use Rattle.std.specs.Prelude.{◌≡◌, ℕ, ◌≤◌, List, [], length, take};
+ghost use Rattle.std.specs.Prelude.{◌≡◌, ℕ, ◌≤◌, List, [], length, take, Ok};
 ghost use Rattle.octets.specs.Decimal.{decimal_text};
 ghost use Rattle.output.specs.Output.{appended};
 
+use std::fmt;
 use std::marker::Model;
 
 // How many octets an output holds at most.
@@ -55,13 +56,6 @@ impl Output {
         self.length = 0;
     }
 
-    // Takes back what was appended after so many octets.
-    pub fn truncate(&mut self, length: usize)
-        ensures { self.new ≡ take length self.old }
-    {
-        self.length = self.length.min(length);
-    }
-
     // Appends octets. Those that do not fit are left out, all of them.
     pub fn put(&mut self, octets: &[u8])
         ensures { self.new ≡ appended 65536 octets.now self.old }
@@ -81,16 +75,19 @@ impl Output {
     pub fn put_decimal(&mut self, n: u64)
         ensures { self.new ≡ appended 65536 (decimal_text n) self.old }
     {
-        let mut text = [0u8; 20];
-        let mut first = 19;
-        let mut rest = n / 10;
-        text[19] = b'0' + (n % 10) as u8;
-        // A `while`: it ends when no digit is left.
-        while (0 < first) & (0 < rest) {
-            first -= 1;
-            text[first] = b'0' + (rest % 10) as u8;
-            rest /= 10;
-        }
-        self.put(&text[first..]);
+        self.put_text(itoa::Buffer::new().format(n));
+    }
+}
+
+// So that `write!` appends to an output; text that does not fit is left out, and that is no error.
+impl fmt::Write for Output {
+    ghost write_str_gives = { λ before text after. after ≡ appended 65536 text before };
+
+    fn write_str(&mut self, text: &str) -> fmt::Result
+        ensures ok { result ≡ Ok tt }
+        ensures text { self.new ≡ appended 65536 text.now self.old }
+    {
+        self.put_text(text);
+        Ok(())
     }
 }

@@ -9,7 +9,7 @@ use tpdu::{Refusal, SmsStatusReport, Time};
 fn say_answer<R: Print>(rt: &R, answer: Result<usize, Refusal>) -> io::Result<()> {
     match answer {
         Ok(n) => println!(rt; "{n} octets"),
-        Err(why) => println!(rt; "refused {}", why.number()),
+        Err(why) => println!(rt; "{why}"),
     }
 }
 
@@ -20,14 +20,14 @@ fn report(recipient: usize, discharge: Time, user_data: usize) -> SmsStatusRepor
         0x61, 0x20, 0x11, 0x70, 0x40, 0x4F,
     ]);
     let mut r = read.unwrap_or_default().message;
-    r.tp_recipient_address.address_length = recipient;
+    r.tp_recipient_address.address.length = recipient;
     r.tp_discharge_time = discharge;
     r.tp_user_data.length = user_data;
     r
 }
 
-fn time(digits: [u8; 14], length: usize) -> Time {
-    Time { digits, length }
+fn time(octets: [u8; 14], length: usize) -> Time {
+    Time { octets, length }
 }
 
 // The page of two records.
@@ -38,10 +38,8 @@ fn try_two<R: Print>(
     second: SmsStatusReport,
 ) -> io::Result<()> {
     print!(rt; "{what}")?;
-    let mut reports = [first; 99];
-    reports[1] = second;
     let mut lent = [b'.'; 156];
-    let answer = tpdu::shift_page(reports, 2, &mut lent);
+    let answer = tpdu::shift_page(&[first, second], &mut lent);
     say_answer(rt, answer)?;
     if answer.is_ok() {
         rt.write_all(&lent)?;
@@ -53,7 +51,8 @@ fn try_two<R: Print>(
 fn try_count<R: Print>(rt: &R, what: &str, r: SmsStatusReport, count: usize) -> io::Result<()> {
     print!(rt; "{what}")?;
     let mut lent = [b'.'; 117];
-    let answer = tpdu::shift_page([r; 99], count, &mut lent);
+    let reports = [r; 100];
+    let answer = tpdu::shift_page(&reports[..count.min(100)], &mut lent);
     say_answer(rt, answer)?;
     rt.write_all(&lent)?;
     if answer.is_err() {

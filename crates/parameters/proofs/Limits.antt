@@ -1,10 +1,10 @@
 -- Writers that differ in the limit of user data alone.
 -- Assumes nothing.
-use Rattle.std.specs.Prelude.{Ok, Option}
+use Rattle.std.specs.Prelude.{Option}
 use Prim.Native.Nat.{ℕ, ◌≤◌}
 use mathlib.Core.Path.{◌≡◌, sym, ◌∙◌}
 use mathlib.Core.List.{List, ◌++◌}
-use Rattle.octets.specs.Answers.{Said, fine}
+use Rattle.octets.specs.Answers.{fine}
 use Rattle.octets.specs.Checks.{Check, found, checked}
 use Rattle.octets.specs.Lent.{Making, made}
 use Rattle.octets.proofs.Checks.{both_hold, passed, all_passed, made_told}

@@ -1,5 +1,5 @@
 -- What functions of the codec say to each other of parameters: nobody has to believe anything here.
-use Rattle.std.specs.Prelude.{ℕ, length, Ok, Err}
+use Rattle.std.specs.Prelude.{length, Ok, Err}
 use Rattle.octets.specs.Answers.{Said}
 use Rattle.octets.specs.declared.Place.{Place}
 use Rattle.parameters.specs.Parameters.{Parameters}

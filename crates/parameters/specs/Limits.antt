@@ -1,6 +1,5 @@
 -- Writers of a report that differ in one thing: the limit of user data (refusal 8; tables of TS 23.040 §9.2.2.1a, §9.2.2.2a, §9.2.2.3).
 use Rattle.std.specs.Prelude.{ℕ, ◌≤◌, ◌≡◌, List, ◌↔◌}
-use Rattle.octets.specs.Answers.{Said}
 use Rattle.octets.specs.Lent.{Making, made}
 
 -- `within limit` is what is made of a record within a limit, `count` how many octets of user data a record holds

@@ -11,16 +11,17 @@ ghost use Rattle.parameters.specs.Optional.{octets_held, held};
 ghost use Rattle.parameters.specs.Outcome.{outcome_agrees};
 
 // The octets of a report's parameters (TS 23.040 §9.2.3.27), each held or not.
-#[derive(Clone, Copy, Debug, PartialEq, Eq)]
+#[derive(Clone, Copy, Debug, Default, PartialEq, Eq)]
 pub struct ParameterOctets {
     pub pid: Option<u8>,
     pub dcs: Option<u8>,
     pub udl: Option<u8>,
 }
 
-// What carries a report: an RP-ACK, or an RP-ERROR, which alone has a cause.
-#[derive(Clone, Copy, Debug, PartialEq, Eq)]
+// What carries a report: an RP-ACK, or an RP-ERROR, which alone has a cause. A blank record holds RP-ACK.
+#[derive(Clone, Copy, Debug, Default, PartialEq, Eq)]
 pub enum RpOutcome {
+    #[default]
     RpAck,
     RpError,
 }

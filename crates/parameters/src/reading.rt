@@ -22,21 +22,10 @@ pub struct ParametersRead {
 pub fn read_indicator(data: &[u8], place: Place) -> Option<(u8, Place)>
     ensures { ok_or result OctetsEnd ≡ indicator_at «data».now place }
 {
-    let Some((indicator, next)) = place.octet(data) else {
-        return None;
-    };
-    let mut last = indicator;
-    let mut at = next.at;
-    // A `while`: an octet says whether another follows.
-    while last / 128 % 2 == 1 {
-        let place = Place { at };
-        let Some((extension, next)) = place.octet(data) else {
-            return None;
-        };
-        last = extension;
-        at = next.at;
-    }
-    Some((indicator, Place { at }))
+    let octets = data.get(place.at..)?;
+    let last = octets.iter().position(|x| *x / 128 % 2 != 1)?;
+    let at = place.at + last + 1;
+    Some((octets[0], Place { at }))
 }
 
 // An octet that is there if it is announced.

@@ -1,17 +1,16 @@
 -- The walk over a header's elements.
 -- Assumes nothing.
 use Rattle.std.specs.Prelude.{Ok, Err}
-use Prim.Native.Nat.{ℕ, ◌+◌, ◌≤◌, ◌<◌}
+use Prim.Native.Nat.{ℕ}
 use mathlib.Core.Path.{◌≡◌, refl, sym, ap}
-use mathlib.Core.List.{List}
+use mathlib.Core.List.{List, [], ◌∷◌, ◌++◌}
 use Rattle.std.specs.Prelude.{Option, Some, None}
 use Rattle.std.specs.Option.{option_or}
 use Rattle.part_number.specs.declared.PartNumber.{PartNumber}
-use lib.ListN.{length, get_or, drop}
+use lib.ListN.{length}
 use Rattle.octets.specs.Answers.{Said}
-use Rattle.octets.specs.declared.Refusal.TheVariants.{ElementPassesHeader}
-use Rattle.header_elements.specs.Elements.{Element, element, before, elements_of}
-use Rattle.header_elements.proofs.Storing.{none_at, lone_at, passes_at, element_at, value}
+use Rattle.header_elements.specs.Elements.{Element, element, before, elements_after, elements_of}
+use Rattle.header_elements.proofs.Apart.{one_then}
 use Rattle.part_number.specs.Numbering.{numbering_of, last_numbering, in_range, by_elements}
 
 -- ---- what the elements that are left say, after what those before said
@@ -38,18 +37,10 @@ unfolding last_numbering
 resumed_before e (Ok es) found = ap in_range (or_else_lem (last_numbering es) (numbering_of e) found)
 resumed_before e (Err why) found = refl
 
-module _ (s : List ℕ) (at : ℕ) (found : Option PartNumber) where
-  pub walk_end : length s ≤ at → resumed (elements_of (drop at s)) found ≡ in_range found
-  unfolding last_numbering
-  walk_end h = rw (none_at s at h)
+module _ {left : List ℕ} (found : Option PartNumber) where
+  pub walk_on : (i : ℕ) (v after : List ℕ) → left ≡ i ∷ length v ∷ v ++ after → resumed (elements_of left) found ≡ resumed (elements_of after) (option_or (numbering_of (element i v)) found)
+  walk_on i v after e = rw (e, one_then i v after) (resumed_before (element i v) (elements_of after) found)
 
-  pub walk_lone : at < length s → length s ≤ at + 1 → resumed (elements_of (drop at s)) found ≡ Err ElementPassesHeader
-  walk_lone h l = rw (lone_at s at h l)
-
-  module _ (two : at + 1 < length s) where
-    pub walk_passes : length s < at + 2 + get_or s (at + 1) 0 → resumed (elements_of (drop at s)) found ≡ Err ElementPassesHeader
-    walk_passes h = rw (passes_at s at two h)
-
-    pub walk_on : at + 2 + get_or s (at + 1) 0 ≤ length s
-        → resumed (elements_of (drop at s)) found ≡ resumed (elements_of (drop (at + 2 + get_or s (at + 1) 0) s)) (option_or (numbering_of (element (get_or s at 0) (value s at two))) found)
-    walk_on h = rw (element_at s at two h) (resumed_before (element (get_or s at 0) (value s at two)) (elements_of (drop (at + 2 + get_or s (at + 1) 0) s)) found)
+  pub walk_end : left ≡ [] → resumed (elements_of left) found ≡ in_range found
+  unfolding last_numbering elements_after
+  walk_end e = rw e

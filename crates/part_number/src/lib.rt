@@ -1,11 +1,19 @@
 // What numbers a part of a concatenated short message (TS 23.040 §9.2.3.24.1, §9.2.3.24.8).
 #![tactic(auto)]
 
-ghost use Rattle.std.specs.Prelude.{◌≡◌, ◌≤◌, length};
+ghost use Rattle.std.specs.Prelude.{◌≡◌};
 ghost use Rattle.header_elements.specs.Elements.{element, elements_of};
 ghost use Rattle.part_number.specs.Numbering.{numbering_of, in_range, by_elements, numbering_in};
 
+use header_elements::{Element, Elements};
 use octets::Refusal;
+
+// The elements that number a part, by the width of its reference, and how many parts a message has at most.
+const EIGHT_BITS: u8 = 0x00;
+
+const SIXTEEN_BITS: u8 = 0x08;
+
+const MAX_PARTS: u8 = 8;
 
 // The reference of a concatenated message, with its width.
 #[derive(Clone, Copy, Debug, PartialEq, Eq)]
@@ -24,25 +32,22 @@ pub struct PartNumber {
 
 // What an element says; none where it numbers no part.
 #[tactic(auto, unfolding(crate::specs::Numbering::numbering_of))]
-fn numbering_of(identifier: u8, value: &[u8]) -> Option<PartNumber>
-    ensures { result ≡ numbering_of (element identifier value.now) }
+fn numbering_of(e: Element<'_>) -> Option<PartNumber>
+    ensures { result ≡ numbering_of (element e.entry.identifier e.entry.value.now) }
 {
-    let n = value.len();
-    if (identifier == 0x00) & (n == 3) {
-        return Some(PartNumber {
-            reference: Reference::Eight(value[0]),
-            total: value[1],
-            number: value[2],
-        });
+    match (e.identifier, e.value) {
+        (EIGHT_BITS, [reference, total, number]) => Some(PartNumber {
+            reference: Reference::Eight(*reference),
+            total: *total,
+            number: *number,
+        }),
+        (SIXTEEN_BITS, [high, low, total, number]) => Some(PartNumber {
+            reference: Reference::Sixteen(u16::from_be_bytes([*high, *low])),
+            total: *total,
+            number: *number,
+        }),
+        _ => None,
     }
-    if (identifier == 0x08) & (n == 4) {
-        return Some(PartNumber {
-            reference: Reference::Sixteen(u16::from_be_bytes([value[0], value[1]])),
-            total: value[2],
-            number: value[3],
-        });
-    }
-    None
 }
 
 // The numbers that were found, if they are in range.
@@ -50,36 +55,18 @@ fn numbering_of(identifier: u8, value: &[u8]) -> Option<PartNumber>
 fn in_range(found: Option<PartNumber>) -> Result<PartNumber, Refusal>
     ensures { result ≡ in_range found }
 {
-    let Some(part) = found else {
-        return Err(Refusal::NotAPart);
-    };
-    let total = part.total;
-    let number = part.number;
-    if ((1 <= total) & (total <= 8)) & ((1 <= number) & (number <= total)) {
-        return Ok(part);
-    }
-    Err(Refusal::NotAPart)
+    found
+        .filter(|n| (1..=MAX_PARTS).contains(&n.total) && (1..=n.total).contains(&n.number))
+        .ok_or(Refusal::NotAPart)
 }
 
 // What the octets of a header after its first say of the part.
 fn number_in(body: &[u8]) -> Result<PartNumber, Refusal>
-    requires { length body.now ≤ 255 }
     ensures { result ≡ by_elements (elements_of body.now) }
 {
     let mut found = None;
-    let mut at = 0;
-    // A `while`: an element says itself how many octets it has.
-    while at + 1 < body.len() {
-        let start = at + 2;
-        let next = start + body[at + 1] as usize;
-        if body.len() < next {
-            return Err(Refusal::ElementPassesHeader);
-        }
-        found = numbering_of(body[at], &body[start..next]).or(found);
-        at = next;
-    }
-    if at < body.len() {
-        return Err(Refusal::ElementPassesHeader);
+    for element in Elements::of(body) {
+        found = numbering_of(element?).or(found);
     }
     in_range(found)
 }
@@ -92,12 +79,12 @@ pub fn number_part(udhi: bool, dcs: u8, udl: u8, data: &[u8]) -> Result<PartNumb
     if !udhi {
         return Err(Refusal::NotAPart);
     }
-    let end = user_data_header::header_octets(data);
-    if data.len() < end {
+    let Some(body) = user_data_header::header_body(data) else {
         return Err(Refusal::HeaderNotWhole);
-    }
-    if !user_data_header::in_count(coding::user_data_coding(dcs), udl, end) {
+    };
+    let octets = user_data_header::header_octets(data);
+    if !user_data_header::in_count(coding::user_data_coding(dcs), udl, octets) {
         return Err(Refusal::HeaderPassesCount);
     }
-    number_in(&data[1..end])
+    number_in(body)
 }

@@ -9,7 +9,7 @@ fn send<R: Print>(rt: &R, text: &[u8], out: &mut [u8]) -> io::Result<()> {
     print!(rt; "{} letters, {} octets lent: ", text.len(), out.len())?;
     match tpdu::pack_gsm7_concatenated(text, 0x2A, out) {
         Ok(sent) => println!(rt; "{} messages, {} octets", sent.messages, sent.octets),
-        Err(why) => println!(rt; "refused {}", why.number()),
+        Err(why) => println!(rt; "{why}"),
     }
 }
 

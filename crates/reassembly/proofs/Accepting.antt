@@ -13,9 +13,9 @@ use Rattle.octets.specs.Answers.{Said}
 use Rattle.octets.specs.Each.{Octets}
 use Rattle.octets.specs.declared.Refusal.{Refusal}
 use Rattle.octets.specs.declared.Refusal.TheVariants.{LengthTooLarge}
+use Rattle.octets.specs.Held.{filled}
+use Rattle.octets.proofs.Holding.{filled_holding}
 use Rattle.octets.proofs.Laws.{part_is}
-use Rattle.coding.specs.Coding.{data_of}
-use Rattle.coding.proofs.Laws.{data_held}
 use Rattle.address.specs.Address.{address_in, address_size}
 use Rattle.address.specs.declared.SMSAddress.{SMSAddress}
 use Rattle.layout.specs.Layout.{done, reached, read, read_from}
@@ -28,8 +28,7 @@ use Rattle.deliver.specs.Deliver.{delivered, format, deliver}
 use Rattle.deliver.specs.declared.SmsDeliver.{SmsDeliver}
 use Rattle.deliver.specs.declared.reading.DeliverFields.{DeliverFields}
 use Rattle.part_number.specs.declared.PartNumber.{PartNumber}
-use Rattle.part_number.specs.Numbering.{numbered, numbering_in}
-use Rattle.part_number.specs.declared.Reference.{Reference}
+use Rattle.part_number.specs.Numbering.{numbering_in}
 use Rattle.part_number.proofs.Range.{numbered_in_range}
 use Rattle.message_store.specs.Part.{key_of, arrival_of}
 use Rattle.message_store.specs.Store.{key_octets, fits}
@@ -39,19 +38,19 @@ use Rattle.reassembly.proofs.Arrival.{Fits, read_fits}
 -- ---- by what user data say
 
 abbrev pub says_of : SmsDeliver → Said PartNumber
-says_of m = numbering_in m.tp_udhi m.tp_dcs m.tp_user_data_length (data_of m.tp_user_data)
+says_of m = numbering_in m.tp_udhi m.tp_dcs m.tp_user_data_length (filled m.tp_user_data)
 
 module _ (m : SmsDeliver) (store : List ℕ) where
   pub arrives_not : (why : Refusal) → says_of m ≡ Err why → ◌≡◌ {A = Said PartAccepted × List ℕ} (Err why, store) (arriving (arrival_of m) store)
   unfolding arrival_of
   arrives_not why e = rw e
 
-  module _ (r : Reference) (t n : ℕ) (e : says_of m ≡ Ok (numbered r t n)) where
-    pub numbers_few : (t ≤ 8) × (n ≤ 8)
-    numbers_few = let (a, b, c, d) = numbered_in_range m.tp_udhi m.tp_dcs m.tp_user_data_length (data_of m.tp_user_data) e in (b, omega arith)
+  module _ (n : PartNumber) (e : says_of m ≡ Ok n) where
+    pub numbers_few : (n.total ≤ 8) × (n.number ≤ 8)
+    numbers_few = let (a, b, c, d) = numbered_in_range m.tp_udhi m.tp_dcs m.tp_user_data_length (filled m.tp_user_data) e in (b, omega arith)
 
-    pub arrives : (key : List ℕ) → key ≡ key_octets (key_of m.tp_originating_address r t) → (x : Said PartAccepted × List ℕ)
-        → x ≡ placing_as key r t n m.tp_dcs (record { udl = m.tp_user_data_length; octets = data_of m.tp_user_data }) store → x ≡ arriving (arrival_of m) store
+    pub arrives : (key : List ℕ) → key ≡ key_octets (key_of m.tp_originating_address n.reference n.total) → (x : Said PartAccepted × List ℕ)
+        → x ≡ placing_as key n m.tp_dcs (record { udl = m.tp_user_data_length; octets = filled m.tp_user_data }) store → x ≡ arriving (arrival_of m) store
     unfolding arrival_of
     arrives key is x p = p ∙ rw (is, e)
 
@@ -89,15 +88,15 @@ module _ (s : List ℕ) (f : DeliverFields) (found : found_says s (Ok f) ≡ rea
   abbrev pub data_cut : List ℕ
   data_cut = take (f.«data» + f.octets - f.«data») (drop f.«data» s)
 
-  data_is : data_cut ≡ data_of message.tp_user_data
+  data_is : data_cut ≡ filled message.tp_user_data
   unfolding delivered fields_at
-  data_is = part_is f.«data» f.octets s ∙ sym (data_held (take f.octets (drop f.«data» s)))
+  data_is = part_is f.«data» f.octets s ∙ sym (filled_holding 255 (take f.octets (drop f.«data» s)))
 
   pub says_is : numbering_in (eqb (f.first / 64 % 2) 1) f.dcs f.udl data_cut ≡ says_of message
   unfolding delivered fields_at
   says_is = rw data_is (rw (kept_bit bits refl 6 refl f.first) refl)
 
-  pub fields_arrive : (store : List ℕ) (r : Reference) (t n : ℕ) → says_of message ≡ Ok (numbered r t n) → (a : SMSAddress) → a ≡ message.tp_originating_address → (key : List ℕ) → key ≡ key_octets (key_of a r t) → (x : Said PartAccepted × List ℕ)
-      → x ≡ placing_as key r t n f.dcs (record { udl = f.udl; octets = data_cut }) store → x ≡ arriving (arrival_of message) store
+  pub fields_arrive : (store : List ℕ) (n : PartNumber) → says_of message ≡ Ok n → (a : SMSAddress) → a ≡ message.tp_originating_address → (key : List ℕ) → key ≡ key_octets (key_of a n.reference n.total) → (x : Said PartAccepted × List ℕ)
+      → x ≡ placing_as key n f.dcs (record { udl = f.udl; octets = data_cut }) store → x ≡ arriving (arrival_of message) store
   unfolding delivered fields_at
-  fields_arrive store r t n e a is key k x p = arrives message store r t n e key (k ∙ ap (λ (b : SMSAddress). key_octets (key_of b r t)) is) x (p ∙ ap (λ (d : List ℕ). placing_as key r t n f.dcs (record { udl = f.udl; octets = d }) store) data_is)
+  fields_arrive store n e a is key k x p = arrives message store n e key (k ∙ ap (λ (b : SMSAddress). key_octets (key_of b n.reference n.total)) is) x (p ∙ ap (λ (d : List ℕ). placing_as key n f.dcs (record { udl = f.udl; octets = d }) store) data_is)

@@ -3,7 +3,7 @@
 use Rattle.reassembly.specs.declared.MessageDropped.{MessageDropped}
 use Rattle.reassembly.specs.declared.MessageTaken.{MessageTaken}
 use Rattle.std.specs.Prelude.{Ok, Err, Some, None}
-use Prim.Native.Nat.{ℕ, suc, ◌+◌, ◌-◌, ◌*◌, ◌≤◌, ◌<◌}
+use Prim.Native.Nat.{ℕ, suc, ◌+◌, ◌*◌, ◌≤◌, ◌<◌}
 use mathlib.Core.Path.{◌≡◌, refl, sym, ap, ◌∙◌}
 use mathlib.Core.Bool.{true, false, ◌&&◌}
 use mathlib.Core.List.{List, [], ◌∷◌, ◌++◌}
@@ -16,6 +16,8 @@ use lib.ListN.{length, get_or, set, take, drop, replicate}
 use lib.Seq.{sets, get_or-drop, get_or-take}
 use mathlib.Core.Logic.{⊎_elim}
 use Rattle.octets.specs.Answers.{Said}
+use Rattle.octets.specs.Held.{holding}
+use Rattle.octets.specs.declared.Held.{Held}
 use Rattle.octets.specs.Lent.{Wrote, lend}
 use Rattle.octets.specs.declared.Refusal.{Refusal}
 use Rattle.octets.specs.declared.Refusal.TheVariants.{LengthTooLarge, OutputTooShort}
@@ -31,11 +33,16 @@ use Rattle.reassembly.specs.Internal.{slot_found}
 use Rattle.reassembly.specs.Calls.{message_making, handing, finding, finding_by, taking_by, dropping_by}
 use Rattle.message_store.proofs.AtStart.{begins_is}
 use Rattle.message_store.proofs.Keys.{written_cut}
-use Rattle.message_store.proofs.Slots.{slot_found as slot_is, slot_past, Room, slot_size, cut_is, slot_bounds, found_has, fits_room, fits_slot}
+use Rattle.message_store.proofs.Slots.{slot_found as slot_is, slot_past, Room, slot_size, slot_bounds, found_has, fits_room, fits_slot}
 
 no_length : (xs : List ℕ) → length xs ≡ 0 → xs ≡ []
 no_length [] e = refl
 no_length (x ∷ xs) e = absurd (omega arith)
+
+-- how many octets are held
+pub count_is : {n : ℕ} (xs : List ℕ) {h : Held n} → h ≡ holding n xs → h.length ≡ length xs
+unfolding holding
+count_is xs e = rw e
 
 -- ---- the message of a slot
 
@@ -92,11 +99,11 @@ module _ (a : SMSAddress) (r : Reference) (t : ℕ) (store : List ℕ) where
   abbrev key : List ℕ
   key = key_octets (key_of a r t)
 
-  pub finds_long : 290 < a.address_length → Err LengthTooLarge ≡ finding_by a r t store
+  pub finds_long : 290 < a.address.length → Err LengthTooLarge ≡ finding_by a r t store
   unfolding finding_by
   finds_long h = rw (lt-ltb _ _ h)
 
-  module _ (short : a.address_length ≤ 290) where
+  module _ (short : a.address.length ≤ 290) where
     pub finds_unfit : fits store ≡ false → Err LengthTooLarge ≡ finding_by a r t store
     unfolding finding_by finding
     finds_unfit f = rw (le-ltb _ _ short, f)
@@ -112,7 +119,7 @@ module _ (a : SMSAddress) (r : Reference) (t : ℕ) (store : List ℕ) where
     found_is =
         ⊎_elim (λ (l, q). absurd (never (sym q)))
         (λ (l, q). ⊎_elim (λ (f, e). (f, sym (given e))) (λ (f, e). absurd (never (sym e))) (chosen (fits store) q))
-        (chosen (ltb 290 a.address_length) (sym found))
+        (chosen (ltb 290 a.address.length) (sym found))
 
     pub room : Room store
     room = fits_room store found_is.0
@@ -131,13 +138,12 @@ module _ (a : SMSAddress) (r : Reference) (t : ℕ) (store : List ℕ) where
     unfolding taking_by
     takes_none out h = rw (← found, none_open h)
 
-    pub takes_open : (out : List ℕ) → k < 16 → (x : Said MessageTaken × List ℕ × List ℕ) → x ≡ handing t (take (k * 2356 + 2356 - k * 2356) (drop (k * 2356) store)) out
-        → ◌≡◌ {A = Said MessageTaken × List ℕ × List ℕ} (x.0, take (k * 2356) store ++ (x.1 ++ drop (k * 2356 + 2356 - k * 2356) (drop (k * 2356) store)), x.2) (taking_by a r t store out)
+    pub takes_open : (out : List ℕ) → k < 16 → {s : List ℕ} → s ≡ slot_at k store → (x : Said MessageTaken × List ℕ × List ℕ) → x ≡ handing t s out
+        → ◌≡◌ {A = Said MessageTaken × List ℕ × List ℕ} (x.0, with_slot k x.1 store, x.2) (taking_by a r t store out)
     unfolding taking_by
-    takes_open out h x e =
-        let size : k * 2356 + 2356 - k * 2356 ≡ 2356 = omega arith in
-        let y : x ≡ handing t (slot_at k store) out = e ∙ ap (λ (s : List ℕ). handing t s out) (cut_is store k) in
-        rw (← found, ne_eqb k 16 (λ q. omega arith), size) (ap (λ (z : Said MessageTaken × List ℕ × List ℕ). (z.0, with_slot k z.1 store, z.2)) y)
+    takes_open out h {s} cut x e =
+        let y : x ≡ handing t (slot_at k store) out = e ∙ ap (λ (s : List ℕ). handing t s out) cut in
+        rw (← found, ne_eqb k 16 (λ q. omega arith)) (ap (λ (z : Said MessageTaken × List ℕ × List ℕ). (z.0, with_slot k z.1 store, z.2)) y)
 
     pub drops_none : 16 ≤ k → ◌≡◌ {A = Said MessageDropped × List ℕ} (Ok MessageDropped.NotOpen, store) (dropping_by a r t store)
     unfolding dropping_by

@@ -1,13 +1,15 @@
 -- What the four calls answer, and every octet of the store and of a lent output afterwards.
 use Rattle.std.specs.Prelude.{ℕ, not, List, ◌∷◌, ◌++◌, length, drop, replicate, eqb, leb, ltb, if◌then◌else◌, Ok, Err}
 use Rattle.octets.specs.Answers.{Said, fine}
-use Rattle.octets.specs.Arrays.{pad}
+use Rattle.octets.specs.Held.{holding}
 use Rattle.octets.specs.Lent.{Making, made, lend}
 use Rattle.octets.specs.declared.Refusal.TheVariants.{LengthTooLarge, StoreFull, NotAPart}
 use Rattle.address.specs.declared.SMSAddress.{SMSAddress}
 use Rattle.layout.specs.Layout.{Reached, reached, halted, read}
 use Rattle.deliver.specs.Deliver.{deliver}
 use Rattle.deliver.specs.declared.SmsDeliver.{SmsDeliver}
+use Rattle.part_number.specs.Numbering.{numbered}
+use Rattle.part_number.specs.declared.PartNumber.{PartNumber}
 use Rattle.part_number.specs.declared.Reference.{Reference}
 use Rattle.reassembly.specs.declared.MessageDropped.{MessageDropped}
 use Rattle.reassembly.specs.declared.MessageTaken.{MessageTaken}
@@ -23,39 +25,37 @@ emptied store = if leb store_octets (length store) then (fine, replicate store_o
 -- ---- a part comes
 
 -- accepted: the numbers of its message, as it then is, that are missing
-unfoldable pub told : Reference → ℕ → ℕ → Message → Said PartAccepted
-told reference total number m =
-    let missing = missing_of m in
-    Ok (record { reference = reference; total = total; number = number; missing = pad 8 missing; missing_count = length missing })
+unfoldable pub told : PartNumber → Message → Said PartAccepted
+told n m = Ok (record { part = n; missing = holding 8 (missing_of m) })
 
 -- an answer, and the store with slot k as it then is (where the slot is as it was, so is the store: the law `put_back`)
 abbrev pub in_slot : {A : Type 0} → ℕ → A × List ℕ → List ℕ → A × List ℕ
 in_slot k r store = (r.0, with_slot k r.1 store)
 
 -- the part stored in a slot: the answer, and the slot
-abbrev pub storing : Reference → ℕ → ℕ → Part → List ℕ → Said PartAccepted × List ℕ
-storing reference total number p slot = let now = with_part number p slot in (told reference total number (message_in total now), now)
+abbrev pub storing : PartNumber → Part → List ℕ → Said PartAccepted × List ℕ
+storing n p slot = let now = with_part n.number p slot in (told n (message_in n.total now), now)
 
 -- its message is open in the slot: 28 for another coding scheme, or other UDL or data; the same UDL and data change nothing
-unfoldable pub joining : Reference → ℕ → ℕ → ℕ → Part → List ℕ → Said PartAccepted × List ℕ
-joining reference total number dcs p slot =
-    let same = begins (p.udl ∷ p.octets) (block number slot) in
+unfoldable pub joining : PartNumber → ℕ → Part → List ℕ → Said PartAccepted × List ℕ
+joining n dcs p slot =
+    let same = begins (p.udl ∷ p.octets) (block n.number slot) in
     if not (eqb (coding_in slot) dcs) then (Err NotAPart, slot)
-    else if not (is_held number slot) then storing reference total number p slot
-    else if same then (told reference total number (message_in total slot), slot)
+    else if not (is_held n.number slot) then storing n p slot
+    else if same then (told n (message_in n.total slot), slot)
     else (Err NotAPart, slot)
 
 -- an open message is joined; a new one is opened in a free slot: 27 where there is none
-unfoldable pub placing_as : List ℕ → Reference → ℕ → ℕ → ℕ → Part → List ℕ → Said PartAccepted × List ℕ
-placing_as key reference total number dcs p store =
+unfoldable pub placing_as : List ℕ → PartNumber → ℕ → Part → List ℕ → Said PartAccepted × List ℕ
+placing_as key n dcs p store =
     let k = slot_with key store in
     let free = free_slot store in
-    if not (eqb k 16) then in_slot k (joining reference total number dcs p (slot_at k store)) store
-    else if not (eqb free 16) then in_slot free (storing reference total number p (opened_with key dcs (slot_at free store))) store
+    if not (eqb k 16) then in_slot k (joining n dcs p (slot_at k store)) store
+    else if not (eqb free 16) then in_slot free (storing n p (opened_with key dcs (slot_at free store))) store
     else (Err StoreFull, store)
 
 abbrev pub placing : Arrived → List ℕ → Said PartAccepted × List ℕ
-placing a store = placing_as (key_octets a.key) a.key.reference a.key.total a.number a.dcs a.part store
+placing a store = placing_as (key_octets a.key) (numbered a.key.reference a.key.total a.number) a.dcs a.part store
 
 abbrev pub arriving : Said Arrived → List ℕ → Said PartAccepted × List ℕ
 arriving (Ok a) store = placing a store
@@ -104,7 +104,7 @@ taking key store out = taking_from (finding key store) key.total store out
 
 -- by address, reference with its width, and total: 1 also where the address's length passes its array
 unfoldable pub finding_by : SMSAddress → Reference → ℕ → List ℕ → Said ℕ
-finding_by a reference total store = if ltb 290 a.address_length then Err LengthTooLarge else finding (key_of a reference total) store
+finding_by a reference total store = if ltb 290 a.address.length then Err LengthTooLarge else finding (key_of a reference total) store
 
 unfoldable pub taking_by : SMSAddress → Reference → ℕ → List ℕ → List ℕ → Said MessageTaken × List ℕ × List ℕ
 taking_by a reference total store out = taking_from (finding_by a reference total store) total store out

@@ -8,17 +8,15 @@ ghost use Rattle.deliver.specs.Deliver.{delivered};
 ghost use Rattle.deliver.specs.Internal.{fields_at, found_says as fieldsSay, Inside};
 ghost use Rattle.message_store.specs.Part.{arrival_of};
 ghost use Rattle.message_store.specs.Store.{store_octets, opened_with, message_in};
-ghost use Rattle.reassembly.specs.Calls.{emptied, accepting, handing, taking_by, finding_by, dropping_by, arriving};
-ghost use Rattle.reassembly.specs.Internal.{slot_found, kept, told_of, storing_of, joining_of, placing_of};
+ghost use Rattle.reassembly.specs.Calls.{emptied, told, storing, joining, placing_as, accepting, handing, taking_by, finding_by, dropping_by, arriving};
+ghost use Rattle.reassembly.specs.Internal.{slot_found, kept};
 
 use address::SMSAddress;
-use address::writing::Number;
 use deliver::reading::DeliverFields;
-use octets::Refusal;
-use part_number::Reference;
-
-// The octets of a store: 16 slots of 2356 octets (message_store/specs/Store.antt says what stands where).
-pub const STORE_OCTETS: usize = 37696;
+pub use message_store::STORE_OCTETS;
+use message_store::{CODING, OPEN, SLOT_OCTETS, Slot};
+use octets::{Held, Refusal};
+use part_number::{PartNumber, Reference};
 
 // A lent output of so many octets is never too short for a message.
 pub const MESSAGE_OCTETS: usize = 4080;
@@ -26,11 +24,8 @@ pub const MESSAGE_OCTETS: usize = 4080;
 // What accepting a part answers: its reference, total and number, and the numbers of its message that are still missing.
 #[derive(Clone, Copy, Debug)]
 pub struct PartAccepted {
-    pub reference: Reference,
-    pub total: u8,
-    pub number: u8,
-    pub missing: [u8; 8],
-    pub missing_count: usize,
+    pub part: PartNumber,
+    pub missing: Held<8>,
 }
 
 // What taking a message answers: its coding scheme and the number of octets written; or that it is not open, or not whole.
@@ -52,9 +47,7 @@ pub enum MessageDropped {
 // What a part says beside its key and its data.
 #[derive(Clone, Copy)]
 struct PartFields {
-    reference: Reference,
-    total: u8,
-    number: u8,
+    numbers: PartNumber,
     dcs: u8,
     udl: u8,
 }
@@ -62,78 +55,67 @@ struct PartFields {
 // ---- a part and its slot
 
 // What is told of a part that its message holds.
-fn accepted(slot: &[u8], part: PartFields) -> PartAccepted
-    requires { (length slot.now ≡ 2356) × (part.total ≤ 8) }
-    ensures { Ok result ≡ told_of part (message_in part.total slot.now) }
+fn accepted(slot: &Slot, part: PartNumber) -> PartAccepted
+    requires { part.total ≤ 8 }
+    ensures { Ok result ≡ told part (message_in part.total slot.now) }
 {
     let missing = message_store::missing_in(slot, part.total);
-    let numbers = missing.numbers;
-    let reference = part.reference;
-    PartAccepted {
-        reference,
-        total: part.total,
-        number: part.number,
-        missing: numbers,
-        missing_count: missing.count,
-    }
+    PartAccepted { part, missing }
 }
 
 // The part joins the message that is open in a slot.
-fn join(slot: &mut [u8], part: PartFields, data: &[u8]) -> Result<PartAccepted, Refusal>
-    requires { (length slot.old ≡ 2356) × (part.total ≤ 8) × (part.number ≤ 8) × (length «data».now ≤ 255) }
-    ensures { (result, slot.new) ≡ joining_of part (kept part «data».now) slot.old }
+fn join(slot: &mut Slot, part: PartFields, data: &[u8]) -> Result<PartAccepted, Refusal>
+    requires { (part.numbers.total ≤ 8) × (part.numbers.number ≤ 8) × (length «data».now ≤ 255) }
+    ensures { (result, slot.new) ≡ joining part.numbers part.dcs (kept part «data».now) slot.old }
 {
-    if slot[1] != part.dcs {
+    if slot[CODING] != part.dcs {
         return Err(Refusal::NotAPart);
     }
-    let n = part.number as usize;
-    if slot[1 + n] == 0 {
-        message_store::put_part(slot, part.number, part.udl, data);
-        return Ok(accepted(slot, part));
+    let n = part.numbers.number;
+    if slot[1 + n as usize] == 0 {
+        message_store::put_part(slot, n, part.udl, data);
+        return Ok(accepted(slot, part.numbers));
     }
-    let at = 52 + n * 256;
+    let at = message_store::part_at(n);
     if slot[at] != part.udl {
         return Err(Refusal::NotAPart);
     }
-    let start = at + 1;
-    let end = at + 256;
-    if !message_store::all_same(&slot[start..end], data) {
+    if !message_store::all_same(&slot[at + 1..at + 256], data) {
         return Err(Refusal::NotAPart);
     }
-    Ok(accepted(slot, part))
+    Ok(accepted(slot, part.numbers))
 }
 
 // The part of a new message is stored in a free slot.
-fn begin_message(slot: &mut [u8], key: &[u8], part: PartFields, data: &[u8]) -> PartAccepted
-    requires { (length slot.old ≡ 2356) × (length key.now ≤ 298) × (part.total ≤ 8) × (part.number ≤ 8) × (length «data».now ≤ 255) }
-    ensures { (Ok result, slot.new) ≡ storing_of part (kept part «data».now) (opened_with key.now part.dcs slot.old) }
+fn begin_message(slot: &mut Slot, key: &[u8], part: PartFields, data: &[u8]) -> PartAccepted
+    requires { (length key.now ≤ 298) × (part.numbers.total ≤ 8) × (part.numbers.number ≤ 8) × (length «data».now ≤ 255) }
+    ensures { (Ok result, slot.new) ≡ storing part.numbers (kept part «data».now) (opened_with key.now part.dcs slot.old) }
 {
     message_store::open_slot(slot, part.dcs, key);
-    message_store::put_part(slot, part.number, part.udl, data);
-    accepted(slot, part)
+    message_store::put_part(slot, part.numbers.number, part.udl, data);
+    accepted(slot, part.numbers)
 }
 
 // The part joins its message, or begins a new one.
+// The slot is cut out here and in `take_message`: of a function that hands out a chunk of a part, the loan isn't proved.
 fn place_part(
     store: &mut [u8],
     key: &[u8],
     part: PartFields,
     data: &[u8],
 ) -> Result<PartAccepted, Refusal>
-    requires { (store_octets ≤ length store.old) × (length key.now ≤ 298) × (part.total ≤ 8) × (part.number ≤ 8) × (length «data».now ≤ 255) }
-    ensures { (result, store.new) ≡ placing_of key.now part (kept part «data».now) store.old }
+    requires { (store_octets ≤ length store.old) × (length key.now ≤ 298) × (part.numbers.total ≤ 8) × (part.numbers.number ≤ 8) × (length «data».now ≤ 255) }
+    ensures { (result, store.new) ≡ placing_as key.now part.numbers part.dcs (kept part «data».now) store.old }
 {
-    if let Some(k) = message_store::find_message(&store[..], key) {
-        let at = k * 2356;
-        let end = at + 2356;
-        return join(&mut store[at..end], part, data);
+    if let Some(k) = message_store::find_message(store, key) {
+        let (_, from) = store.split_at_mut(k * SLOT_OCTETS);
+        return join(from.first_chunk_mut().unwrap(), part, data);
     }
-    let Some(free) = message_store::find_free(&store[..]) else {
+    let Some(free) = message_store::find_free(store) else {
         return Err(Refusal::StoreFull);
     };
-    let at = free * 2356;
-    let end = at + 2356;
-    Ok(begin_message(&mut store[at..end], key, part, data))
+    let (_, from) = store.split_at_mut(free * SLOT_OCTETS);
+    Ok(begin_message(from.first_chunk_mut().unwrap(), key, part, data))
 }
 
 // ---- keys
@@ -148,22 +130,14 @@ fn find_by(
 ) -> Result<Option<usize>, Refusal>
     ensures { result ≡ slot_found (finding_by address reference total store.now) }
 {
-    let n = address.address_length;
-    if 290 < n {
+    if !address.address.fits() {
         return Err(Refusal::LengthTooLarge);
     }
     if !message_store::fits_store(store) {
         return Err(Refusal::LengthTooLarge);
     }
-    let text = address.address;
-    let mut key = [0u8; 298];
-    let number = Number {
-        ton: address.ton,
-        npi: address.npi,
-        text: &text[..n],
-    };
-    let length = message_store::put_key(&mut key, number, reference, total);
-    Ok(message_store::find_message(store, &key[..length]))
+    let key = message_store::key_of(address.number(), reference, total);
+    Ok(message_store::find_message(store, key.as_slice()))
 }
 
 // Accepts the part that a DELIVER is, by its fields.
@@ -176,23 +150,13 @@ fn accept_fields(store: &mut [u8], data: &[u8], f: DeliverFields) -> Result<Part
     let udhi = f.first / 64 % 2 == 1;
     let part = part_number::number_part(udhi, f.dcs, f.udl, &data[start..end])?;
     let sender = address::address_at(data, f.address);
-    let n = sender.address.address_length;
-    let text = sender.address.address;
-    let mut key = [0u8; 298];
-    let number = Number {
-        ton: sender.address.ton,
-        npi: sender.address.npi,
-        text: &text[..n],
-    };
-    let length = message_store::put_key(&mut key, number, part.reference, part.total);
+    let key = message_store::key_of(sender.address.number(), part.reference, part.total);
     let fields = PartFields {
-        reference: part.reference,
-        total: part.total,
-        number: part.number,
+        numbers: part,
         dcs: f.dcs,
         udl: f.udl,
     };
-    place_part(store, &key[..length], fields, &data[start..end])
+    place_part(store, key.as_slice(), fields, &data[start..end])
 }
 
 // ---- the four calls
@@ -201,10 +165,10 @@ fn accept_fields(store: &mut [u8], data: &[u8], f: DeliverFields) -> Result<Part
 pub fn empty_store(store: &mut [u8]) -> Result<(), Refusal>
     ensures { (result, store.new) ≡ emptied store.old }
 {
-    if store.len() < 37696 {
+    if store.len() < STORE_OCTETS {
         return Err(Refusal::LengthTooLarge);
     }
-    store[..37696].fill(0);
+    store[..STORE_OCTETS].fill(0);
     Ok(())
 }
 
@@ -213,30 +177,28 @@ pub fn accept_part(store: &mut [u8], data: &[u8]) -> Result<PartAccepted, Refusa
     ensures { (result, store.new) ≡ accepting «data».now store.old }
 {
     let fields = deliver::reading::fields_of(data)?;
-    if !message_store::fits_store(&store[..]) {
+    if !message_store::fits_store(store) {
         return Err(Refusal::LengthTooLarge);
     }
     accept_fields(store, data, fields)
 }
 
 // Hands over the message of a slot if it is whole, and closes the slot.
-fn hand_over(slot: &mut [u8], total: u8, out: &mut [u8]) -> Result<MessageTaken, Refusal>
-    requires { (length slot.old ≡ 2356) × (total ≤ 8) }
+fn hand_over(slot: &mut Slot, total: u8, out: &mut [u8]) -> Result<MessageTaken, Refusal>
+    requires { total ≤ 8 }
     ensures { (result, slot.new, out.new) ≡ handing total slot.old out.old }
 {
-    let missing = message_store::missing_in(&slot[..], total);
-    let count = missing.count;
-    if count != 0 {
+    if message_store::missing_in(slot, total).length != 0 {
         return Ok(MessageTaken::NotWhole);
     }
-    let mut shown = [0u8; 4080];
-    let n = message_store::put_parts(&mut shown, &slot[..], total);
+    let mut shown = [0u8; MESSAGE_OCTETS];
+    let n = message_store::put_parts(&mut shown, slot, total);
     if out.len() < n {
         return Err(Refusal::OutputTooShort);
     }
     octets::put_octets(out, 0, &shown[..n]);
-    let dcs = slot[1];
-    slot[0] = 0;
+    let dcs = slot[CODING];
+    slot[OPEN] = 0;
     Ok(MessageTaken::Whole(dcs, n))
 }
 
@@ -250,12 +212,11 @@ pub fn take_message(
 ) -> Result<MessageTaken, Refusal>
     ensures { (result, store.new, out.new) ≡ taking_by address reference total store.old out.old }
 {
-    let Some(k) = find_by(&store[..], address, reference, total)? else {
+    let Some(k) = find_by(store, address, reference, total)? else {
         return Ok(MessageTaken::NotOpen);
     };
-    let at = k * 2356;
-    let end = at + 2356;
-    hand_over(&mut store[at..end], total, out)
+    let (_, from) = store.split_at_mut(k * SLOT_OCTETS);
+    hand_over(from.first_chunk_mut().unwrap(), total, out)
 }
 
 // Drops a message from the store.
@@ -267,9 +228,9 @@ pub fn drop_message(
 ) -> Result<MessageDropped, Refusal>
     ensures { (result, store.new) ≡ dropping_by address reference total store.old }
 {
-    let Some(k) = find_by(&store[..], address, reference, total)? else {
+    let Some(k) = find_by(store, address, reference, total)? else {
         return Ok(MessageDropped::NotOpen);
     };
-    store[k * 2356] = 0;
+    store[k * SLOT_OCTETS] = 0;
     Ok(MessageDropped::Done)
 }

@@ -17,9 +17,9 @@ use Rattle.octets.specs.Each.{Octets}
 use Rattle.octets.specs.Lent.{lend}
 use Rattle.octets.specs.declared.Refusal.{Refusal}
 use Rattle.octets.specs.declared.Refusal.TheVariants.{OutputTooShort}
+use Rattle.octets.specs.Held.{filled}
 use Rattle.octets.proofs.Checks.{never}
 use Rattle.octets.proofs.Places.{given}
-use Rattle.coding.specs.Coding.{data_of}
 use Rattle.address.specs.declared.SMSAddress.{SMSAddress}
 use Rattle.layout.specs.Layout.{Reached, reached, halted, read}
 use Rattle.deliver.specs.Deliver.{deliver}
@@ -49,19 +49,19 @@ take_short n l = let e = length-take n l in omega arith
 
 module _ (m : SmsDeliver) (fit : Fits m) where
   abbrev says : Said PartNumber
-  says = numbering_in m.tp_udhi m.tp_dcs m.tp_user_data_length (data_of m.tp_user_data)
+  says = numbering_in m.tp_udhi m.tp_dcs m.tp_user_data_length (filled m.tp_user_data)
 
   valid_of : (a : Arrived) → arrival_of m ≡ Ok a → Valid a
   unfolding arrival_of
   valid_of a e = by_number says refl e
     where
-      by_number : (x : Said PartNumber) → says ≡ x → arrived_as m.tp_originating_address m.tp_dcs m.tp_user_data_length (data_of m.tp_user_data) x ≡ Ok a → Valid a
+      by_number : (x : Said PartNumber) → says ≡ x → arrived_as m.tp_originating_address m.tp_dcs m.tp_user_data_length (filled m.tp_user_data) x ≡ Ok a → Valid a
       by_number (Err why) p q = absurd (never (sym q))
       by_number (Ok n) p q =
-          let (b, c, d, f) = numbered_in_range m.tp_udhi m.tp_dcs m.tp_user_data_length (data_of m.tp_user_data) p in
-          let header = numbered_header m.tp_udhi m.tp_dcs m.tp_user_data_length (data_of m.tp_user_data) p in
-          let text = take_short m.tp_originating_address.address_length m.tp_originating_address.address in
-          let it : Arrived = record { key = key_of m.tp_originating_address n.reference n.total; dcs = m.tp_dcs; number = n.number; part = record { udl = m.tp_user_data_length; octets = data_of m.tp_user_data } } in
+          let (b, c, d, f) = numbered_in_range m.tp_udhi m.tp_dcs m.tp_user_data_length (filled m.tp_user_data) p in
+          let header = numbered_header m.tp_udhi m.tp_dcs m.tp_user_data_length (filled m.tp_user_data) p in
+          let text = take_short m.tp_originating_address.address.length m.tp_originating_address.address.octets in
+          let it : Arrived = record { key = key_of m.tp_originating_address n.reference n.total; dcs = m.tp_dcs; number = n.number; part = record { udl = m.tp_user_data_length; octets = filled m.tp_user_data } } in
           let it_is : Valid it = record { named = omega (arith, text, fit.address_fits); total_high = c; number_low = d; number_high = f; own = fit.own; few = fit.few; small = (header, fit.udl_few, fit.few) } in
           subst Valid (given q) it_is
 
@@ -198,17 +198,17 @@ module _ (key : Key) (named : Named key) (store : List ℕ) (s : Sound store) (o
 
 -- ---- the calls name a message by address, reference and total: its key can be named, and they do what is said by the key
 
-module _ (a : SMSAddress) (r : Reference) (t : ℕ) (short : a.address_length ≤ 290) (store : List ℕ) where
+module _ (a : SMSAddress) (r : Reference) (t : ℕ) (short : a.address.length ≤ 290) (store : List ℕ) where
   pub key_named : Named (key_of a r t)
-  key_named = omega (arith, take_short a.address_length a.address)
+  key_named = omega (arith, take_short a.address.length a.address.octets)
 
   pub takes_by_key : (out : List ℕ) → taking_by a r t store out ≡ taking (key_of a r t) store out
   unfolding taking_by finding_by taking
-  takes_by_key out = rw (le-ltb 290 a.address_length short)
+  takes_by_key out = rw (le-ltb 290 a.address.length short)
 
   pub drops_by_key : dropping_by a r t store ≡ dropping (key_of a r t) store
   unfolding dropping_by finding_by dropping
-  drops_by_key = rw (le-ltb 290 a.address_length short)
+  drops_by_key = rw (le-ltb 290 a.address.length short)
 
 -- ---- a store that begins empty
 

@@ -12,7 +12,6 @@ use lib.Dec.{ltb}
 use lib.ListN.{length, get_or, take, drop, length-take}
 use lib.Seq.{get_or-take, get_or-drop}
 use Rattle.octets.specs.Answers.{Said}
-use Rattle.octets.specs.Arrays.{pad}
 use Rattle.std.specs.Prelude.{if◌then◌else◌, Ok, Err, IsOk}
 use Rattle.octets.specs.Each.{Octets}
 use Rattle.octets.specs.declared.Refusal.{Refusal}
@@ -26,6 +25,8 @@ use Rattle.part_number.specs.declared.Reference.{Reference}
 use Rattle.message_store.specs.Part.{Key, Named, Part, Arrived, key_of, shown_in}
 use Rattle.message_store.specs.Store.{is_held, coding_in, part_at, block, key_octets, part_of, holding, holdings, slot_at, slot_of, Message, message_in, missing_from, missing_of, held_of}
 use Rattle.reassembly.specs.declared.MessageTaken.{MessageTaken}
+use Rattle.octets.specs.Held.{holding as array_holding}
+use Rattle.part_number.specs.Numbering.{numbered}
 use Rattle.reassembly.specs.declared.PartAccepted.{PartAccepted}
 use Rattle.reassembly.specs.Calls.{told, accepting, finding_by, taking, taking_by, dropping}
 use Rattle.message_store.proofs.Shown.{length_holdings, shown_short}
@@ -190,7 +191,7 @@ module _ (key : Key) (named : Named key) (store : List ℕ) (w : OnlyCalls store
               absurd (nobody b k (omega arith) q)
 
   pub missing_told : (missing : List ℕ)
-      × ◌≡◌ {A = Said PartAccepted} (accepting octets later).0 (Ok (record { reference = key.reference; total = key.total; number = a.number; missing = pad 8 missing; missing_count = length missing }))
+      × ◌≡◌ {A = Said PartAccepted} (accepting octets later).0 (Ok (record { part = numbered key.reference key.total a.number; missing = array_holding 8 missing }))
       × ((n : ℕ) → Among n missing ↔ ((1 ≤ n) × (n ≤ key.total) × Never n))
   unfolding told
   missing_told = (missing_of m, joins.tells ∙ rw own, missing_when)

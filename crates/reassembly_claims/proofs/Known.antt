@@ -8,8 +8,10 @@ use mathlib.Core.List.{List, [], ◌∷◌}
 use mathlib.Core.Option.{some}
 use lib.ListN.{replicate}
 use Rattle.octets.specs.Arrays.{pad}
+use Rattle.octets.specs.Held.{holding as array_holding}
 use Rattle.octets.specs.Lent.{lend}
 use Rattle.coding.specs.Coding.{coding_of, character_set, data_octets}
+use Rattle.part_number.specs.Numbering.{numbered}
 use Rattle.part_number.specs.declared.Reference.{Reference}
 use Rattle.message_store.specs.Part.{Key, Arrived, shown_in}
 use Rattle.message_store.specs.Store.{begins, first, has_key, belongs, slot_fits, part_of, holding, holdings, key_octets, opened_with, opened_for, with_part, slot_with, free_slot, fits, message_in, missing_from, shown_parts}
@@ -37,8 +39,8 @@ empty : List ℕ
 empty = replicate 37696 0
 
 -- number 1 is missing
-first_comes : (placing second empty).0 ≡ Ok (record { reference = Reference.Eight 7; total = 2; number = 2; missing = 1 ∷ 0 ∷ 0 ∷ 0 ∷ 0 ∷ 0 ∷ 0 ∷ 0 ∷ []; missing_count = 1 })
-unfolding empty key second placing_as told first slot_with free_slot has_key holding holdings message_in missing_from with_part opened_with key_octets begins part_of coding_of character_set data_octets pad
+first_comes : (placing second empty).0 ≡ Ok (record { part = numbered (Reference.Eight 7) 2 2; missing = record { octets = 1 ∷ 0 ∷ 0 ∷ 0 ∷ 0 ∷ 0 ∷ 0 ∷ 0 ∷ []; length = 1 } })
+unfolding empty key second placing_as told array_holding first slot_with free_slot has_key holding holdings message_in missing_from with_part opened_with key_octets begins part_of coding_of character_set data_octets pad
 first_comes = refl
 
 -- then nothing is missing, and the message is taken: 41 43 44

@@ -18,6 +18,8 @@ use Rattle.coding.specs.Coding.{coding_of, data_octets}
 use Rattle.part_number.specs.declared.Reference.TheVariants.{Eight}
 use Rattle.message_store.specs.Part.{Key, Named, Part, Arrived}
 use Rattle.message_store.specs.Store.{begins, is_open, is_held, coding_in, part_at, block, belongs, holding, opened_for, with_part, slot_at, with_slot, slot_with, slot_of, free_slot, Message, message_in, held_of}
+use Rattle.part_number.specs.Numbering.{numbered}
+use Rattle.part_number.specs.declared.PartNumber.{PartNumber}
 use Rattle.reassembly.specs.declared.PartAccepted.{PartAccepted}
 use Rattle.reassembly.specs.Calls.{in_slot, told, storing, joining, placing_as, placing}
 use Rattle.message_store.proofs.First.{true_false, first_bounds, first_passes, first_before}
@@ -168,8 +170,11 @@ module _ (a : Arrived) (v : Valid a) (store : List ℕ) (s : Sound store) where
   abbrev key : Key
   key = a.key
 
+  abbrev numbers : PartNumber
+  numbers = numbered key.reference key.total a.number
+
   abbrev tell : Message → Said PartAccepted
-  tell = told key.reference key.total a.number
+  tell = told numbers
 
   abbrev Becomes : Said PartAccepted × List ℕ → Type 0
   Becomes r = (Joined a store r.0 r.1 × Sound r.1) ⊎ Turned a store r.0 r.1
@@ -288,7 +293,7 @@ module _ (a : Arrived) (v : Valid a) (store : List ℕ) (s : Sound store) where
             against (c, inr p) = true_false (held_same slot a.number a.part is-held own block_size (sym at_number ∙ p)) e
 
     -- what joining comes to
-    joining_does : Becomes (in_slot k (joining key.reference key.total a.number a.dcs a.part slot) store)
+    joining_does : Becomes (in_slot k (joining numbers a.dcs a.part slot) store)
     unfolding joining
     joining_does = by_coding (eqb (coding_in slot) a.dcs) refl (is_held a.number slot) refl (begins (a.part.udl ∷ a.part.octets) (block a.number slot)) refl
       where
@@ -298,7 +303,7 @@ module _ (a : Arrived) (v : Valid a) (store : List ℕ) (s : Sound store) where
         answers : Bool → Bool → Bool → Said PartAccepted × List ℕ
         answers c h b =
             if not c then (Err NotAPart, slot)
-            else if not h then storing key.reference key.total a.number a.part slot
+            else if not h then storing numbers a.part slot
             else if b then (tell (message_in key.total slot), slot)
             else (Err NotAPart, slot)
 
@@ -383,8 +388,8 @@ module _ (a : Arrived) (v : Valid a) (store : List ℕ) (s : Sound store) where
     where
       answers : Bool → Bool → Said PartAccepted × List ℕ
       answers c f =
-          if not c then in_slot (slot_of key store) (joining key.reference key.total a.number a.dcs a.part (slot_at (slot_of key store) store)) store
-          else if not f then in_slot (free_slot store) (storing key.reference key.total a.number a.part (opened_for key a.dcs (slot_at (free_slot store) store))) store
+          if not c then in_slot (slot_of key store) (joining numbers a.dcs a.part (slot_at (slot_of key store) store)) store
+          else if not f then in_slot (free_slot store) (storing numbers a.part (opened_for key a.dcs (slot_at (free_slot store) store))) store
           else (Err StoreFull, store)
 
       by_slot : (c : Bool) → eqb (slot_of key store) 16 ≡ c → (f : Bool) → eqb (free_slot store) 16 ≡ f → Becomes (answers c f)

@@ -15,11 +15,12 @@ use Rattle.octets.proofs.Checks.{never}
 use Rattle.layout.specs.Layout.{Reached, reached, halted, read}
 use Rattle.deliver.specs.Deliver.{deliver}
 use Rattle.deliver.specs.declared.SmsDeliver.{SmsDeliver}
-use Rattle.part_number.specs.declared.Reference.{Reference}
 use Rattle.message_store.specs.Part.{Part, Arrived, arrival_of}
 use Rattle.message_store.specs.Store.{begins, coding_in, is_held, block, key_octets, opened_with, with_part, closed, slot_at, with_slot, slot_with, free_slot, fits, Message, message_in, missing_of, shown_of}
 use Rattle.reassembly.specs.declared.MessageDropped.{MessageDropped}
 use Rattle.reassembly.specs.declared.MessageTaken.{MessageTaken}
+use Rattle.part_number.specs.Numbering.{numbered}
+use Rattle.part_number.specs.declared.PartNumber.{PartNumber}
 use Rattle.reassembly.specs.declared.PartAccepted.{PartAccepted}
 use Rattle.reassembly.specs.Calls.{in_slot, told, storing, joining, placing_as, arriving, gathering, accepting, message_making, closed_by, handing, taking_from, dropping_from}
 use Rattle.message_store.proofs.Slots.{put_back}
@@ -29,36 +30,36 @@ use Rattle.message_store.proofs.Slots.{put_back}
 abbrev pub Unchanged : List ℕ → Said PartAccepted × List ℕ → Type 0
 Unchanged was r = (why : Refusal) → r.0 ≡ Err why → r.1 ≡ was
 
-told_not : (r : Reference) (t n : ℕ) (m : Message) (why : Refusal) → told r t n m ≡ Err why → ⊥
+told_not : (n : PartNumber) (m : Message) (why : Refusal) → told n m ≡ Err why → ⊥
 unfolding told
-told_not r t n m why e = never e
+told_not n m why e = never e
 
-joining_unchanged : (r : Reference) (t n dcs : ℕ) (p : Part) (slot : List ℕ) → Unchanged slot (joining r t n dcs p slot)
+joining_unchanged : (n : PartNumber) (dcs : ℕ) (p : Part) (slot : List ℕ) → Unchanged slot (joining n dcs p slot)
 unfolding joining
-joining_unchanged r t n dcs p slot = by_tests (eqb (coding_in slot) dcs) (is_held n slot) (begins (p.udl ∷ p.octets) (block n slot))
+joining_unchanged n dcs p slot = by_tests (eqb (coding_in slot) dcs) (is_held n.number slot) (begins (p.udl ∷ p.octets) (block n.number slot))
   where
     answers : Bool → Bool → Bool → Said PartAccepted × List ℕ
-    answers a b c = if not a then (Err NotAPart, slot) else if not b then storing r t n p slot else if c then (told r t n (message_in t slot), slot) else (Err NotAPart, slot)
+    answers a b c = if not a then (Err NotAPart, slot) else if not b then storing n p slot else if c then (told n (message_in n.total slot), slot) else (Err NotAPart, slot)
 
     by_tests : (a b c : Bool) → Unchanged slot (answers a b c)
     by_tests false b c why e = refl
-    by_tests true false c why e = absurd (told_not r t n (message_in t (with_part n p slot)) why e)
+    by_tests true false c why e = absurd (told_not n (message_in n.total (with_part n.number p slot)) why e)
     by_tests true true true why e = refl
     by_tests true true false why e = refl
 
-placing_unchanged : (key : List ℕ) (r : Reference) (t n dcs : ℕ) (p : Part) (store : List ℕ) → Unchanged store (placing_as key r t n dcs p store)
+placing_unchanged : (key : List ℕ) (n : PartNumber) (dcs : ℕ) (p : Part) (store : List ℕ) → Unchanged store (placing_as key n dcs p store)
 unfolding placing_as
-placing_unchanged key r t n dcs p store = by_tests (eqb (slot_with key store) 16) (eqb (free_slot store) 16)
+placing_unchanged key n dcs p store = by_tests (eqb (slot_with key store) 16) (eqb (free_slot store) 16)
   where
     answers : Bool → Bool → Said PartAccepted × List ℕ
     answers a b =
-        if not a then in_slot (slot_with key store) (joining r t n dcs p (slot_at (slot_with key store) store)) store
-        else if not b then in_slot (free_slot store) (storing r t n p (opened_with key dcs (slot_at (free_slot store) store))) store
+        if not a then in_slot (slot_with key store) (joining n dcs p (slot_at (slot_with key store) store)) store
+        else if not b then in_slot (free_slot store) (storing n p (opened_with key dcs (slot_at (free_slot store) store))) store
         else (Err StoreFull, store)
 
     by_tests : (a b : Bool) → Unchanged store (answers a b)
-    by_tests false b why e = ap (λ (s : List ℕ). with_slot (slot_with key store) s store) (joining_unchanged r t n dcs p (slot_at (slot_with key store) store) why e) ∙ put_back (slot_with key store) store
-    by_tests true false why e = absurd (told_not r t n (message_in t (with_part n p (opened_with key dcs (slot_at (free_slot store) store)))) why e)
+    by_tests false b why e = ap (λ (s : List ℕ). with_slot (slot_with key store) s store) (joining_unchanged n dcs p (slot_at (slot_with key store) store) why e) ∙ put_back (slot_with key store) store
+    by_tests true false why e = absurd (told_not n (message_in n.total (with_part n.number p (opened_with key dcs (slot_at (free_slot store) store)))) why e)
     by_tests true true why e = refl
 
 pub accepting_unchanged : (octets store : List ℕ) → Unchanged store (accepting octets store)
@@ -67,7 +68,7 @@ accepting_unchanged octets store = by_reached (read deliver octets)
   where
     by_arrival : (x : Said Arrived) → Unchanged store (arriving x store)
     by_arrival (Err why) w e = refl
-    by_arrival (Ok a) w e = placing_unchanged (key_octets a.key) a.key.reference a.key.total a.number a.dcs a.part store w e
+    by_arrival (Ok a) w e = placing_unchanged (key_octets a.key) (numbered a.key.reference a.key.total a.number) a.dcs a.part store w e
 
     by_fit : (m : SmsDeliver) (t : Bool) → Unchanged store (if t then arriving (arrival_of m) store else (Err LengthTooLarge, store))
     by_fit m true w e = by_arrival (arrival_of m) w e

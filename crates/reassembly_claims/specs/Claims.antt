@@ -8,6 +8,7 @@ use Rattle.octets.specs.declared.Refusal.TheVariants.{StoreFull, NotAPart}
 use Rattle.layout.specs.Layout.{Reached, reached, halted, read}
 use Rattle.deliver.specs.Deliver.{deliver}
 use Rattle.deliver.specs.declared.SmsDeliver.{SmsDeliver}
+use Rattle.part_number.specs.Numbering.{numbered}
 use Rattle.message_store.specs.Part.{Key, Named, Part, Arrived, arrival_of}
 use Rattle.message_store.specs.Store.{store_octets, Message, missing_of, held_of}
 use Rattle.reassembly.specs.declared.MessageDropped.{MessageDropped}
@@ -112,7 +113,7 @@ pub record Joined (a : Arrived) (store : List ℕ) (answer : Said PartAccepted) 
   pub its_message : held_of a.key later ≡ some (adding a (held_of a.key store))
   pub others : OthersStay a.key store later
   pub copy : held_with a (held_of a.key store) ≡ some a.part → later ≡ store
-  pub tells : answer ≡ told a.key.reference a.key.total a.number (adding a (held_of a.key store))
+  pub tells : answer ≡ told (numbered a.key.reference a.key.total a.number) (adding a (held_of a.key store))
 
 -- it is refused, and nothing changes. 28: it doesn't go with what is held; 27: its message is new, and 16 are open
 pub record Turned (a : Arrived) (store : List ℕ) (answer : Said PartAccepted) (later : List ℕ) : Type 0 where

@@ -7,6 +7,7 @@ use mathlib.Core.Path.{◌≡◌, refl}
 use mathlib.Core.List.{List, [], ◌∷◌, ◌++◌}
 use lib.ListN.{length, replicate}
 use Rattle.octets.specs.Arrays.{pad}
+use Rattle.octets.specs.Held.{holding}
 use Rattle.octets.specs.Checks.{checked}
 use Rattle.octets.specs.Each.{each}
 use Rattle.octets.specs.Lent.{refused, made}
@@ -46,7 +47,7 @@ twenty = replicate 10 0x21
 
 -- a record with this type, plan and length, and letters in its array
 abbrev with : ℕ → ℕ → ℕ → RelayAddress
-with ton npi n = record { ton = ton; npi = npi; address = replicate 508 0x78; address_length = n }
+with ton npi n = record { ton = ton; npi = npi; address = record { octets = replicate 508 0x78; length = n } }
 
 pub known :
     -- no address; a number; a number of no digits; F alone; octets after an address
@@ -78,5 +79,5 @@ pub known :
     × Writes None (0x00 ∷ [])
     -- no octet, no type octet, a value that isn't whole
     × Unread [] × Unread (0x01 ∷ []) × Unread (0x03 ∷ 0x91 ∷ 0x21 ∷ [])
-unfolding codes pad each checked semi_octets in_pairs index_of digit_characters digit_character digit_value is_digit without_f relay_with relay_of relay_read relay_octets relay_checks relay_making
+unfolding codes pad holding each checked semi_octets in_pairs index_of digit_characters digit_character digit_value is_digit without_f relay_with relay_of relay_read relay_octets relay_checks relay_making
 known = ((refl, refl), (refl, refl), (refl, refl), refl, refl, refl, (refl, refl), (refl, refl), refl, refl, refl, refl, refl, refl, refl, refl, refl, refl, refl, refl, refl, refl, refl, refl)

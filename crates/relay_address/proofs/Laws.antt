@@ -15,13 +15,15 @@ use Rattle.std.proofs.lemmas.Bool.{cases_Bool}
 use Rattle.std.proofs.lemmas.Option.{none-some, same_Some}
 use Rattle.octets.specs.Checks.{◌unless◌}
 use Rattle.octets.specs.Each.{Octets, each}
+use Rattle.octets.specs.Held.{holding}
 use Rattle.octets.specs.Lent.{Making, refused, made, lend}
 use Rattle.octets.specs.declared.Refusal.TheVariants.{LengthTooLarge, OctetsEnd}
 use Rattle.octets.proofs.Checks.{never, all_passed, one_against, made_told, made_counts, holds, no_checks}
 use Rattle.octets.proofs.Choice.{chosen}
 use Rattle.octets.proofs.Each.{octets_take, octets_drop}
 use Rattle.octets.proofs.Places.{given}
-use Rattle.octets.proofs.Laws.{take_pad, take_cleared, lent_refused, lent_done, sets_start}
+use Rattle.octets.proofs.Holding.{filled_holding, holding_cleared, held_back}
+use Rattle.octets.proofs.Laws.{take_cleared, lent_refused, lent_done, sets_start}
 use Rattle.address.specs.Address.{digit_character, type_of_number, plan_of}
 use Rattle.address.specs.Writing.{digit_value, is_digit}
 use Rattle.address.proofs.DigitCharacters.{digits_size}
@@ -78,7 +80,7 @@ same (o ∷ v) [] oc od = (λ e. absurd (none-some _ (sym e)), λ h. absurd h)
 same (o ∷ v) (p ∷ w) oc od = (
   λ e.
       let is = same_Some _ _ e in
-      let text : map digit_character (digits_in v) ≡ map digit_character (digits_in w) = sym (take_pad 508 (map digit_character (digits_in v))) ∙ ap digits_held is ∙ take_pad 508 (map digit_character (digits_in w)) in (
+      let text : map digit_character (digits_in v) ≡ map digit_character (digits_in w) = sym (filled_holding 508 (map digit_character (digits_in v))) ∙ ap digits_held is ∙ filled_holding 508 (map digit_character (digits_in w)) in (
         ap (λ (a : RelayAddress). a.ton) is,
         ap (λ (a : RelayAddress). a.npi) is,
         sym (digits_back v (λ i. oc (suc i))) ∙ ap (map digit_value) text ∙ digits_back w (λ i. od (suc i)),
@@ -111,24 +113,24 @@ octets_read_lem ton npi text rest t p d =
     whole ∙ rw (cut, a, b, without_pairs (map digit_value text) small, characters, size)
 
 -- an address in its record, as a reader leaves it
-pub record Held (a : RelayAddress) : Type 0 where
+pub record Kept (a : RelayAddress) : Type 0 where
   pub type : a.ton ≤ 7
   pub plan : a.npi ≤ 15
   pub digits : each is_digit (digits_held a) ≡ true
-  pub few : a.address_length ≤ 508
+  pub few : a.address.length ≤ 508
   pub is : a ≡ relay_with a.ton a.npi (digits_held a)
 
-of_octets : (c : List ℕ) → Octets c → length c ≤ 255 → {a : RelayAddress} → relay_of c ≡ Some a → Held a
-unfolding relay_of relay_with
+of_octets : (c : List ℕ) → Octets c → length c ≤ 255 → {a : RelayAddress} → relay_of c ≡ Some a → Kept a
+unfolding relay_of relay_with holding
 of_octets [] o h e = absurd (none-some _ e)
 of_octets (x ∷ v) o h e =
     let text = map digit_character (digits_in v) in
-    let held = take_pad 508 text in
+    let held = filled_holding 508 text in
     rw (← same_Some _ _ e) (record { type = omega arith; plan = omega arith; digits = rw held (values_digits (digits_in v) (digits_small v (λ i. o (suc i)))); few = omega (arith, digits_few v (λ i. o (suc i))); is = rw held })
 
 module _ (s : List ℕ) (o : Octets s) {a : RelayAddress} {n : ℕ} (e : relay_read s ≡ read_as (Some a) n) where
   -- an address that was read holds at most 508 digits
-  pub read_held : Held a
+  pub read_held : Kept a
   read_held = of_octets (counted s) (counted_octets s o) (omega (arith, length-take (get_or s 0 0) (drop 1 s), o 0)) (sym (was_read s e).is)
 
   -- given a buffer long enough, it is refused in writing exactly when its type is 5 (32) or its value passes 10 octets (11), and else reads back as the same address
@@ -166,15 +168,15 @@ none_read rest = read_whole (0x00 ∷ rest) (omega arith)
 -- what is known of an address that was written
 pub record Made (a : RelayAddress) (octets : List ℕ) : Type 0 where
   pub writable : Writable a.ton a.npi (digits_held a)
-  pub few : a.address_length ≤ 508
+  pub few : a.address.length ≤ 508
   pub is : octets_of a ≡ octets
 
 was_made : (a : RelayAddress) {octets : List ℕ} {w : ℕ} → relay_making (Some a) ≡ made octets w → Made a octets
 unfolding relay_making
 was_made a e =
     let checks = relay_checks a.ton a.npi (digits_held a) in
-    let (none, is) = made_told ((LengthTooLarge unless leb a.address_length 508) ∷ checks) (octets_of a) e in
-    let (few, rest) = holds LengthTooLarge (leb a.address_length 508) checks none in
+    let (none, is) = made_told ((LengthTooLarge unless leb a.address.length 508) ∷ checks) (octets_of a) e in
+    let (few, rest) = holds LengthTooLarge (leb a.address.length 508) checks none in
     record { writable = passed a.ton a.npi (digits_held a) rest; few = leb-true _ _ few; is = is }
 
 none_made : {octets : List ℕ} {w : ℕ} → relay_making None ≡ made octets w → 0x00 ∷ [] ≡ octets
@@ -186,14 +188,14 @@ unfolding relay_with
 read_back None typed e rest = rw (← none_made e) (none_read rest)
 read_back (Some a) typed e rest =
     let m = was_made a e in
-    let held = length-take-le a.address_length a.address (omega (arith, typed, m.few)) in
-    rw (← m.is) (octets_read_lem a.ton a.npi (digits_held a) rest m.writable.type m.writable.plan m.writable.digits ∙ rw held)
+    let held = length-take-le a.address.length a.address.octets (omega (arith, typed, m.few)) in
+    rw (← m.is) (octets_read_lem a.ton a.npi (digits_held a) rest m.writable.type m.writable.plan m.writable.digits ∙ rw (held_back a.address held))
 
 -- what is answered counts it
 counts : (a : Option RelayAddress) {octets : List ℕ} {w : ℕ} → relay_making a ≡ made octets w → w ≡ length octets
 unfolding relay_making
 counts None e = made_counts [] (0x00 ∷ []) (no_checks (0x00 ∷ []) ∙ e)
-counts (Some a) e = made_counts ((LengthTooLarge unless leb a.address_length 508) ∷ relay_checks a.ton a.npi (digits_held a)) (octets_of a) e
+counts (Some a) e = made_counts ((LengthTooLarge unless leb a.address.length 508) ∷ relay_checks a.ton a.npi (digits_held a)) (octets_of a) e
 
 -- at most 12 octets are written
 pub at_most : (a : Option RelayAddress) {octets : List ℕ} {w : ℕ} → relay_making a ≡ made octets w → length octets ≤ 12
@@ -204,12 +206,12 @@ at_most (Some a) e = let m = was_made a e in rw (← m.is) (omega (arith, octets
 of_cleared : (a : Option RelayAddress) → Typed a → relay_making (cleared_relay a) ≡ relay_making a
 unfolding relay_making
 of_cleared None typed = refl
-of_cleared (Some a) typed = rw (take_cleared 508 a.address_length a.address typed)
+of_cleared (Some a) typed = rw (take_cleared 508 a.address.length a.address.octets typed)
 
 -- and stays so
 pub cleared_once : (a : Option RelayAddress) → Typed a → cleared_relay (cleared_relay a) ≡ cleared_relay a
 cleared_once None typed = refl
-cleared_once (Some a) typed = rw (take_cleared 508 a.address_length a.address typed)
+cleared_once (Some a) typed = rw (take_cleared 508 a.address.length a.address.octets typed)
 
 module _ (a : Option RelayAddress) (typed : Typed a) where
   -- each proper beginning of what was written is refused with 2
@@ -236,4 +238,4 @@ read_cleared s e = rw (was_read s e).is (by (counted s))
   where
     by : (c : List ℕ) → cleared_relay (relay_of c) ≡ relay_of c
     by [] = refl
-    by (o ∷ v) = rw take_pad
+    by (o ∷ v) = rw holding_cleared

@@ -5,11 +5,9 @@ use Prim.Native.Nat.{ℕ, zero, suc, ◌+◌, ◌*◌, ◌-◌, ◌<◌, ◌≤�
 use mathlib.Core.Path.{◌≡◌, sym, ap, ◌∙◌}
 use mathlib.Core.List.{List, [], ◌∷◌, map}
 use native.Mathlib.Omega.{arith}
-use native.Mathlib.Nat.{zero-add}
 use borrow.Author.Tests.{le-leb, lt-leb}
 use lib.ListN.{length, get_or, take, drop, replicate, length-drop, length-map}
 use lib.Seq.{take_all, length-take-le}
-use Rattle.octets.specs.Arrays.{pad}
 use Rattle.octets.specs.Each.{Octets}
 use Rattle.octets.specs.Lent.{Wrote}
 use Rattle.octets.specs.Places.{octet_at, span_at}
@@ -17,7 +15,7 @@ use Rattle.octets.specs.SemiOctets.{semi_octets}
 use Rattle.octets.specs.declared.Place.{Place}
 use Rattle.octets.specs.declared.Refusal.TheVariants.{OctetsEnd}
 use Rattle.octets.proofs.Each.{Below, octets_take, octets_drop}
-use Rattle.octets.proofs.Laws.{sets_zeros}
+use Rattle.octets.proofs.Holding.{stored}
 use Rattle.octets.proofs.Places.{start, octet_read, octet_ended, span_there, span_ended, span_inside, span_part}
 use Rattle.octets.proofs.SemiOctets.{length_semi, semi_small}
 use Rattle.address.specs.Address.{digit_character, without_f, type_of_number, plan_of}
@@ -93,7 +91,7 @@ module _ (s : List ℕ) where
 
           pub all_there : {n : ℕ} {text : List ℕ} → Octets s → l < 256
               → Wrote 0 (map digit_character (without_f (take (2 * (l - 1)) (semi_octets (take (r.at - a) (drop a s)))))) (replicate 508 0) n text
-              → read_as (Some (record { ton = type_of_number t; npi = plan_of t; address = text; address_length = n })) r.at ≡ relay_read s
+              → read_as (Some (record { ton = type_of_number t; npi = plan_of t; address = record { octets = text; length = n } })) r.at ≡ relay_read s
           unfolding relay_of relay_with
           all_there {n} {text} o small w =
               let (there, is, next) = octet_read s start first in
@@ -103,11 +101,10 @@ module _ (s : List ℕ) where
               let all : take (2 * (l - 1)) (semi_octets value) ≡ semi_octets value = take_all (2 * (l - 1)) (semi_octets value) (omega (arith, length_semi value, value_size)) in
               let digits = map digit_character (digits_in value) in
               let few = digits_few value (octets_take (r.at - a) (drop a s) (octets_drop a s o)) in
-              let size : n ≡ length digits = w.place ∙ rw (all, zero-add) in
-              let stored : text ≡ pad 508 digits = w.list ∙ rw all (sets_zeros 508 digits (omega (arith, value_size))) in
+              let held = stored 508 digits (omega (arith, value_size)) (rw all at w) in
               let at : p.at ≡ 1 = omega arith in
               let at2 : q.at ≡ 2 = omega arith in
               let end : r.at ≡ 1 + get_or s 0 0 = omega arith in
               let value_is : value ≡ take (l - 1) (drop 2 s) = span_part s q (l - 1) third ∙ ap (λ (k : ℕ). take (l - 1) (drop k s)) at2 in
               let octets_are : counted s ≡ t ∷ value = rw (← is, counted_is s l (omega arith) (omega arith), is2, at, value_is) in
-              rw (end, size, stored, read_whole s (omega (arith, value_there)), octets_are)
+              rw (end, held, read_whole s (omega (arith, value_there)), octets_are)

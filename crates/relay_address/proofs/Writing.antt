@@ -78,10 +78,10 @@ unfolding relay_making
 makes_none = refl
 
 module _ (a : RelayAddress) where
-  pub makes_long : 508 < a.address_length → relay_making (Some a) ≡ refused LengthTooLarge
+  pub makes_long : 508 < a.address.length → relay_making (Some a) ≡ refused LengthTooLarge
   unfolding relay_making
-  makes_long h = check_fails (lt-leb a.address_length 508 h) LengthTooLarge (relay_checks a.ton a.npi (digits_held a)) (octets_of a)
+  makes_long h = check_fails (lt-leb a.address.length 508 h) LengthTooLarge (relay_checks a.ton a.npi (digits_held a)) (octets_of a)
 
-  pub makes_checked : a.address_length ≤ 508 → relay_making (Some a) ≡ checked (relay_checks a.ton a.npi (digits_held a)) (octets_of a)
+  pub makes_checked : a.address.length ≤ 508 → relay_making (Some a) ≡ checked (relay_checks a.ton a.npi (digits_held a)) (octets_of a)
   unfolding relay_making
-  makes_checked h = check_holds (le-leb a.address_length 508 h) LengthTooLarge (relay_checks a.ton a.npi (digits_held a)) (octets_of a)
+  makes_checked h = check_holds (le-leb a.address.length 508 h) LengthTooLarge (relay_checks a.ton a.npi (digits_held a)) (octets_of a)

@@ -1,7 +1,7 @@
 -- Addresses of the relay layer (TS 24.011 §8.2.5): a length octet that counts the octets after it, a type octet, and the value, digits only.
 use Rattle.std.specs.Prelude.{ℕ, ◌+◌, ◌≡◌, refl, not, ◌&&◌, List, [], ◌∷◌, map, eqb, leb, length, get_or, take, drop, if◌then◌else◌, Option, Some, None, Ok, Err}
 use Rattle.octets.specs.Answers.{Said}
-use Rattle.octets.specs.Arrays.{pad, cleared_array}
+use Rattle.octets.specs.Held.{holding, filled, cleared_held, TypedHeld}
 use Rattle.octets.specs.Checks.{Check, ◌unless◌, checked}
 use Rattle.octets.specs.Each.{each}
 use Rattle.octets.specs.Lent.{Making, made}
@@ -18,7 +18,7 @@ use Rattle.relay_address.specs.declared.RelayAddressRead.{RelayAddressRead}
 
 -- an address in its record
 unfoldable pub relay_with : ℕ → ℕ → List ℕ → RelayAddress
-relay_with ton npi text = record { ton = ton; npi = npi; address = pad 508 text; address_length = length text }
+relay_with ton npi text = record { ton = ton; npi = npi; address = holding 508 text }
 
 -- the octets that the length octet counts: the type octet and the value
 abbrev pub counted : List ℕ → List ℕ
@@ -59,7 +59,7 @@ relay_checks ton npi text =
 
 -- the digits that a record holds
 abbrev pub digits_held : RelayAddress → List ℕ
-digits_held a = take a.address_length a.address
+digits_held a = filled a.address
 
 -- the octets of the address that a record holds
 abbrev pub octets_of : RelayAddress → List ℕ
@@ -68,19 +68,19 @@ octets_of a = relay_octets a.ton a.npi (digits_held a)
 -- what writing makes: no address is 00; of an address 1, and then 9, 32, 10, 11
 unfoldable pub relay_making : Option RelayAddress → Making ℕ
 relay_making None = made (0x00 ∷ []) 1
-relay_making (Some a) = checked ((LengthTooLarge unless leb a.address_length 508) ∷ relay_checks a.ton a.npi (digits_held a)) (octets_of a)
+relay_making (Some a) = checked ((LengthTooLarge unless leb a.address.length 508) ∷ relay_checks a.ton a.npi (digits_held a)) (octets_of a)
 
 -- ---- what is no part of a record
 
 -- what lies after the length set to zero: records are equal where these are
 abbrev pub cleared_relay : Option RelayAddress → Option RelayAddress
 cleared_relay None = None
-cleared_relay (Some a) = Some (record { ton = a.ton; npi = a.npi; address = cleared_array 508 a.address_length a.address; address_length = a.address_length })
+cleared_relay (Some a) = Some (record { ton = a.ton; npi = a.npi; address = cleared_held a.address })
 
 -- the array has the length of its type
 abbrev pub Typed : Option RelayAddress → Type 0
 Typed None = Unit
-Typed (Some a) = length a.address ≡ 508
+Typed (Some a) = TypedHeld a.address
 
 -- 04 91 21 43 F5 read, octets after it not looked at; and written
 known_number : (relay_read (0x04 ∷ 0x91 ∷ 0x21 ∷ 0x43 ∷ 0xf5 ∷ 0x77 ∷ []) ≡ read_as (Some (relay_with 1 1 (codes "12345"))) 5)

@@ -1,4 +1,4 @@
-// Addresses of the relay layer (TS 24.011 §8.2.5).
+// Addresses of the relay layer (TS 24.011 §8.2.5). Each field read is taken apart with let-else, as document 01 has it.
 #![tactic(auto)]
 
 ghost use Rattle.std.specs.Prelude.{◌≡◌, ◌+◌, ◌/◌, ◌≤◌, length};
@@ -7,16 +7,15 @@ ghost use Rattle.octets.specs.Lent.{Wrote, lend};
 ghost use Rattle.relay_address.specs.Relay.{relay_read, relay_octets, relay_checks, relay_making};
 
 use address::writing::{Number, TYPE_OF_NUMBER_ALPHANUMERIC};
-use octets::{Place, Refusal};
+use octets::{Held, Place, Refusal};
 
 // An address of the relay layer. `address` holds digits.
-// An array with its length: there is no heap, and a length past the array is what refusal 1 is of.
-#[derive(Clone, Copy, Debug)]
+// A type of its own beside `SMSAddress`: one can't be given for the other, and each has its own readers and writers.
+#[derive(Clone, Copy, Debug, Default)]
 pub struct RelayAddress {
     pub ton: u8,
     pub npi: u8,
-    pub address: [u8; 508],
-    pub address_length: usize,
+    pub address: Held<508>,
 }
 
 // What reading gives: the address, if there is one, and the number of octets read.
@@ -72,10 +71,10 @@ impl RelayAddress {
         ensures { result ≡ relay_read «data».now }
     {
         let start = Place { at: 0 };
-        let Some((length, after_length)) = start.octet(data) else {
+        let Some((count, after_length)) = start.octet(data) else {
             return Err(Refusal::OctetsEnd);
         };
-        if length == 0 {
+        if count == 0 {
             return Ok(RelayAddressRead {
                 address: None,
                 octets_read: 1,
@@ -84,21 +83,22 @@ impl RelayAddress {
         let Some((type_of_address, after_type)) = after_length.octet(data) else {
             return Err(Refusal::OctetsEnd);
         };
-        let counted = length as usize;
-        let value_octets = counted - 1;
+        let value_octets = count as usize - 1;
         let Some((at, next)) = after_type.span(data, value_octets) else {
             return Err(Refusal::OctetsEnd);
         };
         let end = next.at;
         let semi_octets = 2 * value_octets;
         let mut address = [0u8; 508];
-        let address_length = address::digits_text(&data[at..end], semi_octets, &mut address);
+        let length = address::digits_text(&data[at..end], semi_octets, &mut address);
         Ok(RelayAddressRead {
             address: Some(RelayAddress {
                 ton: type_of_address / 16 % 8,
                 npi: type_of_address % 16,
-                address,
-                address_length,
+                address: Held {
+                    octets: address,
+                    length,
+                },
             }),
             octets_read: end,
         })
@@ -114,14 +114,13 @@ impl RelayAddress {
             }
             return Ok(octets::put_octet(out, 0, 0));
         };
-        let n = held.address_length;
-        if 508 < n {
+        if !held.address.fits() {
             return Err(Refusal::LengthTooLarge);
         }
         let number = Number {
             ton: held.ton,
             npi: held.npi,
-            text: &held.address[..n],
+            text: held.address.as_slice(),
         };
         encode_digits(number, out)
     }

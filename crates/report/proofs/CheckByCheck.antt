@@ -18,9 +18,9 @@ use Rattle.time.proofs.Laws.{time_size as time_long}
 use Rattle.layout.specs.Layout.{first_octet}
 use Rattle.parameters.specs.Checking.{indicator_checks, data_within}
 use Rattle.parameters.specs.Optional.{held}
-use Rattle.parameters.specs.Parameters.{Parameters}
 use Rattle.parameters.proofs.Laws.{one_at_most}
 use Rattle.report.specs.Report.{time_size, octets_of}
+use Rattle.report.specs.declared.writing.ReportValues.{ReportValues}
 use Rattle.report.specs.Internal.{time_if, time_holds, fields_with, making}
 
 -- the octets of a time that is written or not
@@ -38,23 +38,23 @@ pub size_small : (hasTime : Bool) (pid dcs udl : Option ℕ) → time_size hasTi
 size_small true pid dcs udl = omega (arith, one_at_most pid, one_at_most dcs, one_at_most udl)
 size_small false pid dcs udl = omega (arith, one_at_most pid, one_at_most dcs, one_at_most udl)
 
-module _ (mti : ℕ) (udhi : Bool) (cause : Option ℕ) (pi : ℕ) (digits : Option (List ℕ)) (p : Parameters) where
+module _ (v : ReportValues) (digits : Option (List ℕ)) (ud : List ℕ) where
   abbrev octets : List ℕ
-  octets = octets_of mti (fields_with udhi cause pi digits p)
+  octets = octets_of v.mti (fields_with v digits ud)
 
-  pub size_is : length octets ≡ 2 + held cause + (length (time_if digits) + (held p.pid + held p.dcs + held p.udl + length p.ud))
+  pub size_is : length octets ≡ 2 + held v.cause + (length (time_if digits) + (held v.parameters.pid + held v.parameters.dcs + held v.parameters.udl + length ud))
   size_is = simp length-append (omega arith)
 
   module _ (limit : ℕ) where
     abbrev all : Making ℕ
-    all = making limit mti udhi cause pi digits p
+    all = making limit v digits ud
 
     -- the indicator's checks, the user data's, and the order of all
     abbrev first : List Check
-    first = indicator_checks pi p.pid p.dcs p.udl
+    first = indicator_checks v.indicator v.parameters.pid v.parameters.dcs v.parameters.udl
 
     abbrev last : List Check
-    last = data_within limit p.dcs p.udl (length p.ud)
+    last = data_within limit v.parameters.dcs v.parameters.udl (length ud)
 
     abbrev timed : List Check
     timed = (NotATime unless time_holds digits) ∷ last

@@ -3,3 +3,4 @@ pub mod CheckByCheck
 pub mod Made
 pub mod OneOutcome
 pub mod Limits
+pub mod Blank

@@ -6,11 +6,11 @@ use Rattle.octets.specs.Lent.{Making}
 use Rattle.time.specs.Time.{is_time, time_octets}
 use Rattle.layout.specs.Layout.{octets, any, indicator, leading, Format, field, done, ◌then◌}
 use Rattle.parameters.specs.Layout.{parameters}
-use Rattle.parameters.specs.Parameters.{Parameters}
 use Rattle.parameters.specs.declared.RpOutcome.{RpOutcome}
 use Rattle.parameters.specs.declared.RpOutcome.TheVariants.{RpAck}
 use Rattle.report.specs.Report.{Fields, time_size, octets_of, checks_within}
 use Rattle.report.specs.declared.reading.ReportFields.{ReportFields}
+use Rattle.report.specs.declared.writing.ReportValues.{ReportValues}
 
 -- ---- reading
 
@@ -71,12 +71,19 @@ abbrev pub time_holds : Option (List ℕ) → Bool
 time_holds None = true
 time_holds (Some digits) = is_time digits
 
--- UDHI, cause, indicator, time and parameters that are written; the outcome is not
-abbrev pub fields_with : Bool → Option ℕ → ℕ → Option (List ℕ) → Parameters → Fields
-fields_with udhi cause pi digits p = record { outcome = RpAck; udhi = udhi; cause = cause; indicator = pi; scts = time_if digits; parameters = p }
+-- the fields that values are, with a time and user data; the outcome is not written
+abbrev pub fields_with : ReportValues → Option (List ℕ) → List ℕ → Fields
+fields_with v digits ud = record {
+  outcome = RpAck;
+  udhi = v.udhi;
+  cause = v.cause;
+  indicator = v.indicator;
+  scts = time_if digits;
+  parameters = record { pid = v.parameters.pid; dcs = v.parameters.dcs; udl = v.parameters.udl; ud = ud };
+}
 
 -- what is made of them within a limit
-unfoldable pub making : ℕ → ℕ → Bool → Option ℕ → ℕ → Option (List ℕ) → Parameters → Making ℕ
-making limit mti udhi cause pi digits p =
-    let x = fields_with udhi cause pi digits p in
-    checked (checks_within limit (time_holds digits) x) (octets_of mti x)
+unfoldable pub making : ℕ → ReportValues → Option (List ℕ) → List ℕ → Making ℕ
+making limit v digits ud =
+    let x = fields_with v digits ud in
+    checked (checks_within limit (time_holds digits) x) (octets_of v.mti x)

@@ -1,6 +1,7 @@
 -- SMS-DELIVER-REPORT and SMS-SUBMIT-REPORT (TS 23.040 §9.2.2.1a, §9.2.2.2a): their fields and layouts, which differ in MTI and time alone, and what their writers check and write.
 use Rattle.std.specs.Prelude.{ℕ, ◌≡◌, refl, Bool, true, false, List, [], ◌∷◌, ◌++◌, length, Err, Some, None, Option}
 use Rattle.octets.specs.Answers.{fine}
+use Rattle.octets.specs.Choice.{length_if}
 use Rattle.octets.specs.Checks.{Check, ◌unless◌, found}
 use Rattle.octets.specs.declared.Refusal.TheVariants.{NotATime}
 use Rattle.layout.specs.Layout.{octets, any, indicator, is_set, leading, first_octet, Format, field, done, ◌then◌, message, Layout, plain, stopping}
@@ -25,8 +26,7 @@ pub record Fields : Type 0 where
 
 -- the octets of TP-Service-Centre-Time-Stamp: a SUBMIT-REPORT has one, a DELIVER-REPORT none
 abbrev pub time_size : Bool → ℕ
-time_size true = 7
-time_size false = 0
+time_size hasTime = length_if hasTime 7
 
 -- UDHI 6; cause (in an RP-ERROR only), indicator, time, parameters
 unfoldable pub format : ℕ → Bool → RpOutcome → Format Fields
@@ -66,6 +66,11 @@ abbrev pub checks_within : ℕ → Bool → Fields → List Check
 checks_within limit time_holds x =
     let p = x.parameters in
     indicator_checks x.indicator p.pid p.dcs p.udl ++ ((NotATime unless time_holds) ∷ data_within limit p.dcs p.udl (length p.ud))
+
+-- a standard's limit, of those in an RP-ACK and in an RP-ERROR, which a cause means
+abbrev pub standard_limit : ℕ → ℕ → Option ℕ → ℕ
+standard_limit ack error None = ack
+standard_limit ack error (Some cause) = error
 
 -- the octets of the stopped DELIVER-REPORT, and of a SUBMIT-REPORT with UDHI and PID 11 whose time is left out; the checks of the first with a time that is one, and isn't
 known_written : (octets_of 0 stopped ≡ 0x00 ∷ 0xff ∷ 0x00 ∷ []) × (octets_of 1 (record { outcome = RpAck; udhi = true; cause = None; indicator = 0x01; scts = []; parameters = record { pid = Some 0x11; dcs = None; udl = None; ud = [] } }) ≡ 0x41 ∷ 0x01 ∷ 0x11 ∷ [])

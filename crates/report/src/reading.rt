@@ -2,7 +2,7 @@
 ghost use Rattle.std.specs.Prelude.{◌≡◌, IfOk};
 ghost use Rattle.layout.specs.Layout.{read, read_from, answer, alone};
 ghost use Rattle.report.specs.Report.{layout_of};
-ghost use Rattle.report.specs.Internal.{after_cause, nothing, found_says, Inside};
+ghost use Rattle.report.specs.Internal.{after_cause, found_says, Inside};
 
 use octets::{Place, Refusal};
 use parameters::{ParameterOctets, RpOutcome};
@@ -12,8 +12,9 @@ const REPORT_UNUSED_BITS: u8 = 0xBC;
 // TP-FCS "Unspecified error cause" (TS 23.040 §9.2.3.22).
 const FAILURE_CAUSE_UNSPECIFIED: u8 = 0xFF;
 
-// The fields of one octet, and where the others start: the time if there is one, and so many octets of user data.
-#[derive(Clone, Copy, Debug, PartialEq, Eq)]
+// The fields of one octet, and where the others start: the time if there is one, and so many octets of user data. The
+// default has those of the blank record, which holds RP-ACK whatever the entry point.
+#[derive(Clone, Copy, Debug, Default, PartialEq, Eq)]
 pub struct ReportFields {
     pub rp_outcome: RpOutcome,
     pub udhi: bool,
@@ -23,28 +24,6 @@ pub struct ReportFields {
     pub parameters: ParameterOctets,
     pub data: usize,
     pub octets: usize,
-}
-
-// Those of the blank record, which holds RP-ACK whatever the entry point.
-impl Default for ReportFields {
-    ghost is_default = { λ f. f ≡ nothing };
-
-    fn default() -> Self {
-        ReportFields {
-            rp_outcome: RpOutcome::RpAck,
-            udhi: false,
-            cause: None,
-            indicator: 0,
-            timestamp: None,
-            parameters: ParameterOctets {
-                pid: None,
-                dcs: None,
-                udl: None,
-            },
-            data: 0,
-            octets: 0,
-        }
-    }
 }
 
 // What follows first octet and cause.
@@ -61,7 +40,8 @@ fn after_cause(
     let Some((indicator, place)) = parameters::reading::read_indicator(data, place) else {
         return Err(Refusal::OctetsEnd);
     };
-    let Some((timestamp, place)) = place.span(data, crate::time_size(has_time)) else {
+    let time_octets = octets::length_if(has_time, crate::TIME_OCTETS);
+    let Some((timestamp, place)) = place.span(data, time_octets) else {
         return Err(Refusal::OctetsEnd);
     };
     let Some(read) = parameters::reading::read_parameters(data, place, indicator) else {
@@ -82,6 +62,7 @@ fn after_cause(
 // The fields of a report with this TP-MTI, with a time or without, as an entry point reads it: a cause is there in an
 // RP-ERROR only. Where an unused bit of its first octet is set the rest is not examined, and the cause reads as
 // "Unspecified error cause".
+// `mti` and `has_time` are the two arguments by which the two reports differ, as in the definition.
 pub fn fields_of(
     data: &[u8],
     mti: u8,

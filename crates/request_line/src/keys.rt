@@ -1,6 +1,6 @@
 // The keys of an `enc-` request: which a kind of message has, where a line gives them, and the form of each value.
 use crate::reasons::Reason;
-use crate::values::{has_form, is_absent};
+use crate::values::{Form, absent};
 use text_fields::fields::Fields;
 use text_fields::slices::find;
 
@@ -136,34 +136,105 @@ pub fn kind_named(name: &[u8]) -> Option<Kind> {
     }
 }
 
-// ---- the forms of values
+// ---- the forms of values: none where a kind has no such key
 
-// A letter for each key, in their order: the form of its value (`values::has_form`), or a dot if the kind has no such
-// key.
-type Forms = [u8; 25];
+fn deliver_form(key: Key) -> Option<Form> {
+    match key {
+        Key::Rp | Key::Udhi | Key::Sri | Key::Lp | Key::Mms => Some(Form::Flag),
+        Key::Mti | Key::Ton | Key::Npi | Key::Udl => Some(Form::Number),
+        Key::Pid | Key::Dcs => Some(Form::Octet),
+        Key::Address | Key::Ud => Some(Form::Octets),
+        Key::Scts => Some(Form::Time),
+        _ => None,
+    }
+}
 
-const NO_KEY: u8 = b'.';
+fn submit_form(key: Key) -> Option<Form> {
+    match key {
+        Key::Rp | Key::Udhi | Key::Srr | Key::Rd => Some(Form::Flag),
+        Key::Mti | Key::Vpf | Key::Ton | Key::Npi | Key::Udl => Some(Form::Number),
+        Key::Mr | Key::Pid | Key::Dcs => Some(Form::Octet),
+        Key::Address | Key::Ud => Some(Form::Octets),
+        Key::Vp => Some(Form::Period),
+        _ => None,
+    }
+}
+
+// The same without destination: the values of three keys are -.
+fn submit_form_without_destination(key: Key) -> Option<Form> {
+    match key {
+        Key::Ton | Key::Npi | Key::Address => Some(Form::Absent),
+        _ => submit_form(key),
+    }
+}
+
+fn report_form(report: Report, key: Key) -> Option<Form> {
+    match key {
+        Key::Udl => Some(Form::OptionalNumber),
+        Key::Pid | Key::Dcs => Some(Form::OptionalOctet),
+        Key::Ud => Some(Form::Octets),
+        _ => match report {
+            Report::SubmitReport => submit_report_form(key),
+            Report::DeliverReport => deliver_report_form(key),
+            Report::StatusReport => status_report_form(key),
+        },
+    }
+}
+
+fn submit_report_form(key: Key) -> Option<Form> {
+    match key {
+        Key::Udhi => Some(Form::Number),
+        Key::Fcs => Some(Form::OptionalOctet),
+        Key::Pi => Some(Form::Octet),
+        Key::Scts => Some(Form::Time),
+        Key::Outcome => Some(Form::Outcome),
+        _ => None,
+    }
+}
+
+fn deliver_report_form(key: Key) -> Option<Form> {
+    match key {
+        Key::Udhi => Some(Form::Flag),
+        Key::Fcs => Some(Form::OptionalOctet),
+        Key::Pi => Some(Form::Octet),
+        Key::Outcome => Some(Form::Outcome),
+        _ => None,
+    }
+}
+
+fn status_report_form(key: Key) -> Option<Form> {
+    match key {
+        Key::Udhi | Key::Lp | Key::Mms | Key::Srq => Some(Form::Flag),
+        Key::Ton | Key::Npi => Some(Form::Number),
+        Key::Mr | Key::St => Some(Form::Octet),
+        Key::Pi => Some(Form::OptionalOctet),
+        Key::Address => Some(Form::Octets),
+        Key::Scts | Key::Dt => Some(Form::Time),
+        _ => None,
+    }
+}
+
+// The form of each key's value, in the order of the keys.
+type Forms = [Option<Form>; 25];
 
 // The forms for a line that gives a record of a kind.
 fn forms(kind: Kind, line: &[u8]) -> Forms {
     match kind {
-        Kind::Deliver => *b"fffff...n.nnn.xx...ot..o.",
-        Kind::Submit if no_destination(line) => *b"ff...ff.nn--nxxx...-..po.",
-        Kind::Submit => *b"ff...ff.nnnnnxxx...o..po.",
-        Kind::Report(Report::SubmitReport) => *b".n..........N.XXXx..t..oa",
-        Kind::Report(Report::DeliverReport) => *b".f..........N.XXXx.....oa",
-        Kind::Report(Report::StatusReport) => *b".f.ff..f..nnNxXX.Xxott.o.",
+        Kind::Deliver => KEYS.map(deliver_form),
+        Kind::Submit if no_destination(line) => KEYS.map(submit_form_without_destination),
+        Kind::Submit => KEYS.map(submit_form),
+        Kind::Report(report) => KEYS.map(|key| report_form(report, key)),
     }
 }
 
 // Whether there is such a key.
 fn has_key(forms: &Forms, key: Key) -> bool {
-    forms[key as usize] != NO_KEY
+    forms[key as usize].is_some()
 }
 
 // How many fields a request has: its name, and one for each key.
 fn fields_of(forms: &Forms) -> usize {
-    1 + forms.iter().filter(|form| **form != NO_KEY).count()
+    1 + forms.iter().filter(|form| form.is_some()).count()
 }
 
 // ---- the keys of a line
@@ -194,9 +265,10 @@ pub fn value(line: &[u8], key: Key) -> &[u8] {
 
 // Whether a line gives a SUBMIT without destination: three values are -.
 pub fn no_destination(line: &[u8]) -> bool {
-    is_absent(value(line, Key::Ton))
-        && is_absent(value(line, Key::Npi))
-        && is_absent(value(line, Key::Address))
+    let destination = [Key::Ton, Key::Npi, Key::Address];
+    destination
+        .iter()
+        .all(|key| absent(value(line, *key)).is_some())
 }
 
 // ---- whether a line is well formed, or the reason against it
@@ -227,7 +299,7 @@ fn check_keys(forms: &Forms, line: &[u8]) -> Result<(), Reason> {
 // The values, in the order of the keys: each has its form.
 fn check_values(forms: &Forms, line: &[u8]) -> Result<(), Reason> {
     for (key, form) in KEYS.iter().zip(forms) {
-        if *form != NO_KEY && !has_form(*form, value(line, *key)) {
+        if form.is_some_and(|form| !form.is_met(value(line, *key))) {
             return Err(Reason::ValueOf(*key));
         }
     }

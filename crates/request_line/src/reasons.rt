@@ -1,7 +1,9 @@
 // Why a line isn't well formed.
 use crate::keys::Key;
-use crate::values::has_form;
+use crate::values::Form;
 use output::Output;
+use std::fmt;
+use std::fmt::Write;
 use text_fields::fields::Fields;
 
 #[derive(Clone, Copy, Debug, PartialEq, Eq)]
@@ -18,42 +20,48 @@ pub enum Reason {
     ValueOf(Key),
 }
 
-// The answer to a line that isn't well formed.
-pub fn put_bad(out: &mut Output, reason: Reason) {
-    out.put_text(match reason {
-        Reason::LineTooLong => "bad line too long",
-        Reason::EmptyLine => "bad empty line",
-        Reason::UnknownRequest => "bad unknown request",
-        Reason::NumberOfFields => "bad number of fields",
-        Reason::Octets => "bad octets",
-        Reason::Number => "bad number",
-        Reason::Coding => "bad coding",
-        Reason::UnknownKey => "bad unknown key",
-        Reason::KeyGivenTwice => "bad key given twice",
-        Reason::ValueOf(_) => "bad value of ",
-    });
-    if let Reason::ValueOf(key) = reason {
-        out.put_text(key.name());
+impl fmt::Display for Reason {
+    fn fmt<W: fmt::Write>(&self, f: &mut fmt::Formatter<W>) -> fmt::Result {
+        match self {
+            Reason::LineTooLong => f.write_str("line too long"),
+            Reason::EmptyLine => f.write_str("empty line"),
+            Reason::UnknownRequest => f.write_str("unknown request"),
+            Reason::NumberOfFields => f.write_str("number of fields"),
+            Reason::Octets => f.write_str("octets"),
+            Reason::Number => f.write_str("number"),
+            Reason::Coding => f.write_str("coding"),
+            Reason::UnknownKey => f.write_str("unknown key"),
+            Reason::KeyGivenTwice => f.write_str("key given twice"),
+            Reason::ValueOf(key) => {
+                let name = key.name();
+                write!(f, "value of {name}")
+            }
+        }
     }
 }
 
+// The answer to a line that isn't well formed.
+pub fn put_bad(out: &mut Output, reason: Reason) {
+    let _ = write!(out, "bad {reason}");
+}
+
 // The reason against a field that has not its form.
-fn against_form(form: u8) -> Reason {
+fn against_form(form: Form) -> Reason {
     match form {
-        b'o' | b'x' | b'e' => Reason::Octets,
-        b'd' => Reason::Coding,
+        Form::Octet | Form::OptionalOctet | Form::Octets | Form::Elements => Reason::Octets,
+        Form::Coding => Reason::Coding,
         _ => Reason::Number,
     }
 }
 
-// Whether the fields of a line have these forms, a letter each; if not, the reason: their number, or the first field
-// from the left that has not its form.
-pub fn check_fields(forms: &[u8], line: &[u8]) -> Result<(), Reason> {
+// Whether the fields of a line have these forms; if not, the reason: their number, or the first field from the left that
+// has not its form.
+pub fn check_fields(forms: &[Form], line: &[u8]) -> Result<(), Reason> {
     if Fields::of(line).count() != forms.len() {
         return Err(Reason::NumberOfFields);
     }
     for (form, field) in forms.iter().zip(Fields::of(line)) {
-        if !has_form(*form, field) {
+        if !form.is_met(field) {
             return Err(against_form(*form));
         }
     }
@@ -61,8 +69,8 @@ pub fn check_fields(forms: &[u8], line: &[u8]) -> Result<(), Reason> {
 }
 
 // The same of a line whose fields after the first, none or more, are to have one form.
-pub fn check_list(form: u8, line: &[u8]) -> Result<(), Reason> {
-    if Fields::of(line).skip(1).all(|field| has_form(form, field)) {
+pub fn check_list(form: Form, line: &[u8]) -> Result<(), Reason> {
+    if Fields::of(line).skip(1).all(|field| form.is_met(field)) {
         Ok(())
     } else {
         Err(against_form(form))

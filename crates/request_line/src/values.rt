@@ -1,19 +1,15 @@
-// What a field or the value of a key may hold: numbers, octets, times and validity periods.
-use crate::elements::is_elements;
-use output::hexadecimal::{is_hex_text, read_hex};
+// What a field or the value of a key may hold: numbers, octets, times and validity periods. Each function reads a value,
+// and gives none where it has not the form.
+ghost use Rattle.std.specs.Prelude.{◌≡◌, ◌↔◌, ◌≤◌, [], ◌∷◌, Some, None, IsSome};
+
+use crate::elements::elements;
+use octets::Held;
+use output::hexadecimal::{HexError, read_hex};
 use text_fields::slices::first;
-use tpdu::{Time, UserData};
+use tpdu::{RpOutcome, Time};
 
 // How many digits a number may have.
 const MOST_DIGITS: usize = 9;
-
-// The value of a decimal digit.
-fn digit(c: u8) -> Option<u32> {
-    match c {
-        b'0'..=b'9' => Some(u32::from(c - b'0')),
-        _ => None,
-    }
-}
 
 // A decimal number of at most nine digits.
 pub fn decimal(text: &[u8]) -> Option<u32> {
@@ -22,70 +18,66 @@ pub fn decimal(text: &[u8]) -> Option<u32> {
     }
     let mut n = 0u32;
     for c in text {
-        n = n.checked_mul(10)?.checked_add(digit(*c)?)?;
+        let digit = char::from(*c).to_digit(10)?;
+        n = n.checked_mul(10)?.checked_add(digit)?;
     }
     Some(n)
 }
 
-// Whether a value is -.
-pub fn is_absent(value: &[u8]) -> bool {
-    value.len() == 1 && value[0] == b'-'
+// Nothing: the value is -.
+pub fn absent(value: &[u8]) -> Option<()>
+    ensures { IsSome result ↔ value.now ≡ 45 ∷ [] }
+{
+    (value == b"-".as_slice()).then_some(())
 }
 
-// A value, or nothing where it is -.
-pub fn unless_absent(value: &[u8]) -> &[u8] {
-    if is_absent(value) { b"" } else { value }
-}
-
-// ---- validity periods: `relative:`, `absolute:` or `enhanced:`, and a value
-
-#[derive(Clone, Copy, Debug, PartialEq, Eq)]
-pub enum PeriodFormat {
-    Relative,
-    Absolute,
-    Enhanced,
-}
-
-// The format of a validity period, and the value after it.
-pub fn period(value: &[u8]) -> Option<(PeriodFormat, &[u8])> {
-    if let Some(octet) = value.strip_prefix(b"relative:") {
-        return Some((PeriodFormat::Relative, octet));
+// What another function reads of a value, unless it is -.
+pub fn optional<T: Copy, F: FnOnce(&[u8]) -> Option<T>>(value: &[u8], read: F) -> Option<Option<T>>
+    requires { F.IsAlwaysCallable read }
+    ensures { value.now ≡ 45 ∷ [] → result ≡ Some None }
+{
+    if absent(value).is_some() {
+        return Some(None);
     }
-    if let Some(digits) = value.strip_prefix(b"absolute:") {
-        return Some((PeriodFormat::Absolute, digits));
-    }
-    let octets = value.strip_prefix(b"enhanced:")?;
-    Some((PeriodFormat::Enhanced, octets))
+    Some(Some(read(value)?))
 }
 
-// ---- the forms of a value
+// ---- numbers
 
-fn is_flag(value: &[u8]) -> bool {
+pub fn flag(value: &[u8]) -> Option<bool> {
     match value {
-        b"0" | b"1" => true,
-        _ => false,
-    }
-}
-
-// The width of a reference.
-fn is_width(value: &[u8]) -> bool {
-    match decimal(value) {
-        Some(8 | 16) => true,
-        _ => false,
+        b"0" => Some(false),
+        b"1" => Some(true),
+        _ => None,
     }
 }
 
 // A number to 255.
-fn octet_number(value: &[u8]) -> Option<u8> {
+pub fn number(value: &[u8]) -> Option<u8> {
     u8::try_from(decimal(value)?).ok()
 }
 
-fn reference(value: &[u8]) -> Option<u16> {
+pub fn reference(value: &[u8]) -> Option<u16> {
     u16::try_from(decimal(value)?).ok()
 }
 
+// How many bits a reference has.
+#[derive(Clone, Copy, Debug, PartialEq, Eq)]
+pub enum ReferenceWidth {
+    Eight,
+    Sixteen,
+}
+
+pub fn width(value: &[u8]) -> Option<ReferenceWidth> {
+    match decimal(value)? {
+        8 => Some(ReferenceWidth::Eight),
+        16 => Some(ReferenceWidth::Sixteen),
+        _ => None,
+    }
+}
+
 // A number from -128 to 127.
-fn zone(value: &[u8]) -> Option<i8> {
+pub fn zone(value: &[u8]) -> Option<i8> {
     let quarters = match value.strip_prefix(b"-") {
         Some(digits) => -i64::from(decimal(digits)?),
         None => i64::from(decimal(value)?),
@@ -93,132 +85,156 @@ fn zone(value: &[u8]) -> Option<i8> {
     i8::try_from(quarters).ok()
 }
 
-pub fn is_octet(value: &[u8]) -> bool {
-    value.len() == 2 && is_hex_text(value)
-}
-
-pub fn is_octets(value: &[u8]) -> bool {
-    is_hex_text(unless_absent(value))
-}
-
-// The digits of a time are any octets, as they stand; after x: they are given in hexadecimal.
-fn is_time(value: &[u8]) -> bool {
-    match value.strip_prefix(b"x:") {
-        Some(digits) => is_octets(digits),
-        None => true,
+// The outcome of a report.
+pub fn outcome(value: &[u8]) -> Option<RpOutcome> {
+    match value {
+        b"ack" => Some(RpOutcome::RpAck),
+        b"error" => Some(RpOutcome::RpError),
+        _ => None,
     }
 }
 
-fn is_seven_octets(value: &[u8]) -> bool {
-    value.len() == 14 && is_hex_text(value)
-}
+// ---- octets, in hexadecimal: - is none
 
-fn is_period(value: &[u8]) -> bool {
-    match period(value) {
-        Some((PeriodFormat::Relative, octet)) => is_octet(octet),
-        Some((PeriodFormat::Absolute, digits)) => is_time(digits),
-        Some((PeriodFormat::Enhanced, octets)) => is_seven_octets(octets),
-        None => is_absent(value),
+// Stores the octets of a value if they all fit; how many there are in all.
+pub fn octets_if_fit(value: &[u8], room: &mut [u8]) -> Option<usize> {
+    let digits = match absent(value) {
+        Some(()) => b"",
+        None => value,
+    };
+    match read_hex(digits, room) {
+        Ok(n) => Some(n),
+        Err(HexError::TooLong) => Some(digits.len() / 2),
+        Err(HexError::NotHex) => None,
     }
 }
 
-fn is_outcome(value: &[u8]) -> bool {
-    value == b"ack".as_slice() || is_error(value)
+// The same, but stores those that fit.
+pub fn octets(value: &[u8], room: &mut [u8]) -> Option<usize> {
+    let n = octets_if_fit(value, room)?;
+    if room.len() < n {
+        let kept = n.min(room.len());
+        let _ = read_hex(first(value, 2 * kept), room);
+    }
+    Some(n)
 }
 
-// Whether the outcome of a report is RP-ERROR.
-pub fn is_error(value: &[u8]) -> bool {
-    value == b"error".as_slice()
-}
-
-// Whether a value has the form that a letter stands for: w a word, any; f a flag; n a number to 255; c a number of up
-// to nine digits; r a reference; b its width in bits; z a zone; x an octet; d a coding, which is an octet too; o octets;
-// e header elements; t a time; p a validity period; a the outcome of a report; - absent; N and X: n and x, or absent.
-pub fn has_form(form: u8, value: &[u8]) -> bool {
-    match form {
-        b'w' => true,
-        b'f' => is_flag(value),
-        b'n' => octet_number(value).is_some(),
-        b'N' => octet_number(value).is_some() || is_absent(value),
-        b'c' => decimal(value).is_some(),
-        b'r' => reference(value).is_some(),
-        b'b' => is_width(value),
-        b'z' => zone(value).is_some(),
-        b'x' | b'd' => is_octet(value),
-        b'X' => is_octet(value) || is_absent(value),
-        b'o' => is_octets(value),
-        b'e' => is_elements(value),
-        b't' => is_time(value),
-        b'p' => is_period(value),
-        b'a' => is_outcome(value),
-        b'-' => is_absent(value),
-        _ => false,
+// So many octets, no more and no fewer.
+fn octets_exactly<const N: usize>(value: &[u8]) -> Option<[u8; N]> {
+    let mut octets = [0u8; N];
+    match read_hex(value, &mut octets) {
+        Ok(n) if n == N => Some(octets),
+        _ => None,
     }
 }
 
-// ---- values that have their form
-
-pub fn flag_of(value: &[u8]) -> bool {
-    value == b"1".as_slice()
+pub fn octet(value: &[u8]) -> Option<u8> {
+    let [octet] = octets_exactly::<1>(value)?;
+    Some(octet)
 }
 
-pub fn number_of(value: &[u8]) -> u8 {
-    octet_number(value).unwrap_or(0)
+// Octets as a record holds them: those that fit, and how many there are in all.
+pub fn held<const N: usize>(value: &[u8]) -> Option<Held<N>>
+    requires { N ≤ 65536 }
+{
+    let mut room = [0u8; N];
+    let length = octets(value, &mut room)?;
+    Some(Held {
+        octets: room,
+        length,
+    })
 }
 
-pub fn reference_of(value: &[u8]) -> u16 {
-    reference(value).unwrap_or(0)
-}
+// ---- times and validity periods
 
-pub fn zone_of(value: &[u8]) -> i8 {
-    zone(value).unwrap_or(0)
-}
-
-pub fn octet_of(value: &[u8]) -> u8 {
-    let mut octet = [0u8; 1];
-    let _ = read_hex(value, &mut octet);
-    octet[0]
-}
-
-// How many octets a value holds.
-fn octet_count(value: &[u8]) -> usize {
-    unless_absent(value).len() / 2
-}
-
-// Stores the octets of hexadecimal digits, those that fit; how many there are in all.
-pub fn octets_of(value: &[u8], array: &mut [u8]) -> usize {
-    let n = octet_count(value);
-    let kept = n.min(array.len());
-    let _ = read_hex(first(unless_absent(value), 2 * kept), array);
-    n
-}
-
-// The same, but stores none where they do not all fit.
-pub fn octets_if_fit(value: &[u8], room: &mut [u8]) -> usize {
-    let n = octet_count(value);
-    if n <= room.len() {
-        octets_of(value, room);
+// The digits of a time, those that fit, and how many there are in all. They are any octets, as they stand; after x: they
+// are given in hexadecimal.
+pub fn time(value: &[u8]) -> Option<Time> {
+    if let Some(given) = value.strip_prefix(b"x:") {
+        return held::<14>(given);
     }
-    n
-}
-
-pub fn data_of(value: &[u8]) -> UserData {
-    let mut octets = [0u8; 255];
-    let length = octets_of(value, &mut octets);
-    UserData { octets, length }
-}
-
-// The digits of a time, those that fit, and how many there are in all.
-pub fn time_of(value: &[u8]) -> Time {
     let mut digits = [0u8; 14];
-    if let Some(octets) = value.strip_prefix(b"x:") {
-        let length = octets_of(octets, &mut digits);
-        return Time { digits, length };
-    }
     let kept = first(value, 14);
     digits[..kept.len()].copy_from_slice(kept);
-    Time {
-        digits,
+    Some(Held {
+        octets: digits,
         length: value.len(),
+    })
+}
+
+// A validity period: - is none.
+#[derive(Clone, Copy)]
+pub enum GivenPeriod {
+    None,
+    Relative(u8),
+    Absolute(Time),
+    Enhanced([u8; 7]),
+}
+
+// A validity period: `relative:`, `absolute:` or `enhanced:`, and a value.
+pub fn period(value: &[u8]) -> Option<GivenPeriod> {
+    if let Some(given) = value.strip_prefix(b"relative:") {
+        return octet(given).map(GivenPeriod::Relative);
+    }
+    if let Some(digits) = value.strip_prefix(b"absolute:") {
+        return time(digits).map(GivenPeriod::Absolute);
+    }
+    if let Some(octets) = value.strip_prefix(b"enhanced:") {
+        return octets_exactly::<7>(octets).map(GivenPeriod::Enhanced);
+    }
+    absent(value)?;
+    Some(GivenPeriod::None)
+}
+
+// ---- the forms of a value
+
+// What a field or a value is to hold.
+#[derive(Clone, Copy, Debug, PartialEq, Eq)]
+pub enum Form {
+    // anything
+    Word,
+    Flag,
+    // a number to 255
+    Number,
+    OptionalNumber,
+    // a number of up to nine digits
+    Count,
+    Reference,
+    Width,
+    Zone,
+    Octet,
+    OptionalOctet,
+    // an octet that is a coding
+    Coding,
+    Octets,
+    Elements,
+    Time,
+    Period,
+    Outcome,
+    // nothing: -
+    Absent,
+}
+
+impl Form {
+    // Whether a value has the form.
+    pub fn is_met(self, value: &[u8]) -> bool {
+        match self {
+            Form::Word => true,
+            Form::Flag => flag(value).is_some(),
+            Form::Number => number(value).is_some(),
+            Form::OptionalNumber => optional(value, number).is_some(),
+            Form::Count => decimal(value).is_some(),
+            Form::Reference => reference(value).is_some(),
+            Form::Width => width(value).is_some(),
+            Form::Zone => zone(value).is_some(),
+            Form::Octet | Form::Coding => octet(value).is_some(),
+            Form::OptionalOctet => optional(value, octet).is_some(),
+            Form::Octets => octets(value, &mut []).is_some(),
+            Form::Elements => elements(value).is_some(),
+            Form::Time => time(value).is_some(),
+            Form::Period => period(value).is_some(),
+            Form::Outcome => outcome(value).is_some(),
+            Form::Absent => absent(value).is_some(),
+        }
     }
 }

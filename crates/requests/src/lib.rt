@@ -1,4 +1,6 @@
-// The program tpdutool: requests on standard input, a line each, are answered on standard output (docs/REQUESTS.md).
+// The program tpdutool: requests on standard input, a line each, are answered on standard output (docs/REQUESTS.md). It has
+// no `Vec` and no `String`: the project has no heap, so memory is fixed, and what an array does not hold is refused by its
+// length.
 #![tactic(auto)]
 
 mod lines;
@@ -9,6 +11,7 @@ use std::env::{Env, FillError};
 use std::io;
 use text_fields::slices::first;
 use tpdu::ALPHABET_OCTETS;
+use wording::refusals::Audience;
 
 // How the program is used.
 fn say_usage<R: Print>(rt: &R) -> io::Result<()> {
@@ -76,7 +79,7 @@ fn has_argument<R: Env>(rt: &R, number: usize) -> bool {
 fn run_argument<R: Env + Input + Print>(rt: &R, argument: &[u8]) -> io::Result<()> {
     let is_last = !has_argument(rt, 2);
     if is_last && argument == b"show".as_slice() {
-        return lines::answer_requests(rt, true);
+        return lines::answer_requests(rt, Audience::People);
     }
     if is_last && argument == b"page".as_slice() {
         return page::print_page(rt);
@@ -92,7 +95,7 @@ fn run_argument<R: Env + Input + Print>(rt: &R, argument: &[u8]) -> io::Result<(
 pub fn run<R: Env + Input + Print>(rt: &R) -> io::Result<()> {
     let mut argument = [0u8; 16];
     match rt.arg(1, &mut argument) {
-        Err(FillError::NotPresent) => lines::answer_requests(rt, false),
+        Err(FillError::NotPresent) => lines::answer_requests(rt, Audience::Programs),
         Err(FillError::TooLong) => say_usage(rt),
         Ok(n) => run_argument(rt, first(&argument, n)),
     }

@@ -1,12 +1,12 @@
 // The lines of standard input, each held until it ends and then answered. Answers are written out before more is read,
 // so that another program can ask and wait for the answer.
-use crate::request::answer;
-use answers::gathering::Store;
+use crate::request::{Session, answer};
 use output::Output;
 use request_line::reasons::{Reason, put_bad};
 use std::io;
 use std::io::Read;
 use text_fields::slices::first;
+use wording::refusals::Audience;
 
 // The line that is held. The octets of one that is too long are counted, and no longer held.
 #[derive(Drop)]
@@ -64,22 +64,16 @@ pub fn write_out<R: Print>(rt: &R, out: &mut Output) -> io::Result<()> {
 }
 
 // Answers the line held, and writes the answers out if the next might not fit.
-fn answer_line<R: Print>(
-    rt: &R,
-    line: &Line,
-    store: &mut Store,
-    out: &mut Output,
-    show: bool,
-) -> io::Result<()> {
+fn answer_line<R: Print>(rt: &R, line: &Line, session: &mut Session) -> io::Result<()> {
     match line.held() {
-        Ok(octets) => answer(octets, store, out, show),
-        Err(reason) => put_bad(out, reason),
+        Ok(octets) => answer(octets, session),
+        Err(reason) => put_bad(&mut session.out, reason),
     }
-    out.put(b"\n");
-    if out.len() < MOST_HELD {
+    session.out.put(b"\n");
+    if session.out.len() < MOST_HELD {
         return Ok(());
     }
-    write_out(rt, out)
+    write_out(rt, &mut session.out)
 }
 
 // Answers the lines that end in these octets, writes the answers out, and holds the rest. A line has ended before each
@@ -88,19 +82,17 @@ fn answer_octets<R: Print>(
     rt: &R,
     octets: &[u8],
     line: &mut Line,
-    store: &mut Store,
-    out: &mut Output,
-    show: bool,
+    session: &mut Session,
 ) -> io::Result<()> {
     for (i, piece) in octets.split(|c| *c == b'\n').enumerate() {
         if 0 < i {
             line.trim_cr();
-            answer_line(rt, line, store, out, show)?;
+            answer_line(rt, line, session)?;
             line.clear();
         }
         line.add(piece);
     }
-    write_out(rt, out)
+    write_out(rt, &mut session.out)
 }
 
 // What is read at once.
@@ -112,39 +104,28 @@ fn answer_all<R: Print, I: Read>(
     reader: &mut I,
     input: &mut Block,
     line: &mut Line,
-    store: &mut Store,
-    out: &mut Output,
-    show: bool,
+    session: &mut Session,
 ) -> io::Result<()> {
     for _ in 0..u64::MAX {
         let n = reader.read(input)?;
         if n == 0 {
             return Ok(());
         }
-        answer_octets(rt, first(input, n), line, store, out, show)?;
+        answer_octets(rt, first(input, n), line, session)?;
     }
     Ok(())
 }
 
-// Answers each line of standard input, and a last line that has no end. The store of parts is zeros, which is empty.
-pub fn answer_requests<R: Input + Print>(rt: &R, show: bool) -> io::Result<()> {
+// Answers each line of standard input, and a last line that has no end.
+pub fn answer_requests<R: Input + Print>(rt: &R, audience: Audience) -> io::Result<()> {
     let mut reader = rt.reader();
     let mut input = [0u8; 65536];
     let mut line = Line::new();
-    let mut store = [0u8; 37696];
-    let mut out = Output::new();
-    answer_all(
-        rt,
-        &mut reader,
-        &mut input,
-        &mut line,
-        &mut store,
-        &mut out,
-        show,
-    )?;
+    let mut session = Session::new(audience);
+    answer_all(rt, &mut reader, &mut input, &mut line, &mut session)?;
     if line.is_empty() {
         return Ok(());
     }
-    answer_line(rt, &line, &mut store, &mut out, show)?;
-    write_out(rt, &mut out)
+    answer_line(rt, &line, &mut session)?;
+    write_out(rt, &mut session.out)
 }

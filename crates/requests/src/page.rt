@@ -1,43 +1,39 @@
 // The shift page of the status reports on standard input, for the board.
 use crate::lines::{Block, Line, write_out};
-use answers::fields;
 use answers::page::read_report;
 use output::Output;
 use request_line::reasons::{Reason, check_fields, put_bad};
+use request_line::values::Form;
 use std::io;
 use std::io::Read;
+use std::ops::Range;
 use text_fields::fields::{Fields, field};
 use text_fields::slices::{find, first};
 use tpdu::{Refusal, SmsStatusReport};
+use wording::refusals::{Audience, put_refused};
 
 // ---- lines
 
-// What follows a line that was read: the octets of the input from `from` to `end`.
-#[derive(Clone, Copy)]
-struct Rest {
-    from: usize,
-    end: usize,
-}
-
 // Holds the next line, and reads more of the input where its octets end before the line does; none at the end of the
-// input. What it has after its last line feed is a line. No input has as many turns as are counted.
+// input. What it has after its last line feed is a line. `rest` is where the octets of the input lie that follow the line.
+// No input has as many turns as are counted.
 fn next_line<I: Read>(
     reader: &mut I,
     input: &mut Block,
     line: &mut Line,
-    rest: Rest,
-) -> io::Result<Option<Rest>> {
+    rest: Range<usize>,
+) -> io::Result<Option<Range<usize>>> {
     line.clear();
-    let Rest { mut from, mut end } = rest;
+    let Range {
+        start: mut from,
+        mut end,
+    } = rest;
     for _ in 0..u64::MAX {
         let held = first(input, end);
         if let Some(feed) = find(held, from, b'\n') {
             line.add(&held[from..feed]);
             line.trim_cr();
-            return Ok(Some(Rest {
-                from: feed + 1,
-                end,
-            }));
+            return Ok(Some(feed + 1..end));
         }
         line.add(held.get(from..).unwrap_or_default());
         from = 0;
@@ -49,7 +45,7 @@ fn next_line<I: Read>(
     if line.is_empty() {
         return Ok(None);
     }
-    Ok(Some(Rest { from, end }))
+    Ok(Some(from..end))
 }
 
 // ---- reports
@@ -67,7 +63,7 @@ fn check_line(line: &[u8]) -> Result<(), Reason> {
     if name != b"status-report".as_slice() {
         return Err(Reason::UnknownRequest);
     }
-    check_fields(b"wo", line)
+    check_fields(&[Form::Word, Form::Octets], line)
 }
 
 // The status report that a line holds.
@@ -82,7 +78,7 @@ fn report_of(line: &Line) -> Result<SmsStatusReport, Against> {
 fn put_against(out: &mut Output, against: Against) {
     match against {
         Against::Line(reason) => put_bad(out, reason),
-        Against::Octets(why) => fields::refused(out, why, true),
+        Against::Octets(why) => put_refused(out, why, Audience::People),
     }
 }
 
@@ -97,19 +93,28 @@ fn tell<R: Print>(rt: &R, number: u64, against: Against, out: &mut Output) -> io
 }
 
 fn tell_refused<R: Print>(rt: &R, refusal: Refusal, out: &mut Output) -> io::Result<()> {
-    fields::refused(out, refusal, true);
+    put_refused(out, refusal, Audience::People);
     out.put(b"\n");
     write_out(rt, out)
 }
 
 // ---- the shift
 
-// The reports of a shift: the first 99 of them, how many there were, and whether another line was told.
+// The reports of a shift: the first 100 of them, which are one more than a page has, how many there were, and whether
+// another line was told. It is told beside them, in no `Option`: a page that is refused is told too, whatever other lines
+// were.
 #[derive(Clone, Copy)]
 struct Shift {
-    reports: [SmsStatusReport; 99],
+    reports: [SmsStatusReport; 100],
     count: usize,
     told: bool,
+}
+
+impl Shift {
+    // The reports that are held.
+    fn held(&self) -> &[SmsStatusReport] {
+        self.reports.get(..self.count).unwrap_or(&self.reports)
+    }
 }
 
 // Reads the lines of standard input to its end, and tells those that hold no report that can be read.
@@ -117,10 +122,10 @@ fn read_shift<R: Input + Print>(rt: &R, out: &mut Output) -> io::Result<Shift> {
     let mut reader = rt.reader();
     let mut input = [0u8; 65536];
     let mut line = Line::new();
-    let mut reports = [SmsStatusReport::default(); 99];
+    let mut reports = [SmsStatusReport::default(); 100];
     let mut count = 0;
     let mut told = false;
-    let mut rest = Rest { from: 0, end: 0 };
+    let mut rest = 0..0;
     for number in 1..u64::MAX {
         let Some(after) = next_line(&mut reader, &mut input, &mut line, rest)? else {
             break;
@@ -128,8 +133,8 @@ fn read_shift<R: Input + Print>(rt: &R, out: &mut Output) -> io::Result<Shift> {
         rest = after;
         match report_of(&line) {
             Ok(report) => {
-                if count < 99 {
-                    reports[count] = report;
+                if let Some(place) = reports.get_mut(count) {
+                    *place = report;
                 }
                 count += 1;
             }
@@ -152,7 +157,7 @@ pub fn print_page<R: Input + Print>(rt: &R) -> io::Result<()> {
     let mut out = Output::new();
     let shift = read_shift(rt, &mut out)?;
     let mut lent = [0u8; 3939];
-    match tpdu::shift_page(shift.reports, shift.count, &mut lent) {
+    match tpdu::shift_page(shift.held(), &mut lent) {
         Err(why) => tell_refused(rt, why, &mut out),
         Ok(_) if shift.told => Ok(()),
         Ok(n) => rt.write_all(first(&lent, n)),

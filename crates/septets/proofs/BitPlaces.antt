@@ -1,6 +1,6 @@
 -- The place of a bit: by quotient and remainder, and back; and the places of the septets from there on.
 -- Assumes nothing.
-use Prim.Native.Nat.{ℕ, zero, suc, ◌+◌, ◌*◌, ◌/◌, ◌%◌, ◌<◌, ◌≤◌}
+use Prim.Native.Nat.{ℕ, zero, suc, ◌+◌, ◌*◌, ◌/◌, ◌%◌, ◌<◌}
 use mathlib.Core.Path.{◌≡◌, ap, ◌∙◌}
 use mathlib.Core.List.{List}
 use native.Mathlib.Omega.{arith}
@@ -33,15 +33,9 @@ module _ (f i : ℕ) {p : BitPlace} (e : p ≡ bit_place (f + i * 7)) where
   places_here zero = e ∙ ap bit_place (omega arith)
   places_here (suc k) = let n : bit_of (place_after p k) + 7 ≡ f + (i + suc k) * 7 = omega (arith, bit_after p k, bit_here) in ap bit_place n
 
-  pub septet_here : (os : List ℕ) {x : ℕ} → x ≡ septet_from os (bit_of p) → x ≡ septet_at os f i
-  septet_here os h = h ∙ ap (septet_from os) bit_here
-
   pub septet_after : (os : List ℕ) (k : ℕ) {x : ℕ} → x ≡ septet_from os (bit_of (place_after p k)) → x ≡ septet_at os f (i + k)
   septet_after os k h = h ∙ ap (λ (q : BitPlace). septet_from os (bit_of q)) (places_here k) ∙ ap (septet_from os) (bit_place_lem (f + (i + k) * 7))
 
   pub next_here : {r : BitPlace} → r ≡ bit_place (bit_of p + 7) → r ≡ bit_place (f + (i + 1) * 7)
   unfolding place_after
   next_here h = h ∙ places_here 1
-
-  pub place_small : f < 8 → i ≤ 256 → (p.octet ≤ 255) × (p.shift < 8)
-  place_small hf hi = (omega (arith, ap (λ (q : BitPlace). q.octet) e), omega (arith, ap (λ (q : BitPlace). q.shift) e))

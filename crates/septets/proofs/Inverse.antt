@@ -24,7 +24,7 @@ module _ (w : ℕ) where
   number_digits zero x = rw mul-zero (sym (mod-one x))
   number_digits (suc n) x = rw (mul-suc, mod-pow-add, number_digits n (x / 2 ^ w))
 
-  number_lt : (ds : List ℕ) → Digits w ds → number_of w ds < 2 ^ (w * length ds)
+  pub number_lt : (ds : List ℕ) → Digits w ds → number_of w ds < 2 ^ (w * length ds)
   unfolding number_of
   number_lt [] h = rw mul-zero (omega arith)
   number_lt (d ∷ ds) h = rw (mul-suc, pow-add) (digits_lt (number_lt ds (λ i. h (suc i))) (h 0))

@@ -1,18 +1,25 @@
 -- A field of bits of a number lies in neighbouring digits, for any digit width; and a number and its digits in two parts.
 -- Assumes nothing.
-use Prim.Native.Nat.{ℕ, zero, suc, ◌+◌, ◌*◌, ◌/◌, ◌%◌, ◌^◌, ◌<◌, ◌≤◌, ◌-◌}
+use Prim.Native.Nat.{ℕ, zero, suc, ◌+◌, ◌*◌, ◌/◌, ◌%◌, ◌^◌, ◌≤◌, ◌-◌}
 use mathlib.Core.Path.{◌≡◌, refl, sym, ◌∙◌, ap}
 use mathlib.Core.List.{List, [], ◌∷◌, ◌++◌}
-use native.Mathlib.Nat.{mod-one, add_assoc, zero-add, zero-div, zero-mod, div-one, mul-zero, mul-suc, add_comm, div-add-mod, mod-lt, mul_assoc, mul-one, suc-add, mul-add-div_right, add-mul-mod_self_right}
+use native.Mathlib.Nat.{le_of_suc-le-suc, not-suc-le-zero, mod-one, add_assoc, zero-add, zero-div, zero-mod, div-one, mul-zero, mul-suc, add_comm, div-add-mod, mul_assoc, mul-one, suc-add, mul-add-div_right, add-mul-mod_self_right}
 use native.Mathlib.Omega.{arith}
 use lib.ListN.{length, take, drop}
 use lib.Pow.{split, pow-add, field, mod-mod-pow, mod-pow-add, shr-shr, high, low, pow_pos}
 use lib.Seq.{get_or-drop}
+use Rattle.std.specs.Int.{w64, to_le_bytes}
 use Rattle.septets.specs.Septets.{number_of, lowest_digits, Digits}
 
 module _ (w : ℕ) where
   pub digits_drop : (n : ℕ) (ds : List ℕ) → Digits w ds → Digits w (drop n ds)
   digits_drop n ds h i = rw get_or-drop (h (n + i))
+
+  pub digits_take : (n : ℕ) (ds : List ℕ) → Digits w ds → Digits w (take n ds)
+  digits_take zero ds h i = pow_pos w
+  digits_take (suc n) [] h i = h i
+  digits_take (suc n) (d ∷ ds) h zero = h 0
+  digits_take (suc n) (d ∷ ds) h (suc i) = digits_take n ds (λ j. h (suc j)) i
 
   -- the number without its i lowest digits
   pub number_drop : (i : ℕ) (ds : List ℕ) → Digits w ds → number_of w ds / 2 ^ (w * i) ≡ number_of w (drop i ds)
@@ -30,10 +37,6 @@ module _ (w : ℕ) where
   number_take (suc n) [] h = sym (zero-mod _)
   number_take (suc n) (d ∷ ds) h =
       rw (mul-suc, mod-pow-add, low (number_of w ds) w (h 0), high (number_of w ds) w (h 0), ← number_take n ds (λ i. h (suc i)))
-
-  -- which is below the power of those digits
-  pub taken_lt : (n i : ℕ) (ds : List ℕ) → Digits w ds → number_of w (take n (drop i ds)) < 2 ^ (w * n)
-  taken_lt n i ds h = rw (number_take n (drop i ds) (digits_drop i ds h)) (mod-lt _ (pow_pos (w * n)))
 
   -- its digits in two parts
   pub number_parts : (n : ℕ) (ds : List ℕ) → Digits w ds → number_of w ds ≡ number_of w (drop n ds) * 2 ^ (w * n) + number_of w (take n ds)
@@ -75,3 +78,22 @@ digits_parts w (suc n) m a x =
     let up : a * 2 ^ (w * suc n) + x ≡ a * 2 ^ (w * n) * k + x = rw (mul-suc, pow-add, mul_assoc) in
     let down : x / 2 ^ (w * suc n) ≡ x / k / 2 ^ (w * n) = rw (mul-suc, add_comm, shr-shr) in
     rw (up, down, suc-add, mul-add-div_right (pow_pos w), add_comm (a * 2 ^ (w * n) * k) x, add-mul-mod_self_right) (ap (λ ds. x % k ∷ ds) (digits_parts w n m a (x / k)))
+
+-- the first of its n lowest digits
+pub digits_first : (w n m x : ℕ) → n ≤ m → take n (lowest_digits w m x) ≡ lowest_digits w n x
+unfolding lowest_digits
+digits_first w zero m x h = refl
+digits_first w (suc n) zero x h = absurd (not-suc-le-zero h)
+digits_first w (suc n) (suc m) x h = ap (λ ds. x % 2 ^ w ∷ ds) (digits_first w n m (x / 2 ^ w) (le_of_suc-le-suc h))
+
+-- the octets of a number are its eight lowest digits
+pub octets_of : (x : ℕ) → to_le_bytes w64 x ≡ lowest_digits 8 8 x
+unfolding lowest_digits
+octets_of x =
+    let e₂ : x / 256 / 256 ≡ x / 65536 = omega arith in
+    let e₃ : x / 65536 / 256 ≡ x / 16777216 = omega arith in
+    let e₄ : x / 16777216 / 256 ≡ x / 4294967296 = omega arith in
+    let e₅ : x / 4294967296 / 256 ≡ x / 1099511627776 = omega arith in
+    let e₆ : x / 1099511627776 / 256 ≡ x / 281474976710656 = omega arith in
+    let e₇ : x / 281474976710656 / 256 ≡ x / 72057594037927936 = omega arith in
+    rw (e₂, e₃, e₄, e₅, e₆, e₇)

@@ -3,20 +3,17 @@
 
 ghost use Rattle.std.specs.Prelude.{◌≡◌, ℕ, ◌+◌, ◌*◌, ◌^◌, ◌<◌, ◌≤◌, length, get_or, take, drop};
 ghost use Rattle.octets.specs.Lent.{Wrote};
-ghost use Rattle.septets.specs.Septets.{number_of, lowest_digits, Digits, bit_place, bit_of, place_after, septet_from, in_window, octet_count, packed_septets, header_septets};
+ghost use Rattle.septets.specs.Septets.{number_of, lowest_digits, Digits, bit_place, bit_of, place_after, septet_from, in_window, octet_count, packed_septets, header_septets, fill_bits};
 
 // The octet at `at`, 0 past the end.
 pub fn octet_or_zero(octets: &[u8], at: usize) -> u16
     ensures { result ≡ get_or octets.now at 0 }
 {
-    if at < octets.len() {
-        octets[at] as u16
-    } else {
-        0
-    }
+    octets.get(at).map_or(0, |octet| *octet as u16)
 }
 
-// A place in the bits of octets: the octet, and the bit in it.
+// A place in the bits of octets: the octet, and the bit in it. Both bounds stand in the contracts: a type could hold the second
+// alone, since a step leaves the first.
 #[derive(Clone, Copy, Debug, PartialEq, Eq)]
 pub struct BitPlace {
     pub octet: usize,
@@ -87,14 +84,14 @@ pub fn septet_in(window: u64, index: usize) -> u8
     ((window >> (index * 7)) % 128) as u8
 }
 
-// The number of `n` digits of `w` bits from `at` on, at most eight of at most eight bits.
-fn number_from(digits: &[u8], w: usize, at: usize, n: usize) -> u64
-    requires { (w ≤ 8) × (n ≤ 8) × (at + n ≤ length digits.now) × Digits w digits.now }
-    ensures { result ≡ number_of w (take n (drop at digits.now)) }
+// The number of at most eight digits of `w` bits, at most eight, the lowest first.
+fn number_from(digits: &[u8], w: usize) -> u64
+    requires { (w ≤ 8) × (length digits.now ≤ 8) × Digits w digits.now }
+    ensures { result ≡ number_of w digits.now }
 {
     let mut number = 0;
-    for i in (0..n).rev() {
-        number = (number << w) + digits[at + i] as u64;
+    for digit in digits.iter().rev() {
+        number = (number << w) + *digit as u64;
     }
     number
 }
@@ -106,10 +103,10 @@ fn eight_octets(octets: &[u8], at: usize) -> u64
 {
     let n = octets.len();
     if at + 8 <= n {
-        return number_from(octets, 8, at, 8);
+        return number_from(&octets[at..at + 8], 8);
     }
     if at < n {
-        return number_from(octets, 8, at, n - at);
+        return number_from(&octets[at..], 8);
     }
     0
 }
@@ -122,25 +119,36 @@ pub fn header_septets(octets: usize) -> usize
     (octets * 8 + 6) / 7
 }
 
-// Writes the `n` lowest octets of a number at `at`; the place after them.
-fn put_number(out: &mut [u8], at: usize, n: usize, number: u64) -> usize
-    requires { at + n ≤ length out.old }
-    ensures { Wrote at (lowest_digits 8 n number) out.old result out.new }
+// The bits between a header of so many octets and the next septet.
+pub fn fill_bits(octets: usize) -> usize
+    requires { octets ≤ 256 }
+    ensures { (result ≡ fill_bits octets) × (result < 7) }
 {
-    let mut rest = number;
-    for j in 0..n {
-        out[at + j] = (rest % 256) as u8;
-        rest /= 256;
-    }
-    at + n
+    header_septets(octets) * 7 - octets * 8
 }
 
-// The number of `n` septets from `at` on, at most eight, after `fill` bits that hold `carry`.
-fn number_after(septets: &[u8], at: usize, n: usize, fill: usize, carry: u64) -> u64
-    requires { (n ≤ 8) × (at + n ≤ length septets.now) × Digits 7 septets.now × (fill < 8) × (carry < 2 ^ fill) }
-    ensures { result ≡ number_of 7 (take n (drop at septets.now)) * 2 ^ fill + carry }
+// The octets that so many fill bits and septets take.
+pub fn octet_count(fill: usize, septets: usize) -> usize
+    requires { (fill < 8) × (septets ≤ 255) }
+    ensures { result ≡ octet_count fill septets }
 {
-    (number_from(septets, 7, at, n) << fill) + carry
+    (fill + septets * 7 + 7) / 8
+}
+
+// Writes the `n` lowest octets of a number at `at`; the place after them.
+fn put_number(out: &mut [u8], at: usize, n: usize, number: u64) -> usize
+    requires { (n ≤ 8) × (at + n ≤ length out.old) }
+    ensures { Wrote at (lowest_digits 8 n number) out.old result out.new }
+{
+    octets::put_octets(out, at, &number.to_le_bytes()[..n])
+}
+
+// The number of at most eight septets, after `fill` bits that hold `carry`.
+fn number_after(septets: &[u8], fill: usize, carry: u64) -> u64
+    requires { (length septets.now ≤ 8) × Digits 7 septets.now × (fill < 8) × (carry < 2 ^ fill) }
+    ensures { result ≡ number_of 7 septets.now * 2 ^ fill + carry }
+{
+    (number_from(septets, 7) << fill) + carry
 }
 
 // Packs the septets after `fill` zero bits, with zero bits to the octet, from `at` on; the place after them. Eight septets
@@ -149,19 +157,17 @@ pub fn pack_octets(septets: &[u8], fill: usize, out: &mut [u8], at: usize) -> us
     requires { (fill < 8) × (length septets.now ≤ 255) × Digits 7 septets.now × (at + octet_count fill (length septets.now) ≤ length out.old) }
     ensures { Wrote at (packed_septets fill septets.now) out.old result out.new }
 {
-    let n = septets.len();
     let mut carry = 0;
-    let mut i = 0;
     let mut place = at;
-    // A `while`: eight septets a turn, and never the last; what is over of a turn goes to the next.
-    while i + 8 < n {
-        let window = number_after(septets, i, 8, fill, carry);
+    // the last septets, one to eight, stand apart: no octet after theirs is stored
+    let (front, last) = septets.split_at(septets.len().saturating_sub(1) / 8 * 8);
+    let (eights, _) = front.as_chunks::<8>();
+    for eight in eights {
+        let window = number_after(eight, fill, carry);
         put_number(out, place, 8, window);
         carry = window >> 56;
         place += 7;
-        i += 8;
     }
-    let count = n - i;
-    let window = number_after(septets, i, count, fill, carry);
-    put_number(out, place, (fill + count * 7 + 7) / 8, window)
+    let window = number_after(last, fill, carry);
+    put_number(out, place, octet_count(fill, last.len()), window)
 }

@@ -7,7 +7,6 @@ use mathlib.Core.Bool.{true, false}
 use mathlib.Core.List.{List, [], ◌∷◌, ◌++◌, append_assoc, map}
 use mathlib.Core.Logic.{◌↔◌}
 use native.Mathlib.Numerals.{add-one}
-use native.Mathlib.Omega.{arith}
 use borrow.Author.Tests.{leb-true}
 use lib.Dec.{leb, eqb}
 use lib.ListN.{length, get_or, drop, drop_of_length-le}
@@ -18,13 +17,14 @@ use Rattle.octets.specs.Choice.{within}
 use Rattle.octets.specs.Each.{each}
 use Rattle.octets.specs.declared.Refusal.{Refusal}
 use Rattle.octets.specs.declared.Refusal.TheVariants.{LengthTooLarge, NotATime, RecipientNotPrintable}
-use Rattle.octets.proofs.Checks.{passed, against, holds, both_hold, all_fit_lem}
+use Rattle.octets.specs.Held.{filled}
+use Rattle.octets.proofs.Checks.{passed, against, holds, both_hold}
 use Rattle.octets.proofs.Choice.{and_true, and_means, leb_means, within_means}
 use Rattle.octets.proofs.Each.{each_means}
-use Rattle.time.specs.Time.{is_hex, is_time, digits_of}
+use Rattle.time.specs.Time.{is_hex, is_time}
 use Rattle.time.proofs.Laws.{time_means}
 use Rattle.address.specs.Address.{text_held}
-use Rattle.status_report.specs.StatusReport.{lengths_of, Typed}
+use Rattle.status_report.specs.StatusReport.{lengths_of}
 use Rattle.status_report.specs.declared.SmsStatusReport.{SmsStatusReport}
 use Rattle.shift_page.specs.ShiftPage.{printable, report_checks, reports_checks, report_line, ended}
 
@@ -35,7 +35,7 @@ module _ (r : SmsStatusReport) where
   recipient_of = text_held r.tp_recipient_address
 
   abbrev pub discharge_of : List ℕ
-  discharge_of = digits_of r.tp_discharge_time
+  discharge_of = filled r.tp_discharge_time
 
   pub lengths_against : all_fit (lengths_of r) ≡ false → found (report_checks r) ≡ Err LengthTooLarge
   unfolding report_checks
@@ -54,11 +54,6 @@ module _ (r : SmsStatusReport) where
       pub report_fine : is_time discharge_of ≡ true → found (report_checks r) ≡ fine
       unfolding report_checks
       report_fine t = rw (e, p, t)
-
-  -- then no length passes its array
-  pub fitting : Typed r → all_fit (lengths_of r) ≡ true
-      → (r.tp_recipient_address.address_length ≤ length r.tp_recipient_address.address) × (r.tp_discharge_time.length ≤ length r.tp_discharge_time.digits)
-  fitting sized e = let fit = all_fit_lem (lengths_of r) e in (omega (arith, fit.0), omega (arith, fit.1.1.0))
 
   -- a record that passes
   pub record Passed : Type 0 where
@@ -108,9 +103,9 @@ nowhere = record {
   tp_lp = false;
   tp_mms = false;
   tp_mr = 0;
-  tp_recipient_address = record { ton = 0; npi = 0; address = []; address_length = 0 };
-  tp_service_centre_timestamp = record { digits = []; length = 0 };
-  tp_discharge_time = record { digits = []; length = 0 };
+  tp_recipient_address = record { ton = 0; npi = 0; address = record { octets = []; length = 0 } };
+  tp_service_centre_timestamp = record { octets = []; length = 0 };
+  tp_discharge_time = record { octets = []; length = 0 };
   tp_status = 0;
   tp_parameter_indicator = None;
   tp_pid = None;

@@ -9,7 +9,7 @@ use mathlib.Core.List.{List, [], ◌∷◌, ◌++◌, map}
 use native.Mathlib.Omega.{arith}
 use borrow.Author.Tests.{lt-ltb, le-ltb, ltb-true, ltb-false, eqb-true, ne_eqb, leb-true}
 use lib.Dec.{eqb, ltb}
-use lib.ListN.{length, take, replicate, length-append, length-map, get_or-eq_default}
+use lib.ListN.{length, replicate, length-append, length-map, get_or-eq_default}
 use Rattle.octets.specs.Answers.{Said, fine}
 use Rattle.octets.specs.Checks.{found}
 use Rattle.octets.specs.Choice.{within}
@@ -141,20 +141,20 @@ page_is rs = ended_append (heading ∷ []) (map report_line rs ++ (total_line (l
 
 -- ---- what is made
 
-module _ (rs : List SmsStatusReport) (n : ℕ) where
-  pub too_many : 99 < n → paging rs n ≡ refused TooManyRecords
+module _ (rs : List SmsStatusReport) where
+  pub too_many : 99 < length rs → paging rs ≡ refused TooManyRecords
   unfolding paging
-  too_many h = rw (lt-ltb 99 n h)
+  too_many h = rw (lt-ltb 99 (length rs) h)
 
   -- and the lent buffer stays
-  pub many_refused : (out : List ℕ) → 99 < n → ◌≡◌ {A = Said ℕ × List ℕ} (Err TooManyRecords, out) (lend (paging rs n) out)
+  pub many_refused : (out : List ℕ) → 99 < length rs → ◌≡◌ {A = Said ℕ × List ℕ} (Err TooManyRecords, out) (lend (paging rs) out)
   many_refused out h = lent_refused out TooManyRecords (too_many h)
 
-  module _ (h : n ≤ 99) where
-    pub one_refuses : {why : Refusal} → found (reports_checks (take n rs)) ≡ Err why → paging rs n ≡ refused why
+  module _ (h : length rs ≤ 99) where
+    pub one_refuses : {why : Refusal} → found (reports_checks rs) ≡ Err why → paging rs ≡ refused why
     unfolding paging
-    one_refuses e = rw (le-ltb 99 n h) (one_against (shift_page (take n rs)) (reports_checks (take n rs)) e)
+    one_refuses e = rw (le-ltb 99 (length rs) h) (one_against (shift_page rs) (reports_checks rs) e)
 
-    pub page_made : found (reports_checks (take n rs)) ≡ fine → paging rs n ≡ made (shift_page (take n rs)) (length (shift_page (take n rs)))
+    pub page_made : found (reports_checks rs) ≡ fine → paging rs ≡ made (shift_page rs) (length (shift_page rs))
     unfolding paging
-    page_made e = rw (le-ltb 99 n h) (all_passed (shift_page (take n rs)) (reports_checks (take n rs)) e)
+    page_made e = rw (le-ltb 99 (length rs) h) (all_passed (shift_page rs) (reports_checks rs) e)

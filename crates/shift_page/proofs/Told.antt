@@ -10,8 +10,8 @@ use native.Mathlib.Nat.{not-suc-le-zero}
 use native.Mathlib.Omega.{arith}
 use borrow.Author.Tests.{ltb-false}
 use lib.Dec.{ltb}
-use lib.ListN.{length, get_or, take, drop, length-append, length-map, length-take, get_or-append, get_or-map}
-use lib.Seq.{length-take-le, take_at, get_or_at, take_all, drop-append-add, get_or-append-add}
+use lib.ListN.{length, get_or, take, drop, length-append, length-map, get_or-append, get_or-map}
+use lib.Seq.{take_at, get_or_at, take_all, drop-append-add, get_or-append-add}
 use Rattle.octets.specs.Answers.{fine}
 use Rattle.octets.specs.Checks.{found}
 use Rattle.octets.specs.Each.{Octets}
@@ -135,21 +135,21 @@ module _ (rs : List SmsStatusReport) (e : found (reports_checks rs) ≡ fine) (f
 
 -- ---- what was made, and what was written to a lent buffer
 
-module _ (rs : List SmsStatusReport) (n : ℕ) where
-  pub made_tells : {octets : List ℕ} {count : ℕ} → Octets (statuses (take n rs)) → paging rs n ≡ made octets count → Tells octets (take n rs)
+module _ (rs : List SmsStatusReport) where
+  pub made_tells : {octets : List ℕ} {count : ℕ} → Octets (statuses rs) → paging rs ≡ made octets count → Tells octets rs
   unfolding paging
   made_tells o m =
-      let (few, c) = made_unless TooManyRecords (ltb 99 n) m in
-      let (f, is) = made_told (reports_checks (take n rs)) (shift_page (take n rs)) c in
-      rw (← is) (page_tells (take n rs) f (rw length-take (omega (arith, ltb-false 99 n few))) o)
+      let (few, c) = made_unless TooManyRecords (ltb 99 (length rs)) m in
+      let (f, is) = made_told (reports_checks rs) (shift_page rs) c in
+      rw (← is) (page_tells rs f (omega (arith, ltb-false 99 (length rs) few)) o)
 
-  counts : (xs : List ℕ) (a : ℕ) → paging rs n ≡ made xs a → a ≡ length xs
+  counts : (xs : List ℕ) (a : ℕ) → paging rs ≡ made xs a → a ≡ length xs
   unfolding paging
-  counts xs a m = made_counts (reports_checks (take n rs)) (shift_page (take n rs)) (made_unless TooManyRecords (ltb 99 n) m).1
+  counts xs a m = made_counts (reports_checks rs) (shift_page rs) (made_unless TooManyRecords (ltb 99 (length rs)) m).1
 
   -- the octets that `shift_page` wrote, as many as it answers, tell the records
-  pub written_tells : Octets (statuses (take n rs)) → (buffer : List ℕ) (k : ℕ) → (lend (paging rs n) buffer).0 ≡ Ok k → Tells (take k (lend (paging rs n) buffer).1) (take n rs)
-  written_tells o buffer k e = made_tells o (written (paging rs n) buffer k counts e)
+  pub written_tells : Octets (statuses rs) → (buffer : List ℕ) (k : ℕ) → (lend (paging rs) buffer).0 ≡ Ok k → Tells (take k (lend (paging rs) buffer).1) rs
+  written_tells o buffer k e = made_tells o (written (paging rs) buffer k counts e)
 
 -- pages that are equal are of as many records, which tell the same in their order
 pub equal_pages : {page : List ℕ} {rs ss : List SmsStatusReport} → Tells page rs → Tells page ss
@@ -163,8 +163,8 @@ equal_pages {rs = rs} {ss} p q =
 of_cleared : (r : SmsStatusReport) → Typed r → (report_line (cleared r) ≡ report_line r) × (report_checks (cleared r) ≡ report_checks r)
 unfolding report_line report_checks
 of_cleared r (a, t, u, d) =
-    let recipient = take_cleared 290 r.tp_recipient_address.address_length r.tp_recipient_address.address a in
-    let discharge = take_cleared 14 r.tp_discharge_time.length r.tp_discharge_time.digits u in
+    let recipient = take_cleared 290 r.tp_recipient_address.address.length r.tp_recipient_address.address.octets a in
+    let discharge = take_cleared 14 r.tp_discharge_time.length r.tp_discharge_time.octets u in
     (rw (recipient, discharge), rw (recipient, discharge))
 
 -- equal records have the same line and the same checks
@@ -174,24 +174,24 @@ alike r q f g e =
     let (v, w) = of_cleared q g in
     (sym x ∙ ap report_line e ∙ v, sym y ∙ ap report_checks e ∙ w)
 
--- the first n records of two shifts are equal, one by one
-abbrev pub Alike : ℕ → List SmsStatusReport → List SmsStatusReport → Type 0
-Alike n rs ss = (k : ℕ) → k < n → let r = get_or rs k blank in let q = get_or ss k blank in Typed r × Typed q × (cleared r ≡ cleared q)
+-- the records of two shifts are equal, one by one
+abbrev pub Alike : List SmsStatusReport → List SmsStatusReport → Type 0
+Alike rs ss = (k : ℕ) → k < length rs → let r = get_or rs k blank in let q = get_or ss k blank in Typed r × Typed q × (cleared r ≡ cleared q)
 
-all_alike : (n : ℕ) (rs ss : List SmsStatusReport) → n ≤ length rs → n ≤ length ss → Alike n rs ss → (map report_line (take n rs) ≡ map report_line (take n ss)) × (reports_checks (take n rs) ≡ reports_checks (take n ss))
+all_alike : (rs ss : List SmsStatusReport) → length rs ≡ length ss → Alike rs ss → (map report_line rs ≡ map report_line ss) × (reports_checks rs ≡ reports_checks ss)
 unfolding reports_checks
-all_alike zero rs ss h j same = (refl, refl)
-all_alike (suc n) [] ss h j same = absurd (not-suc-le-zero h)
-all_alike (suc n) (r ∷ rs) [] h j same = absurd (not-suc-le-zero j)
-all_alike (suc n) (r ∷ rs) (q ∷ ss) h j same =
+all_alike [] [] h same = (refl, refl)
+all_alike [] (q ∷ ss) h same = absurd (omega arith)
+all_alike (r ∷ rs) [] h same = absurd (omega arith)
+all_alike (r ∷ rs) (q ∷ ss) h same =
     let (f, g, e) = same 0 (omega arith) in
     let (x, y) = alike r q f g e in
-    let (v, w) = all_alike n rs ss (omega arith) (omega arith) (λ k l. same (suc k) (omega arith)) in
+    let (v, w) = all_alike rs ss (omega arith) (λ k l. same (suc k) (omega arith)) in
     (rw (x, v), rw (y, w))
 
 -- so the same is made of them
-pub paged_alike : (n : ℕ) (rs ss : List SmsStatusReport) → n ≤ length rs → n ≤ length ss → Alike n rs ss → paging rs n ≡ paging ss n
+pub paged_alike : (rs ss : List SmsStatusReport) → length rs ≡ length ss → Alike rs ss → paging rs ≡ paging ss
 unfolding paging shift_page
-paged_alike n rs ss h j same =
-    let (x, y) = all_alike n rs ss h j same in
-    rw (x, y, length-take-le n rs h, length-take-le n ss j)
+paged_alike rs ss h same =
+    let (x, y) = all_alike rs ss h same in
+    rw (x, y, h)

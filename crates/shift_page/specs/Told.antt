@@ -3,7 +3,8 @@ use Rattle.std.specs.Prelude.{ℕ, ◌+◌, ◌-◌, ◌*◌, ◌<◌, ◌≡◌
 use Prim.Native.Char.{code}
 use Rattle.octets.specs.Each.{each}
 use Rattle.octets.specs.Texts.{codes}
-use Rattle.time.specs.Time.{hex_value, digits_of}
+use Rattle.octets.specs.Held.{filled}
+use Rattle.time.specs.Time.{hex_value}
 use Rattle.address.specs.Address.{text_held}
 use Rattle.status_report.specs.StatusReport.{blank}
 use Rattle.status_report.specs.declared.SmsStatusReport.{SmsStatusReport}
@@ -40,7 +41,7 @@ told_by line = (trimmed (take 20 line), 16 * hex_value (get_or line 21 0) + hex_
 
 -- of a record: its recipient is told but for spaces at its end
 abbrev pub told_of : SmsStatusReport → Told
-told_of r = (trimmed (text_held r.tp_recipient_address), r.tp_status, digits_of r.tp_discharge_time)
+told_of r = (trimmed (text_held r.tp_recipient_address), r.tp_status, filled r.tp_discharge_time)
 
 -- the number that decimal digits are after n; spaces are passed over
 unfoldable pub number_after : ℕ → List ℕ → ℕ

@@ -1,7 +1,7 @@
 // The shift page: status reports in lines of 38 characters and a line feed.
 #![tactic(auto)]
 
-ghost use Rattle.std.specs.Prelude.{◌≡◌, [], ◌∷◌, ◌++◌, map, ◌+◌, ◌*◌, ◌≤◌, length, take, Err};
+ghost use Rattle.std.specs.Prelude.{◌≡◌, [], ◌∷◌, ◌++◌, map, ◌+◌, ◌*◌, ◌≤◌, length, Err};
 ghost use Rattle.octets.specs.Answers.{fine};
 ghost use Rattle.octets.specs.Checks.{found};
 ghost use Rattle.octets.specs.Lent.{Wrote, lend};
@@ -21,34 +21,27 @@ fn is_printable(text: &[u8]) -> bool
 }
 
 // Whether a record has a line.
-fn check_report(r: SmsStatusReport) -> Result<(), Refusal>
-    ensures { result ≡ found (report_checks r) }
+fn check_report(r: &SmsStatusReport) -> Result<(), Refusal>
+    ensures { result ≡ found (report_checks r.now) }
 {
-    let n = r.tp_recipient_address.address_length;
-    let m = r.tp_service_centre_timestamp.length;
-    let l = r.tp_discharge_time.length;
-    let k = r.tp_user_data.length;
-    if !((n <= 290) & ((m <= 14) & ((l <= 14) & (k <= 255)))) {
+    if !r.fits() {
         return Err(Refusal::LengthTooLarge);
     }
-    let recipient = r.tp_recipient_address.address;
-    if !is_printable(&recipient[..n]) {
+    if !is_printable(r.tp_recipient_address.address.as_slice()) {
         return Err(Refusal::RecipientNotPrintable);
     }
-    let digits = r.tp_discharge_time.digits;
-    if !time::is_time(&digits[..l]) {
+    if !time::is_time(r.tp_discharge_time.as_slice()) {
         return Err(Refusal::NotATime);
     }
     Ok(())
 }
 
-// Whether the first `count` records have lines.
-fn check_reports(reports: [SmsStatusReport; 99], count: usize) -> Result<(), Refusal>
-    requires { count ≤ 99 }
-    ensures { result ≡ found (reports_checks (take count reports)) }
+// Whether every record has a line.
+fn check_reports(reports: &[SmsStatusReport]) -> Result<(), Refusal>
+    ensures { result ≡ found (reports_checks reports.now) }
 {
-    for report in &reports[..count] {
-        check_report(*report)?;
+    for report in reports {
+        check_report(report)?;
     }
     Ok(())
 }
@@ -85,25 +78,23 @@ fn put_line(out: &mut [u8], at: usize, recipient: &[u8], status: u8, discharge: 
 }
 
 // The line of a record.
-fn put_report(out: &mut [u8], at: usize, r: SmsStatusReport) -> usize
-    requires { (found (report_checks r) ≡ fine) × (at + 39 ≤ length out.old) }
-    ensures { Wrote at (ended (report_line r ∷ [])) out.old result out.new }
+fn put_report(out: &mut [u8], at: usize, r: &SmsStatusReport) -> usize
+    requires { (found (report_checks r.now) ≡ fine) × (at + 39 ≤ length out.old) }
+    ensures { Wrote at (ended (report_line r.now ∷ [])) out.old result out.new }
 {
-    let n = r.tp_recipient_address.address_length;
-    let l = r.tp_discharge_time.length;
-    let recipient = r.tp_recipient_address.address;
-    let discharge = r.tp_discharge_time.digits;
-    put_line(out, at, &recipient[..n], r.tp_status, &discharge[..l])
+    let recipient = r.tp_recipient_address.address.as_slice();
+    let discharge = r.tp_discharge_time.as_slice();
+    put_line(out, at, recipient, r.tp_status, discharge)
 }
 
-// The lines of the first `count` records, in their order.
-fn put_reports(reports: [SmsStatusReport; 99], count: usize, out: &mut [u8], at: usize) -> usize
-    requires { (count ≤ 99) × (found (reports_checks (take count reports)) ≡ fine) × (at + 39 * count ≤ length out.old) }
-    ensures { Wrote at (ended (map report_line (take count reports))) out.old result out.new }
+// The lines of records, in their order.
+fn put_reports(reports: &[SmsStatusReport], out: &mut [u8], at: usize) -> usize
+    requires { (found (reports_checks reports.now) ≡ fine) × (at + 39 * length reports.now ≤ length out.old) }
+    ensures { Wrote at (ended (map report_line reports.now)) out.old result out.new }
 {
     let mut next = at;
-    for report in &reports[..count] {
-        next = put_report(out, next, *report);
+    for report in reports {
+        next = put_report(out, next, report);
     }
     next
 }
@@ -121,23 +112,20 @@ fn put_total(out: &mut [u8], at: usize, n: usize) -> usize
 
 // ---- the page
 
-// Lays out the first `count` records as a page, at the start of a lent output.
+// Lays out records as a page, at the start of a lent output.
 #[tactic(auto, using(crate::proofs::Page::many_refused))]
-pub fn shift_page(
-    reports: [SmsStatusReport; 99],
-    count: usize,
-    out: &mut [u8],
-) -> Result<usize, Refusal>
-    ensures { (result, out.new) ≡ lend (paging reports count) out.old }
+pub fn shift_page(reports: &[SmsStatusReport], out: &mut [u8]) -> Result<usize, Refusal>
+    ensures { (result, out.new) ≡ lend (paging reports.now) out.old }
 {
+    let count = reports.len();
     if 99 < count {
         return Err(Refusal::TooManyRecords);
     }
-    check_reports(reports, count)?;
+    check_reports(reports)?;
     if out.len() < 39 * (count + 2) {
         return Err(Refusal::OutputTooShort);
     }
     let first = put_heading(out, 0);
-    let last = put_reports(reports, count, out, first);
+    let last = put_reports(reports, out, first);
     Ok(put_total(out, last, count))
 }

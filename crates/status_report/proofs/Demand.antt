@@ -13,12 +13,12 @@ use Rattle.std.specs.Prelude.{if◌then◌else◌, Some, None, Option}
 use Rattle.octets.specs.Each.{Octets}
 use Rattle.octets.specs.Lent.{refused}
 use Rattle.octets.specs.declared.Refusal.TheVariants.{LengthTooLarge, NotATime, AddressTooLong}
+use Rattle.octets.specs.Held.{holding}
+use Rattle.octets.proofs.Holding.{filled_holding, holding_cleared}
 use Rattle.octets.proofs.Checks.{check_holds}
 use Rattle.octets.proofs.Laws.{take_cleared}
-use Rattle.coding.specs.Coding.{data_with}
-use Rattle.coding.proofs.Laws.{data_held, data_cleared}
-use Rattle.time.specs.Time.{time_digits, time_in}
-use Rattle.time.proofs.Laws.{octets_back, digits_time, length_digits, time_held, time_cleared}
+use Rattle.time.specs.Time.{time_digits}
+use Rattle.time.proofs.Laws.{octets_back, digits_time, length_digits}
 use Rattle.address.specs.Address.{canonical_address}
 use Rattle.address.proofs.Laws.{address_cleared, canonical_reads, octets_again, length_short, read_checked, Field as AddressField}
 use Rattle.layout.specs.Demand.{Demand3}
@@ -44,9 +44,9 @@ of_cleared : (limit : ℕ) (r : SmsStatusReport) → Typed r → status_reportin
 unfolding status_reporting_within
 of_cleared limit r (a, t, u, d) =
     rw (
-      take_cleared 290 r.tp_recipient_address.address_length r.tp_recipient_address.address a,
-      take_cleared 14 r.tp_service_centre_timestamp.length r.tp_service_centre_timestamp.digits t,
-      take_cleared 14 r.tp_discharge_time.length r.tp_discharge_time.digits u,
+      take_cleared 290 r.tp_recipient_address.address.length r.tp_recipient_address.address.octets a,
+      take_cleared 14 r.tp_service_centre_timestamp.length r.tp_service_centre_timestamp.octets t,
+      take_cleared 14 r.tp_discharge_time.length r.tp_discharge_time.octets u,
       take_cleared 255 r.tp_user_data.length r.tp_user_data.octets d,
     )
 
@@ -57,7 +57,7 @@ written_alike limit r q f g e = sym (of_cleared limit r f) ∙ ap (status_report
 -- a record that was made of fields is cleared
 pub made_cleared : (x : Fields) → cleared (status_reported x) ≡ status_reported x
 unfolding status_reported
-made_cleared x = rw (address_cleared x.ra, time_cleared x.scts, time_cleared x.dt, data_cleared x.held.ud)
+made_cleared x = rw (address_cleared x.ra, holding_cleared 14 (time_digits x.scts), holding_cleared 14 (time_digits x.dt), holding_cleared 255 x.held.ud)
 
 -- ---- a record that was read: its octets, and how its checks fare
 
@@ -75,16 +75,16 @@ module _ (x : ℕ) (mti : eqb (message_type (kept bits x)) 2 ≡ true) (mr : ℕ
 
     its_octets : octets_of (make pi p) ≡ octets_read
     unfolding status_reported
-    its_octets = rw (canonical_reads f wf, ap (λ n. first_octet n (flags_in bits (kept bits x))) (sym (eqb-true _ 2 mti)) ∙ told_first bits refl x, octets_again f wf, time_held t, time_held u, octets_back t ot, octets_back u ou, data_held p.ud)
+    its_octets = rw (canonical_reads f wf, ap (λ n. first_octet n (flags_in bits (kept bits x))) (sym (eqb-true _ 2 mti)) ∙ told_first bits refl x, octets_again f wf, filled_holding 14 (time_digits t), filled_holding 14 (time_digits u), octets_back t ot, octets_back u ou, filled_holding 255 p.ud)
 
     its_making : status_reporting (make pi p) ≡ (if ltb 12 (length (canonical_address f)) then refused AddressTooLong else checked (optional_checks 140 pi p) octets_read)
-    unfolding status_reporting_within status_reported time_in data_with
+    unfolding status_reporting_within status_reported holding
     its_making =
         let short : length (time_digits t) ≤ 14 = omega (arith, length_digits t) in
         let brief : length (time_digits u) ≤ 14 = omega (arith, length_digits u) in
         rw (check_holds (fits (make pi p) (rw (canonical_reads f wf) (length_short f wf)) short brief few) LengthTooLarge, its_octets)
-        (rw (canonical_reads f wf, data_held p.ud, read_checked f wf)
-        (rw (time_held t, time_held u, check_holds (digits_time t ot (sym wt)) NotATime, check_holds (digits_time u ou (sym wu)) NotATime)))
+        (rw (canonical_reads f wf, filled_holding 255 p.ud, read_checked f wf)
+        (rw (filled_holding 14 (time_digits t), filled_holding 14 (time_digits u), check_holds (digits_time t ot (sym wt)) NotATime, check_holds (digits_time u ou (sym wu)) NotATime)))
 
     -- after the fields up to status stand those of indicator and parameters
     module _ (cs : List Field) (j : octets_held pi ++ parameters_octets p ≡ joined cs) (a : (xs : List ℕ) → Answers (checked (optional_checks 140 pi p) xs) xs (any_past_limit cs)) where

@@ -4,3 +4,4 @@ pub mod RecordRead
 pub mod RecordWritten
 pub mod Demand
 pub mod Limits
+pub mod Blank

@@ -12,9 +12,9 @@ use Rattle.octets.specs.Answers.{fine}
 use Rattle.octets.specs.Checks.{Check, ◌unless◌, found, checked, all_fit}
 use Rattle.octets.specs.Lent.{Making, made}
 use Rattle.octets.specs.declared.Refusal.TheVariants.{LengthTooLarge, NotATime, ParametersWithoutIndicator}
+use Rattle.octets.specs.Held.{filled}
 use Rattle.octets.proofs.Checks.{holds, both_hold, made_told}
-use Rattle.coding.specs.Coding.{data_of}
-use Rattle.time.specs.Time.{is_time, digits_of}
+use Rattle.time.specs.Time.{is_time}
 use Rattle.address.specs.Address.{text_held}
 use Rattle.address.specs.Writing.{address_checks}
 use Rattle.parameters.specs.Checking.{indicator_checks, data_within}
@@ -25,13 +25,13 @@ use Rattle.status_report.specs.StatusReport.{lengths_of, parameters_of, octets_o
 use Rattle.status_report.specs.declared.SmsStatusReport.{SmsStatusReport}
 
 abbrev count : SmsStatusReport → ℕ
-count r = length (data_of r.tp_user_data)
+count r = length (filled r.tp_user_data)
 
 -- the checks before those of indicator and parameters
 abbrev front : SmsStatusReport → List Check
 front r =
     let recipient = r.tp_recipient_address in
-    (LengthTooLarge unless all_fit (lengths_of r)) ∷ (address_checks recipient.ton recipient.npi (text_held recipient) ++ ((NotATime unless is_time (digits_of r.tp_service_centre_timestamp)) ∷ (NotATime unless is_time (digits_of r.tp_discharge_time)) ∷ []))
+    (LengthTooLarge unless all_fit (lengths_of r)) ∷ (address_checks recipient.ton recipient.npi (text_held recipient) ++ ((NotATime unless is_time (filled r.tp_service_centre_timestamp)) ∷ (NotATime unless is_time (filled r.tp_discharge_time)) ∷ []))
 
 -- what is made with an indicator or none
 abbrev with : SmsStatusReport → Option ℕ → ℕ → Making ℕ
@@ -41,7 +41,7 @@ optional_last : (limit : ℕ) (r : SmsStatusReport) → status_reporting_within 
 unfolding status_reporting_within
 optional_last limit r =
     let recipient = r.tp_recipient_address in
-    rw (append_assoc (address_checks recipient.ton recipient.npi (text_held recipient)) ((NotATime unless is_time (digits_of r.tp_service_centre_timestamp)) ∷ (NotATime unless is_time (digits_of r.tp_discharge_time)) ∷ []) (optional_checks limit r.tp_parameter_indicator (parameters_of r)))
+    rw (append_assoc (address_checks recipient.ton recipient.npi (text_held recipient)) ((NotATime unless is_time (filled r.tp_service_centre_timestamp)) ∷ (NotATime unless is_time (filled r.tp_discharge_time)) ∷ []) (optional_checks limit r.tp_parameter_indicator (parameters_of r)))
 
 -- without an indicator there are no user data, and no limit is looked at
 none_held : (limit : ℕ) (p : Parameters) → found (optional_checks limit None p) ≡ fine → length p.ud ≤ 0

@@ -9,11 +9,10 @@ use lib.Dec.{eqb}
 use lib.ListN.{take, drop}
 use Rattle.octets.specs.Each.{Octets}
 use Rattle.octets.specs.declared.Refusal.{Refusal}
+use Rattle.octets.specs.Held.{holding}
 use Rattle.octets.proofs.Laws.{part_is}
-use Rattle.coding.specs.Coding.{data_with}
-use Rattle.coding.specs.declared.UserData.{UserData}
-use Rattle.time.specs.Time.{time_in}
-use Rattle.time.specs.declared.Time.{Time}
+use Rattle.coding.specs.Coding.{UserData}
+use Rattle.time.specs.Time.{time_in, Time}
 use Rattle.gsm7.specs.Reading.{replaced_in, replaced_in_all}
 use Rattle.address.specs.Address.{address_in, address_size, septets_read}
 use Rattle.address.specs.declared.SMSAddress.{SMSAddress}
@@ -24,8 +23,7 @@ use Rattle.layout.proofs.Steps.{done_reached, then_goes_on, then_ends}
 use Rattle.status_report.specs.Layout.{bits, fields}
 use Rattle.status_report.specs.Internal.{fields_at, reached_at, Inside}
 use Rattle.status_report.specs.declared.reading.StatusReportFields.{StatusReportFields}
-use Rattle.status_report.specs.declared.StatusReportRead.{StatusReportRead}
-use Rattle.status_report.specs.StatusReport.{status_reported, format, status_report, read_with}
+use Rattle.status_report.specs.StatusReport.{StatusReportRead, status_reported, format, status_report, read_with}
 
 -- ---- the answer
 
@@ -43,7 +41,7 @@ module _ (s : List ℕ) where
 
 pub message_is : (s : List ℕ) → Octets s → (f : StatusReportFields) → Inside s 2 f
     → (a : SMSAddress) → a ≡ address_in (take (address_size (drop f.address s)) (drop f.address s)) → (t : Time) → t ≡ time_in (take 7 (drop f.timestamp s)) → (u : Time) → u ≡ time_in (take 7 (drop f.discharge s))
-    → (d : UserData) → d ≡ data_with (take (f.«data» + f.octets - f.«data») (drop f.«data» s))
+    → (d : UserData) → d ≡ holding 255 (take (f.«data» + f.octets - f.«data») (drop f.«data» s))
     → (n : ℕ) → n ≡ replaced_in (septets_read (take (address_size (drop f.address s)) (drop f.address s)))
     → ◌≡◌ {A = StatusReportRead} (record {
       message = record {

@@ -7,8 +7,7 @@ use borrow.Author.Tests.{le-leb}
 use Rattle.octets.specs.Checks.{checked, all_fit}
 use Rattle.octets.specs.Lent.{refused}
 use Rattle.octets.specs.declared.Refusal.TheVariants.{LengthTooLarge}
-use Rattle.coding.specs.Coding.{data_of}
-use Rattle.time.specs.Time.{digits_of}
+use Rattle.octets.specs.Held.{filled}
 use Rattle.address.specs.Address.{text_held}
 use Rattle.layout.specs.Layout.{first_octet}
 use Rattle.status_report.specs.StatusReport.{lengths_of, flags_of, status_reporting_within}
@@ -31,9 +30,9 @@ module _ (limit : ℕ) (r : SmsStatusReport) where
         indicator = r.tp_parameter_indicator;
         parameters = record { pid = r.tp_pid; dcs = r.tp_dcs; udl = r.tp_user_data_length };
       })
-      r.tp_recipient_address.ton r.tp_recipient_address.npi (text_held r.tp_recipient_address) (digits_of r.tp_service_centre_timestamp) (digits_of r.tp_discharge_time) (data_of r.tp_user_data)
+      r.tp_recipient_address.ton r.tp_recipient_address.npi (text_held r.tp_recipient_address) (filled r.tp_service_centre_timestamp) (filled r.tp_discharge_time) (filled r.tp_user_data)
   unfolding status_reporting_within making checked
   by_fields e f = rw (e, f)
 
-pub fits : (r : SmsStatusReport) → r.tp_recipient_address.address_length ≤ 290 → r.tp_service_centre_timestamp.length ≤ 14 → r.tp_discharge_time.length ≤ 14 → r.tp_user_data.length ≤ 255 → all_fit (lengths_of r) ≡ true
+pub fits : (r : SmsStatusReport) → r.tp_recipient_address.address.length ≤ 290 → r.tp_service_centre_timestamp.length ≤ 14 → r.tp_discharge_time.length ≤ 14 → r.tp_user_data.length ≤ 255 → all_fit (lengths_of r) ≡ true
 fits r a t d u = rw (le-leb _ 290 a, le-leb r.tp_service_centre_timestamp.length 14 t, le-leb r.tp_discharge_time.length 14 d, le-leb _ 255 u)

@@ -4,11 +4,10 @@ use Rattle.octets.specs.Answers.{fine}
 use Rattle.octets.specs.Checks.{Check, ◌unless◌, found, checked, all_fit}
 use Rattle.octets.specs.Lent.{Making}
 use Rattle.octets.specs.declared.Refusal.TheVariants.{LengthTooLarge, UserDataTooLong, NotATime, ParametersWithoutIndicator}
-use Rattle.coding.specs.Coding.{coding_of, character_set, data_octets, data_with, data_of, cleared_data, TypedData}
-use Rattle.coding.specs.declared.UserData.{UserData}
+use Rattle.octets.specs.Held.{holding, filled, cleared_held, TypedHeld}
+use Rattle.coding.specs.Coding.{coding_of, character_set, data_octets, UserData}
 use Rattle.gsm7.specs.Reading.{replaced_in_all}
-use Rattle.time.specs.Time.{is_time, time_octets, time_in, digits_of, cleared_time, capital_time, TypedTime}
-use Rattle.time.specs.declared.Time.{Time}
+use Rattle.time.specs.Time.{is_time, time_octets, time_in, capital_time, Time}
 use Rattle.address.specs.Address.{address_in, address_with, septets_read, text_held, cleared_address, TypedAddress}
 use Rattle.address.specs.Writing.{address_octets, octets_or, address_checks}
 use Rattle.address.specs.declared.SMSAddress.{SMSAddress}
@@ -16,9 +15,9 @@ use Rattle.layout.specs.Layout.{Format, Layout, plain, done, ◌then◌, address
 use Rattle.parameters.specs.Checking.{indicator_checks, data_within}
 use Rattle.parameters.specs.Optional.{octets_held}
 use Rattle.parameters.specs.Parameters.{Parameters, parameters_octets}
+use Rattle.layout.specs.declared.MessageRead.{MessageRead}
 use Rattle.status_report.specs.Layout.{Fields, fields}
 use Rattle.status_report.specs.declared.SmsStatusReport.{SmsStatusReport}
-use Rattle.status_report.specs.declared.StatusReportRead.{StatusReportRead}
 
 -- ---- reading
 
@@ -38,7 +37,7 @@ status_reported x = record {
   tp_pid = x.held.pid;
   tp_dcs = x.held.dcs;
   tp_user_data_length = x.held.udl;
-  tp_user_data = data_with x.held.ud;
+  tp_user_data = holding 255 x.held.ud;
 }
 
 -- the layout of fields, and the record
@@ -64,14 +63,18 @@ blank = record {
   tp_pid = None;
   tp_dcs = None;
   tp_user_data_length = None;
-  tp_user_data = data_with [];
+  tp_user_data = holding 255 [];
 }
 
 -- what is read as text in a string: the recipient address, after first octet and reference, where its type is 5. User data stay octets
 abbrev pub texts_read : List ℕ → SmsStatusReport → List (List ℕ)
 texts_read s r = septets_read (cut addressKind (drop 2 s)) ∷ []
 
--- what the reader gives of a string, of its record and of the place reached: the record, and beside it how many escapes were replaced
+-- what the reader gives
+abbrev pub StatusReportRead : Type 0
+StatusReportRead = MessageRead SmsStatusReport
+
+-- of a string, of its record and of the place reached: the record, and beside it how many escapes were replaced
 abbrev pub read_with : List ℕ → SmsStatusReport → ℕ → StatusReportRead
 read_with s r at = record { message = r; replaced_escapes = replaced_in_all (texts_read s r) }
 
@@ -80,7 +83,7 @@ read_with s r at = record { message = r; replaced_escapes = replaced_in_all (tex
 -- the lengths of a record, each with the size of its array
 abbrev pub lengths_of : SmsStatusReport → List (ℕ × ℕ)
 lengths_of r =
-    (r.tp_recipient_address.address_length, 290) ∷ (r.tp_service_centre_timestamp.length, 14) ∷ (r.tp_discharge_time.length, 14) ∷ (r.tp_user_data.length, 255) ∷ []
+    (r.tp_recipient_address.address.length, 290) ∷ (r.tp_service_centre_timestamp.length, 14) ∷ (r.tp_discharge_time.length, 14) ∷ (r.tp_user_data.length, 255) ∷ []
 
 -- its flags, each with its bit
 abbrev pub flags_of : SmsStatusReport → List (ℕ × Bool)
@@ -88,14 +91,14 @@ flags_of r = (6, r.tp_udhi) ∷ (5, r.tp_srq) ∷ (3, r.tp_lp) ∷ (2, r.tp_mms)
 
 -- its parameters
 abbrev pub parameters_of : SmsStatusReport → Parameters
-parameters_of r = record { pid = r.tp_pid; dcs = r.tp_dcs; udl = r.tp_user_data_length; ud = data_of r.tp_user_data }
+parameters_of r = record { pid = r.tp_pid; dcs = r.tp_dcs; udl = r.tp_user_data_length; ud = filled r.tp_user_data }
 
 -- its octets, in the layout's order
 abbrev pub octets_of : SmsStatusReport → List ℕ
 octets_of r =
     let recipient = r.tp_recipient_address in
-    first_octet 2 (flags_of r) ∷ r.tp_mr ∷ (octets_or [] (address_octets recipient.ton recipient.npi (text_held recipient)) ++ (time_octets (digits_of r.tp_service_centre_timestamp)
-    ++ (time_octets (digits_of r.tp_discharge_time) ++ (r.tp_status ∷ (octets_held r.tp_parameter_indicator ++ parameters_octets (parameters_of r))))))
+    first_octet 2 (flags_of r) ∷ r.tp_mr ∷ (octets_or [] (address_octets recipient.ton recipient.npi (text_held recipient)) ++ (time_octets (filled r.tp_service_centre_timestamp)
+    ++ (time_octets (filled r.tp_discharge_time) ++ (r.tp_status ∷ (octets_held r.tp_parameter_indicator ++ parameters_octets (parameters_of r))))))
 
 -- with an indicator 13, 14, 7, 8, 15, user data within a limit; without one 16: neither parameters nor user data are held
 unfoldable pub optional_checks : ℕ → Option ℕ → Parameters → List Check
@@ -107,8 +110,8 @@ unfoldable pub status_reporting_within : ℕ → SmsStatusReport → Making ℕ
 status_reporting_within limit r =
     let recipient = r.tp_recipient_address in
     checked
-    ((LengthTooLarge unless all_fit (lengths_of r)) ∷ (address_checks recipient.ton recipient.npi (text_held recipient) ++ ((NotATime unless is_time (digits_of r.tp_service_centre_timestamp))
-    ∷ (NotATime unless is_time (digits_of r.tp_discharge_time)) ∷ optional_checks limit r.tp_parameter_indicator (parameters_of r))))
+    ((LengthTooLarge unless all_fit (lengths_of r)) ∷ (address_checks recipient.ton recipient.npi (text_held recipient) ++ ((NotATime unless is_time (filled r.tp_service_centre_timestamp))
+    ∷ (NotATime unless is_time (filled r.tp_discharge_time)) ∷ optional_checks limit r.tp_parameter_indicator (parameters_of r))))
     (octets_of r)
 
 -- the ported writer: within 140
@@ -152,7 +155,7 @@ changed address time user_data r = record {
 
 -- what lies after a length set to zero: records are equal where these are. Parameters and user data without indicator are parts of a record still: 16 looks at them
 abbrev pub cleared : SmsStatusReport → SmsStatusReport
-cleared = changed cleared_address cleared_time cleared_data
+cleared = changed cleared_address cleared_held cleared_held
 
 -- the letters of both times capital
 abbrev pub capitalised : SmsStatusReport → SmsStatusReport
@@ -160,4 +163,4 @@ capitalised = changed (λ a. a) capital_time (λ d. d)
 
 -- the arrays have the lengths of their types
 abbrev pub Typed : SmsStatusReport → Type 0
-Typed r = TypedAddress r.tp_recipient_address × TypedTime r.tp_service_centre_timestamp × TypedTime r.tp_discharge_time × TypedData r.tp_user_data
+Typed r = TypedAddress r.tp_recipient_address × TypedHeld r.tp_service_centre_timestamp × TypedHeld r.tp_discharge_time × TypedHeld r.tp_user_data

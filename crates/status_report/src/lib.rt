@@ -5,17 +5,17 @@ pub mod reading;
 pub mod writing;
 
 ghost use Rattle.std.specs.Prelude.{◌≡◌};
+ghost use Rattle.octets.specs.Checks.{all_fit};
 ghost use Rattle.octets.specs.Lent.{lend};
 ghost use Rattle.layout.specs.Layout.{read, answer};
 ghost use Rattle.status_report.specs.Internal.{fields_at, reached_at, Inside};
-ghost use Rattle.status_report.specs.StatusReport.{status_reported, status_report, blank, read_with, status_reporting_within, status_reporting, status_reporting_to_standard};
+ghost use Rattle.status_report.specs.StatusReport.{status_reported, status_report, read_with, lengths_of, status_reporting_within, status_reporting, status_reporting_to_standard};
 
 use crate::reading::StatusReportFields;
 use crate::writing::StatusReportValues;
 use address::SMSAddress;
-use address::writing::Number;
 use coding::UserData;
-use layout::MTI_STATUS_REPORT;
+use layout::{MTI_STATUS_REPORT, MessageRead};
 use octets::Refusal;
 use parameters::ParameterOctets;
 use time::Time;
@@ -23,7 +23,8 @@ use time::Time;
 // The octets of user data in the standard's table of the message (TS 23.040 §9.2.2.3).
 const STANDARD_USER_DATA_OCTETS: usize = 131;
 
-#[derive(Clone, Copy, Debug)]
+// Its default is the blank message.
+#[derive(Clone, Copy, Debug, Default)]
 pub struct SmsStatusReport {
     pub tp_udhi: bool,
     pub tp_srq: bool,
@@ -41,48 +42,8 @@ pub struct SmsStatusReport {
     pub tp_user_data: UserData,
 }
 
-// What reading gives: the message, and the number of escapes in its text that led to no character of the extension table.
-#[derive(Clone, Copy, Debug)]
-pub struct StatusReportRead {
-    pub message: SmsStatusReport,
-    pub replaced_escapes: usize,
-}
-
-// The blank message.
-impl Default for SmsStatusReport {
-    ghost is_default = { λ r. r ≡ blank };
-
-    fn default() -> Self {
-        SmsStatusReport {
-            tp_udhi: false,
-            tp_srq: false,
-            tp_lp: false,
-            tp_mms: false,
-            tp_mr: 0,
-            tp_recipient_address: address::no_address(),
-            tp_service_centre_timestamp: time::no_time(),
-            tp_discharge_time: time::no_time(),
-            tp_status: 0,
-            tp_parameter_indicator: None,
-            tp_pid: None,
-            tp_dcs: None,
-            tp_user_data_length: None,
-            tp_user_data: coding::no_data(),
-        }
-    }
-}
-
-// The blank message, and nothing replaced.
-impl Default for StatusReportRead {
-    ghost is_default = { λ r. r ≡ record { message = blank; replaced_escapes = 0 } };
-
-    fn default() -> Self {
-        StatusReportRead {
-            message: SmsStatusReport::default(),
-            replaced_escapes: 0,
-        }
-    }
-}
+// What reading gives.
+pub type StatusReportRead = MessageRead<SmsStatusReport>;
 
 // The message of fields that are there.
 fn message(data: &[u8], f: StatusReportFields) -> StatusReportRead
@@ -97,7 +58,7 @@ fn message(data: &[u8], f: StatusReportFields) -> StatusReportRead
     let recipient = read.address;
     let timestamp = time::time_at(data, f.timestamp);
     let discharge_time = time::time_at(data, f.discharge);
-    let user_data = coding::data_with(&data[start..end]);
+    let user_data = octets::hold(&data[start..end]);
     StatusReportRead {
         message: SmsStatusReport {
             tp_udhi: first / 64 % 2 == 1,
@@ -120,15 +81,20 @@ fn message(data: &[u8], f: StatusReportFields) -> StatusReportRead
 }
 
 impl SmsStatusReport {
+    // Whether each length keeps within its array.
+    pub fn fits(&self) -> bool
+        ensures { result ≡ all_fit (lengths_of self.now) }
+    {
+        self.tp_recipient_address.address.fits()
+            & (self.tp_service_centre_timestamp.fits()
+                & (self.tp_discharge_time.fits() & self.tp_user_data.fits()))
+    }
+
     // Writes the message to the start of a lent output, its user data within a limit.
     fn encode_within(self, limit: usize, out: &mut [u8]) -> Result<usize, Refusal>
         ensures { (result, out.new) ≡ lend (status_reporting_within limit self) out.old }
     {
-        let n = self.tp_recipient_address.address_length;
-        let m = self.tp_service_centre_timestamp.length;
-        let l = self.tp_discharge_time.length;
-        let k = self.tp_user_data.length;
-        if !((n <= 290) & ((m <= 14) & ((l <= 14) & (k <= 255)))) {
+        if !self.fits() {
             return Err(Refusal::LengthTooLarge);
         }
         let first = layout::first_octet(
@@ -140,10 +106,6 @@ impl SmsStatusReport {
             self.tp_lp,
             self.tp_mms,
         );
-        let text = self.tp_recipient_address.address;
-        let digits = self.tp_service_centre_timestamp.digits;
-        let digits2 = self.tp_discharge_time.digits;
-        let octets = self.tp_user_data.octets;
         let values = StatusReportValues {
             first,
             mr: self.tp_mr,
@@ -155,18 +117,13 @@ impl SmsStatusReport {
                 udl: self.tp_user_data_length,
             },
         };
-        let number = Number {
-            ton: self.tp_recipient_address.ton,
-            npi: self.tp_recipient_address.npi,
-            text: &text[..n],
-        };
         writing::encode_fields(
             limit,
             values,
-            number,
-            &digits[..m],
-            &digits2[..l],
-            &octets[..k],
+            self.tp_recipient_address.number(),
+            self.tp_service_centre_timestamp.as_slice(),
+            self.tp_discharge_time.as_slice(),
+            self.tp_user_data.as_slice(),
             out,
         )
     }

@@ -38,6 +38,7 @@ fn check_optional(limit: usize, v: StatusReportValues, data: &[u8]) -> Result<()
 }
 
 // Writes what follows the address from `at` on; the place after it.
+#[tactic(auto, using(octets::proofs::Laws::kept_by, time::proofs::Laws::time_size))]
 fn put_after_address(
     v: StatusReportValues,
     scts: &[u8],
@@ -57,6 +58,7 @@ fn put_after_address(
 }
 
 // Writes values that were checked; how many octets they take.
+#[tactic(auto, using(octets::proofs::Laws::kept_by, address::proofs::Checks::fine_size))]
 fn put_fields(
     v: StatusReportValues,
     number: Number<'_>,
@@ -77,6 +79,7 @@ fn put_fields(
 
 // Writes the values to the start of a lent output, user data within a limit: checks in order, then the size, then the
 // octets.
+#[tactic(auto, using(address::proofs::Checks::fine_small))]
 pub fn encode_fields(
     limit: usize,
     v: StatusReportValues,

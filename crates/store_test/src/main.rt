@@ -4,17 +4,13 @@
 #![tactic(auto)]
 
 use std::io;
-use tpdu::{MessageDropped, MessageTaken, Reference, Refusal, SMSAddress};
-
-fn say_refusal<R: Print>(rt: &R, why: Refusal) -> io::Result<()> {
-    println!(rt; "refused {}", why.number())
-}
+use tpdu::{MessageDropped, MessageTaken, Reference, SMSAddress};
 
 // Empties a store, and says the answer.
 fn empty<R: Print>(rt: &R, store: &mut [u8]) -> io::Result<()> {
     match tpdu::empty_store(store) {
         Ok(()) => println!(rt; "ok"),
-        Err(why) => say_refusal(rt, why),
+        Err(why) => println!(rt; "{why}"),
     }
 }
 
@@ -27,18 +23,15 @@ fn accept<R: Print>(rt: &R, store: &mut [u8]) -> io::Result<()> {
     print!(rt; "accepting: ")?;
     match tpdu::accept_part(store, &data) {
         Ok(_) => println!(rt; "ok"),
-        Err(why) => say_refusal(rt, why),
+        Err(why) => println!(rt; "{why}"),
     }
 }
 
 fn sender() -> SMSAddress {
-    let mut address = [0u8; 290];
-    address[..5].copy_from_slice(b"12345");
     SMSAddress {
         ton: 1,
         npi: 1,
-        address,
-        address_length: 5,
+        address: octets::hold(b"12345"),
     }
 }
 
@@ -48,7 +41,7 @@ fn take<R: Print>(rt: &R, store: &mut [u8], out: &mut [u8]) -> io::Result<()> {
         Ok(MessageTaken::Whole(_, n)) => println!(rt; "{n} octets"),
         Ok(MessageTaken::NotOpen) => println!(rt; "not open"),
         Ok(MessageTaken::NotWhole) => println!(rt; "not whole"),
-        Err(why) => say_refusal(rt, why),
+        Err(why) => println!(rt; "{why}"),
     }
 }
 
@@ -57,7 +50,7 @@ fn drop<R: Print>(rt: &R, store: &mut [u8]) -> io::Result<()> {
     match tpdu::drop_message(store, sender(), Reference::Eight(7), 1) {
         Ok(MessageDropped::Done) => println!(rt; "ok"),
         Ok(MessageDropped::NotOpen) => println!(rt; "not open"),
-        Err(why) => say_refusal(rt, why),
+        Err(why) => println!(rt; "{why}"),
     }
 }
 

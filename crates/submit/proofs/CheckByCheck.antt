@@ -16,11 +16,11 @@ use Rattle.octets.specs.Choice.{length_if}
 use Rattle.octets.specs.Lent.{Making, refused, made}
 use Rattle.octets.specs.declared.Refusal.{Refusal}
 use Rattle.octets.specs.declared.Refusal.TheVariants.{LengthTooLarge, WrongMessageType, ValidityFormatDisagrees, NoDestination, NotATime}
+use Rattle.octets.specs.Held.{filled}
 use Rattle.octets.proofs.Checks.{holds, both_hold, made_told, Fit, all_fit_lem}
-use Rattle.coding.specs.Coding.{coding_of, data_octets, checked_data, data_checks, data_of}
+use Rattle.coding.specs.Coding.{coding_of, data_octets, checked_data, data_checks}
 use Rattle.coding.proofs.Laws.{data_checked, data_passed}
-use Rattle.time.specs.Time.{digits_of}
-use Rattle.time.specs.declared.Time.{Time}
+use Rattle.time.specs.Time.{Time}
 use Rattle.address.specs.Address.{text_held}
 use Rattle.address.specs.Writing.{address_checks, address_making}
 use Rattle.address.specs.Internal.{check_of}
@@ -31,7 +31,7 @@ use Rattle.validity_period.specs.declared.ValidityPeriod.{ValidityPeriod}
 use Rattle.validity_period.proofs.Period.{period_size_lem}
 use Rattle.submit.specs.declared.SmsSubmit.{SmsSubmit}
 use Rattle.submit.specs.declared.writing.SubmitValues.{SubmitValues}
-use Rattle.submit.specs.Submit.{digits_length, lengths_of, first_of, destination_checks, octets_of, submitting}
+use Rattle.submit.specs.Submit.{lengths_of, first_of, destination_checks, octets_of, submitting}
 use Rattle.submit.specs.Internal.{octets_in, making}
 
 -- ---- by the lengths that count
@@ -113,7 +113,7 @@ module _ (r : SmsSubmit) where
   stamp = r.validity_period_digits
 
   abbrev ud : List ℕ
-  ud = data_of r.tp_user_data_raw
+  ud = filled r.tp_user_data_raw
 
   pub too_long : lengths_fit r ≡ false → submitting r ≡ refused LengthTooLarge
   unfolding submitting checked
@@ -135,14 +135,13 @@ module _ (r : SmsSubmit) where
         no_destination h = rw (e, eq-eqb r.tp_mti 1 m, eq-eqb r.tp_vpf (format_of r.tp_validity_period) f, h)
 
         module _ {to : SMSAddress} (t : r.tp_destination_address ≡ Some to) where
-          pub by_fields : submitting r ≡ checked (to_data (values_of r) to.ton to.npi (text_held to) (digits_of stamp) ud) (octets_of r)
+          pub by_fields : submitting r ≡ checked (to_data (values_of r) to.ton to.npi (text_held to) (filled stamp) ud) (octets_of r)
           unfolding submitting checked
           by_fields = rw (e, eq-eqb r.tp_mti 1 m, eq-eqb r.tp_vpf (format_of r.tp_validity_period) f, t)
 
-          -- digits that don't count are neither looked at nor written
-          pub by_values : submitting r ≡ making (values_of r) to.ton to.npi (text_held to) (take (digits_length r) stamp.digits) r.validity_period_octets ud
+          pub by_values : submitting r ≡ making (values_of r) to.ton to.npi (text_held to) (filled stamp) r.validity_period_octets ud
           unfolding making
-          by_values = let (holds, written) = digits_counted r.tp_validity_period stamp.length stamp.digits r.validity_period_octets in by_fields ∙ rw (holds, written, t)
+          by_values = by_fields ∙ rw t
 
 -- where octets are written, every check has held
 pub record Passed (r : SmsSubmit) (xs : List ℕ) : Type 0 where
@@ -154,7 +153,7 @@ pub record Passed (r : SmsSubmit) (xs : List ℕ) : Type 0 where
   pub size_is : length (ud r) ≡ data_octets (coding_of r.tp_dcs) r.tp_user_data_length
   pub few : length (ud r) ≤ 140
   pub address : found (address_checks destination.ton destination.npi (text_held destination)) ≡ fine
-  pub time : time_holds r.tp_validity_period (digits_of (stamp r)) ≡ true
+  pub time : time_holds r.tp_validity_period (filled (stamp r)) ≡ true
   pub octets_are : octets_of r ≡ xs
 
 held : (o : Option SMSAddress) → is_some o ≡ true → (to : SMSAddress) × (o ≡ Some to)
@@ -164,7 +163,7 @@ held (Some to) e = (to, refl)
 pub all_passed : (r : SmsSubmit) {xs : List ℕ} {n : ℕ} → submitting r ≡ made xs n → Passed r xs
 unfolding submitting checked_data
 all_passed r e =
-    let from_time = (NotATime unless time_holds r.tp_validity_period (digits_of (stamp r))) ∷ [] in
+    let from_time = (NotATime unless time_holds r.tp_validity_period (filled (stamp r))) ∷ [] in
     let from_address = destination_checks r.tp_destination_address ++ from_time in
     let of_data = data_checks r.tp_dcs r.tp_user_data_length (length (ud r)) in
     let from-destination = (NoDestination unless is_some r.tp_destination_address) ∷ of_data ++ from_address in
@@ -177,6 +176,6 @@ all_passed r e =
     let (d, f4) = both_hold of_data from_address f3 in
     let (a, f5) = both_hold (destination_checks r.tp_destination_address) from_time f4 in
     let (size, few) = data_passed _ _ _ d in
-    let (time, f6) = holds NotATime (time_holds r.tp_validity_period (digits_of (stamp r))) [] f5 in
+    let (time, f6) = holds NotATime (time_holds r.tp_validity_period (filled (stamp r))) [] f5 in
     let (to, there) = held r.tp_destination_address t in
     record { fits = all_fit_lem (lengths_of r) l; mti_is = eqb-true _ _ m; format_is = eqb-true _ _ p; destination = to; there = there; size_is = size; few = few; address = rw there at a; time = time; octets_are = x }

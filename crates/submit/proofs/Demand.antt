@@ -1,5 +1,6 @@
 -- Demand 3 of SMS-SUBMIT, and that its writer looks at nothing that is no part of a record.
 -- Assumes nothing.
+use Rattle.time.specs.Time.{time_digits, is_time, time_octets, time_in, Time}
 use Prim.Native.Nat.{ℕ, zero, suc, ◌/◌, ◌%◌, ◌≤◌, ◌<◌}
 use mathlib.Core.Path.{◌≡◌, refl, sym, ap, ◌∙◌}
 use mathlib.Core.Bool.{Bool, true, false}
@@ -16,15 +17,13 @@ use Rattle.octets.specs.Choice.{length_if}
 use Rattle.octets.specs.Each.{Octets}
 use Rattle.octets.specs.Lent.{Making, refused, made}
 use Rattle.octets.specs.declared.Refusal.TheVariants.{UserDataTooLong, AddressTooLong, NotATime}
+use Rattle.octets.specs.Held.{holding, filled, cleared_held, TypedHeld}
+use Rattle.octets.proofs.Holding.{filled_holding, holding_cleared}
 use Rattle.octets.proofs.Checks.{check_holds, no_checks}
 use Rattle.octets.proofs.Laws.{cleared_pad, take_cleared}
-use Rattle.coding.specs.Coding.{coding_of, data_octets, data_of, data_with, cleared_data}
-use Rattle.coding.proofs.Laws.{data_held, data_at_most, data_limit, data_cleared}
-use Rattle.coding.specs.declared.UserData.{UserData}
+use Rattle.coding.specs.Coding.{coding_of, data_octets, UserData}
+use Rattle.coding.proofs.Laws.{data_at_most, data_limit}
 use Rattle.user_data_header.specs.Header.{in_count}
-use Rattle.time.specs.Time.{is_time, time_octets, time_in, digits_of, cleared_time, TypedTime}
-use Rattle.time.specs.declared.Time.{Time}
-use Rattle.time.proofs.Laws.{time_cleared}
 use Rattle.address.specs.Address.{address_in, canonical_address, cleared_address, text_held, TypedAddress}
 use Rattle.address.specs.Writing.{address_octets, octets_or, address_checks}
 use Rattle.address.specs.declared.SMSAddress.{SMSAddress}
@@ -40,7 +39,7 @@ use Rattle.validity_period.proofs.Period.{digits_count, Held, period_held}
 use Rattle.submit.specs.declared.SmsSubmit.{SmsSubmit}
 use Rattle.submit.specs.declared.writing.SubmitValues.{SubmitValues}
 use Rattle.submit.specs.Layout.{Fields, format_in, bits, fields}
-use Rattle.submit.specs.Submit.{readable, text_with, header_in, submitted, format, submit, first_of, destination_octets, destination_checks, octets_of, submitting, cleared, Typed}
+use Rattle.submit.specs.Submit.{readable, header_in, submitted, format, submit, first_of, destination_octets, destination_checks, octets_of, submitting, cleared, Typed}
 use Rattle.submit.proofs.FieldByField.{kept_whole}
 use Rattle.submit.proofs.CheckByCheck.{digits_counted, last, to_address, to_data, lengths_fit, values_of, by_fields}
 use Rattle.submit.proofs.Text.{readable_short}
@@ -48,15 +47,15 @@ use Rattle.submit.proofs.Text.{readable_short}
 -- ---- what is no part of a record is not written
 
 -- a length that counts
-digits_same : (there : Bool) (t : Time) → length_if there (if there then cleared_time t else time_in []).length ≡ length_if there t.length
+digits_same : (there : Bool) (t : Time) → length_if there (if there then cleared_held t else time_in []).length ≡ length_if there t.length
 digits_same true t = refl
 digits_same false t = refl
 
-address_same : (o : Option SMSAddress) → (let size : SMSAddress → ℕ = λ a. a.address_length in unwrap_or (option_map size (option_map cleared_address o)) 0 ≡ unwrap_or (option_map size o) 0)
+address_same : (o : Option SMSAddress) → (let size : SMSAddress → ℕ = λ a. a.address.length in unwrap_or (option_map size (option_map cleared_address o)) 0 ≡ unwrap_or (option_map size o) 0)
 address_same (Some to) = refl
 address_same None = refl
 
-header_same : (o : Option UserData) → (let size : UserData → ℕ = λ d. d.length in unwrap_or (option_map size (option_map cleared_data o)) 0 ≡ unwrap_or (option_map size o) 0)
+header_same : (o : Option UserData) → (let size : UserData → ℕ = λ d. d.length in unwrap_or (option_map size (option_map cleared_held o)) 0 ≡ unwrap_or (option_map size o) 0)
 header_same (Some header) = refl
 header_same None = refl
 
@@ -64,16 +63,16 @@ header_same None = refl
 destination_same : (o : Option SMSAddress) → IfSome o TypedAddress → (let c = option_map cleared_address o in
     (is_some c ≡ is_some o) × (destination_octets c ≡ destination_octets o) × (destination_checks c ≡ destination_checks o))
 destination_same (Some to) n =
-    let same = take_cleared 290 to.address_length to.address n in
+    let same = take_cleared 290 to.address.length to.address.octets n in
     (refl, ap (λ (text : List ℕ). octets_or [] (address_octets to.ton to.npi text)) same, ap (λ (text : List ℕ). address_checks to.ton to.npi text) same)
 destination_same None n = (refl, refl, refl)
 
 -- the period: its digits are looked at in the absolute format, its octets in the enhanced one
-period_same : (p : ValidityPeriod) (t : Time) (enhanced : List ℕ) → TypedTime t → (let digits = digits_of (if is_absolute p then cleared_time t else time_in []) in
-    (time_holds p digits ≡ time_holds p (digits_of t)) × (period_octets p digits (if eqb (format_of p) 1 then enhanced else pad 7 []) ≡ period_octets p (digits_of t) enhanced))
+period_same : (p : ValidityPeriod) (t : Time) (enhanced : List ℕ) → TypedHeld t → (let digits = filled (if is_absolute p then cleared_held t else time_in []) in
+    (time_holds p digits ≡ time_holds p (filled t)) × (period_octets p digits (if eqb (format_of p) 1 then enhanced else pad 7 []) ≡ period_octets p (filled t) enhanced))
 period_same ValidityPeriod.None t enhanced n = (refl, refl)
 period_same (ValidityPeriod.Relative x) t enhanced n = (refl, refl)
-period_same ValidityPeriod.Absolute t enhanced n = let same = take_cleared 14 t.length t.digits n in (ap is_time same, ap time_octets same)
+period_same ValidityPeriod.Absolute t enhanced n = let same = take_cleared 14 t.length t.octets n in (ap is_time same, ap time_octets same)
 period_same ValidityPeriod.Enhanced t enhanced n = (refl, refl)
 
 module _ (r : SmsSubmit) (typed : Typed r) where
@@ -93,24 +92,24 @@ written_alike r q f g e = sym (of_cleared r f) ∙ ap submitting e ∙ of_cleare
 
 -- ---- a record that was made of fields is cleared
 
-period_cleared : (v : ℕ) (vp : List ℕ) → v < 4 → ((if is_absolute (period_in v vp) then cleared_time (time_in (of_format 3 v vp)) else time_in []) ≡ time_in (of_format 3 v vp))
+period_cleared : (v : ℕ) (vp : List ℕ) → v < 4 → ((if is_absolute (period_in v vp) then cleared_held (time_in (of_format 3 v vp)) else time_in []) ≡ time_in (of_format 3 v vp))
     × ((if eqb (format_of (period_in v vp)) 1 then pad 7 (of_format 1 v vp) else pad 7 []) ≡ pad 7 (of_format 1 v vp))
 unfolding period_in
 period_cleared zero vp l = (refl, refl)
 period_cleared (suc zero) vp l = (refl, refl)
 period_cleared (suc (suc zero)) vp l = (refl, refl)
-period_cleared (suc (suc (suc zero))) vp l = (time_cleared vp, refl)
+period_cleared (suc (suc (suc zero))) vp l = (holding_cleared 14 (time_digits vp), refl)
 period_cleared (suc (suc (suc (suc v)))) vp l = absurd (omega arith)
 
-header_cleared : (udhi : Bool) (header : List ℕ) → option_map cleared_data (then_some udhi (data_with header)) ≡ then_some udhi (data_with header)
-header_cleared true header = ap (λ (d : UserData). Some d) (data_cleared header)
+header_cleared : (udhi : Bool) (header : List ℕ) → option_map cleared_held (then_some udhi (holding 255 header)) ≡ then_some udhi (holding 255 header)
+header_cleared true header = ap (λ (d : UserData). Some d) (holding_cleared 255 header)
 header_cleared false header = refl
 
 pub made_cleared : (x : Fields) → cleared (submitted x) ≡ submitted x
-unfolding submitted text_with
+unfolding submitted holding
 made_cleared x =
     let (digits, enhanced) = period_cleared (format_in x.first) x.vp (omega arith) in
-    rw (address_cleared x.da, digits, enhanced, data_cleared x.ud, header_cleared (is_set 6 x.first) (take (header_in x) x.ud), cleared_pad 510 (readable (coding_of x.dcs) x.udl (header_in x) x.ud))
+    rw (address_cleared x.da, digits, enhanced, holding_cleared 255 x.ud, header_cleared (is_set 6 x.first) (take (header_in x) x.ud), cleared_pad 510 (readable (coding_of x.dcs) x.udl (header_in x) x.ud))
 
 -- ---- a record that was read: its octets, and how its checks fare
 
@@ -136,26 +135,26 @@ module _ (x : Fields) (small : x.first < 256) (mti : message_type x.first ≡ 1)
 
   -- the digits count only in the absolute format
   its_digits : let t = time_in (of_format 3 (format_in x.first) x.vp) in
-      (time_holds (period_in (format_in x.first) x.vp) (digits_of t) ≡ true) × (period_octets (period_in (format_in x.first) x.vp) (digits_of t) (pad 7 (of_format 1 (format_in x.first) x.vp)) ≡ x.vp)
+      (time_holds (period_in (format_in x.first) x.vp) (filled t) ≡ true) × (period_octets (period_in (format_in x.first) x.vp) (filled t) (pad 7 (of_format 1 (format_in x.first) x.vp)) ≡ x.vp)
   its_digits =
       let t = time_in (of_format 3 (format_in x.first) x.vp) in
-      let (holds, octets) = digits_counted (period_in (format_in x.first) x.vp) t.length t.digits (pad 7 (of_format 1 (format_in x.first) x.vp)) in
+      let (holds, octets) = digits_counted (period_in (format_in x.first) x.vp) t.length t.octets (pad 7 (of_format 1 (format_in x.first) x.vp)) in
       (sym holds ∙ held.time, sym octets ∙ held.octets)
 
   its_octets : octets_of sent ≡ string
   unfolding submitted
-  its_octets = rw (its_address, octets_again a wa, first_back x small mti, its_digits.1, data_held x.ud, da)
+  its_octets = rw (its_address, octets_again a wa, first_back x small mti, its_digits.1, filled_holding 255 x.ud, da)
 
   at_most : length x.ud ≤ 255
   at_most = omega (arith, data_at_most (coding_of x.dcs) x.udl)
 
-  header_few : (b : Bool) → unwrap_or (option_map (λ (d : UserData). d.length) (then_some b (data_with (take (header_in x) x.ud)))) 0 ≤ 255
-  unfolding data_with
+  header_few : (b : Bool) → unwrap_or (option_map (λ (d : UserData). d.length) (then_some b (holding 255 (take (header_in x) x.ud)))) 0 ≤ 255
+  unfolding holding
   header_few true = rw length-take (omega (arith, at_most))
   header_few false = omega arith
 
   lengths_fit_lem : lengths_fit sent ≡ true
-  unfolding submitted data_with text_with time_in
+  unfolding submitted holding
   lengths_fit_lem =
       rw (
         its_address,
@@ -177,12 +176,12 @@ module _ (x : Fields) (small : x.first < 256) (mti : message_type x.first ≡ 1)
   text = text_held (address_in x.da)
 
   abbrev digits : List ℕ
-  digits = digits_of sent.validity_period_digits
+  digits = filled sent.validity_period_digits
 
-  its_checks : (xs : List ℕ) → checked (to_data values (address_in x.da).ton (address_in x.da).npi text digits (data_of sent.tp_user_data_raw)) xs ≡ answered xs
+  its_checks : (xs : List ℕ) → checked (to_data values (address_in x.da).ton (address_in x.da).npi text digits (filled sent.tp_user_data_raw)) xs ≡ answered xs
   unfolding submitted
   its_checks xs =
-      rw (data_held x.ud)
+      rw (filled_holding 255 x.ud)
       (data_limit x.dcs x.udl (length x.ud) size (to_address values (address_in x.da).ton (address_in x.da).npi text digits) xs ∙ rw (its_address, read_checked a wa (last values digits) xs, da, check_holds its_digits.0 NotATime [] xs, no_checks))
 
   its_making : submitting sent ≡ answered string

@@ -12,18 +12,19 @@ use Rattle.octets.specs.Lent.{made}
 use Rattle.octets.specs.SemiOctets.{semi_octets, in_pairs}
 use Rattle.octets.specs.Texts.{codes}
 use Rattle.octets.specs.declared.Refusal.TheVariants.{OctetsEnd, WrongMessageType, HeaderNotWhole, HeaderPassesCount}
-use Rattle.coding.specs.Coding.{coding_of, character_set, data_octets, data_with}
+use Rattle.octets.specs.Held.{holding}
+use Rattle.coding.specs.Coding.{coding_of, character_set, data_octets}
 use Rattle.septets.specs.Septets.{number_of, lowest_digits, septets_in}
 use Rattle.gsm7.specs.Alphabet.{index_of, character}
 use Rattle.gsm7.specs.Reading.{utf8, text_of, after_escape}
 use Rattle.user_data_header.specs.Header.{in_count}
-use Rattle.time.specs.Time.{time_digits, time_in}
+use Rattle.time.specs.Time.{time_digits}
 use Rattle.address.specs.Writing.{digit_characters, digit_value, is_digit, address_octets}
 use Rattle.address.specs.Address.{digit_character, without_f, value_text, text_in, address_with, address_in, canonical_address}
 use Rattle.layout.specs.Layout.{kept, first_octet, reached, halted, after, reading, read_from, fields_of, read, canonical_of}
 use Rattle.validity_period.specs.Validity.{period_size, period_in}
 use Rattle.submit.specs.Layout.{Fields, header_size, fields}
-use Rattle.submit.specs.Submit.{readable, text_with, submitted, format, submit, submitting, header_answer}
+use Rattle.submit.specs.Submit.{readable, submitted, format, submit, submitting, header_answer}
 use Rattle.submit.specs.Internal.{making}
 
 -- MR 07, "12" in a field with an F, PID and DCS 0
@@ -58,7 +59,7 @@ known_canonical = refl
 
 -- the record is written as they stand
 known_written : submitting (submitted known_fields) ≡ made known_octets 10
-unfolding submitting making checked first_octet submitted address_in address_with data_with text_with time_in time_digits pad period_in readable text_of after_escape utf8 character septets_in number_of lowest_digits header_size coding_of character_set data_octets codes digit_characters digit_character digit_value is_digit without_f value_text text_in address_octets each index_of semi_octets in_pairs
+unfolding submitting making checked first_octet submitted address_in address_with holding time_digits pad period_in readable text_of after_escape utf8 character septets_in number_of lowest_digits header_size coding_of character_set data_octets codes digit_characters digit_character digit_value is_digit without_f value_text text_in address_octets each index_of semi_octets in_pairs
 known_written = refl
 
 -- what is said of the header in a record's data: 18 and 17 as above, and nothing without UDHI
@@ -67,5 +68,5 @@ known_data first udl ud = record { first = first; mr = 0x07; da = []; pid = 0x00
 
 known_header : (header_answer (submitted (known_data 0x41 0x01 (0x00 ∷ []))) ≡ Err HeaderPassesCount) × (header_answer (submitted (known_data 0x41 0x00 [])) ≡ Err HeaderNotWhole)
     × (header_answer (submitted (known_data 0x01 0x00 [])) ≡ fine)
-unfolding header_answer submitted data_with pad header_size in_count coding_of character_set
+unfolding header_answer submitted holding pad header_size in_count coding_of character_set
 known_header = (refl, refl, refl)

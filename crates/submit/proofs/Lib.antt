@@ -4,3 +4,4 @@ pub mod Text
 pub mod RecordRead
 pub mod Known
 pub mod Demand
+pub mod Blank

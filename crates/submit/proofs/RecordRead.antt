@@ -13,15 +13,14 @@ use lib.ListN.{length, take, drop}
 use Rattle.octets.specs.Answers.{Said}
 use Rattle.octets.specs.Arrays.{pad}
 use Rattle.octets.specs.Each.{Octets}
+use Rattle.octets.specs.Held.{holding}
+use Rattle.octets.proofs.Holding.{filled_holding}
 use Rattle.octets.proofs.Each.{octets_take, octets_drop}
 use Rattle.octets.proofs.Laws.{part_is, part_size}
-use Rattle.coding.specs.Coding.{coding_of, data_octets, data_with}
-use Rattle.coding.specs.declared.UserData.{UserData}
+use Rattle.coding.specs.Coding.{coding_of, data_octets, UserData}
 use Rattle.coding.specs.declared.UserDataCoding.{UserDataCoding}
-use Rattle.coding.proofs.Laws.{data_held}
 use Rattle.gsm7.specs.Reading.{replaced_in, replaced_in_all}
-use Rattle.time.specs.Time.{time_in}
-use Rattle.time.specs.declared.Time.{Time}
+use Rattle.time.specs.Time.{time_in, Time}
 use Rattle.address.specs.Address.{address_in, address_size, septets_read}
 use Rattle.address.specs.declared.SMSAddress.{SMSAddress}
 use Rattle.address.proofs.Laws.{few_replaced}
@@ -36,9 +35,8 @@ use Rattle.submit.specs.Internal.{fields_at, found_says, Inside}
 use Rattle.submit.specs.declared.reading.SubmitFields.{SubmitFields}
 use Rattle.submit.specs.declared.SmsSubmit.{SmsSubmit}
 use Rattle.submit.specs.declared.SubmitRead.{SubmitRead}
-use Rattle.submit.specs.declared.SubmitText.{SubmitText}
+use Rattle.submit.specs.Submit.{SubmitText, readable, data_septets, submitted, format, submit, read_with, texts_read}
 use Rattle.submit.proofs.Text.{data_replaced}
-use Rattle.submit.specs.Submit.{readable, data_septets, text_with, submitted, format, submit, read_with, texts_read}
 
 -- ---- the answer
 
@@ -67,8 +65,8 @@ data_fits s f inside e = let (size, few, header) = data_room s f inside in rw e 
 
 pub message_is : (s : List ℕ) → Octets s → (f : SubmitFields) → Inside s 2 (Ok f) → (let format = format_in f.first in let vp = stretch f.validity f.validity_octets s in let ud = stretch f.«data» f.octets s in
     (a : SMSAddress) → a ≡ address_in (take (address_size (drop f.address s)) (drop f.address s)) → (period : ValidityPeriod) → period ≡ period_in format vp → (t : Time) → t ≡ time_in (of_format 3 format vp)
-    → (enhanced : List ℕ) → enhanced ≡ pad 7 (of_format 1 format vp) → (raw : UserData) → raw ≡ data_with ud → (header : Option UserData) → header ≡ then_some (eqb (f.first / 64 % 2) 1) (data_with (take f.header ud))
-    → (text : SubmitText) → text ≡ text_with (readable (coding_of f.dcs) f.udl f.header ud)
+    → (enhanced : List ℕ) → enhanced ≡ pad 7 (of_format 1 format vp) → (raw : UserData) → raw ≡ holding 255 ud → (header : Option UserData) → header ≡ then_some (eqb (f.first / 64 % 2) 1) (holding 255 (take f.header ud))
+    → (text : SubmitText) → text ≡ holding 510 (readable (coding_of f.dcs) f.udl f.header ud)
     → ◌≡◌ {A = SmsSubmit} (record {
       tp_rp = eqb (f.first / 128 % 2) 1;
       tp_udhi = eqb (f.first / 64 % 2) 1;
@@ -120,7 +118,7 @@ module _ (s : List ℕ) (f : SubmitFields) {k n : ℕ} (k_is : k ≡ replaced_in
   unfolding submitted fields_at replaced_in_all
   replaced_is inside n-is =
       let third = rw inside.9 at k_is in
-      rw (data_held (take f.octets (drop f.«data» s)), ← inside.6, add-zero, ← part_is f.«data» f.octets s, third, n-is)
+      rw (filled_holding 255 (take f.octets (drop f.«data» s)), ← inside.6, add-zero, ← part_is f.«data» f.octets s, third, n-is)
 
 -- the whole answer
 pub read_is : (s : List ℕ) {m q : SmsSubmit} {c : ℕ} (end : ℕ) → m ≡ q → c ≡ replaced_in_all (texts_read s q)

@@ -2,21 +2,21 @@
 use Rattle.std.specs.Prelude.{ℕ, ◌-◌, ◌≡◌, refl, false, List, [], ◌∷◌, ◌++◌, eqb, leb, length, take, drop, if◌then◌else◌, Option, Some, None, is_some, option_map, unwrap_or, IfSome}
 use Rattle.std.specs.Bool.{then_some}
 use Rattle.octets.specs.Answers.{Said}
-use Rattle.octets.specs.Arrays.{pad, cleared_array}
+use Rattle.octets.specs.Arrays.{pad}
+use Rattle.octets.specs.declared.Held.{Held}
 use Rattle.octets.specs.Checks.{Check, ◌unless◌, found, checked, all_fit}
 use Rattle.octets.specs.Choice.{length_if}
 use Rattle.octets.specs.Lent.{Making}
 use Rattle.octets.specs.declared.Refusal.TheVariants.{LengthTooLarge, WrongMessageType, ValidityFormatDisagrees, NoDestination, NotATime, HeaderNotWhole, HeaderPassesCount}
-use Rattle.coding.specs.Coding.{coding_of, data_checks, data_with, data_of, cleared_data, TypedData}
-use Rattle.coding.specs.declared.UserData.{UserData}
+use Rattle.octets.specs.Held.{holding, filled, cleared_held, TypedHeld}
+use Rattle.coding.specs.Coding.{coding_of, data_checks, UserData}
 use Rattle.coding.specs.declared.UserDataCoding.{UserDataCoding}
 use Rattle.coding.specs.declared.UserDataCoding.TheVariants.{Gsm7Bit, EightBit, Ucs2, Compressed}
 use Rattle.septets.specs.Septets.{number_of, lowest_digits, septets_in, header_septets, fill_bits}
 use Rattle.gsm7.specs.Alphabet.{character}
 use Rattle.gsm7.specs.Reading.{utf8, text_of, after_escape, replaced_in_all}
 use Rattle.user_data_header.specs.Header.{in_count}
-use Rattle.time.specs.Time.{time_in, digits_of, cleared_time, capital_time, TypedTime}
-use Rattle.time.specs.declared.Time.{Time}
+use Rattle.time.specs.Time.{time_in, capital_time, Time}
 use Rattle.address.specs.Address.{address_in, septets_read, text_held, cleared_address, TypedAddress}
 use Rattle.address.specs.Writing.{address_octets, octets_or, address_checks}
 use Rattle.address.specs.declared.SMSAddress.{SMSAddress}
@@ -26,7 +26,6 @@ use Rattle.validity_period.specs.declared.ValidityPeriod.{ValidityPeriod}
 use Rattle.submit.specs.Layout.{Fields, format_in, header_size, fields}
 use Rattle.submit.specs.declared.SmsSubmit.{SmsSubmit}
 use Rattle.submit.specs.declared.SubmitRead.{SubmitRead}
-use Rattle.submit.specs.declared.SubmitText.{SubmitText}
 
 -- ---- reading
 
@@ -55,8 +54,9 @@ known_septets : (data_septets Gsm7Bit 2 0 (0x9b ∷ 0x20 ∷ []) ≡ 0x1b ∷ 0x
 unfolding data_septets septets_in number_of lowest_digits
 known_septets = (refl, refl, refl)
 
-unfoldable pub text_with : List ℕ → SubmitText
-text_with xs = record { octets = pad 510 xs; length = length xs }
+-- the readable form in a record
+abbrev pub SubmitText : Type 0
+SubmitText = Held 510
 
 -- the octets of the header
 abbrev pub header_in : Fields → ℕ
@@ -79,9 +79,9 @@ submitted x = record {
   validity_period_digits = time_in (of_format 3 (format_in x.first) x.vp);
   validity_period_octets = pad 7 (of_format 1 (format_in x.first) x.vp);
   tp_user_data_length = x.udl;
-  tp_user_data_raw = data_with x.ud;
-  tp_user_data_header = then_some (is_set 6 x.first) (data_with (take (header_in x) x.ud));
-  tp_user_data = text_with (readable (coding_of x.dcs) x.udl (header_in x) x.ud);
+  tp_user_data_raw = holding 255 x.ud;
+  tp_user_data_header = then_some (is_set 6 x.first) (holding 255 (take (header_in x) x.ud));
+  tp_user_data = holding 510 (readable (coding_of x.dcs) x.udl (header_in x) x.ud);
 }
 
 -- the layout of fields, and the record
@@ -108,15 +108,15 @@ blank = record {
   validity_period_digits = time_in [];
   validity_period_octets = pad 7 [];
   tp_user_data_length = 0;
-  tp_user_data_raw = data_with [];
+  tp_user_data_raw = holding 255 [];
   tp_user_data_header = None;
-  tp_user_data = text_with [];
+  tp_user_data = holding 510 [];
 }
 
 -- what is read as text in a string: the destination address, after first octet and reference, where its type is 5; and in 7-bit coding what follows the header of the user data, which are as the record holds them
 abbrev pub texts_read : List ℕ → SmsSubmit → List (List ℕ)
 texts_read s r =
-    let ud = data_of r.tp_user_data_raw in
+    let ud = filled r.tp_user_data_raw in
     septets_read (cut addressKind (drop 2 s)) ∷ data_septets (coding_of r.tp_dcs) r.tp_user_data_length (header_size r.tp_udhi ud) ud ∷ []
 
 -- what reading a string gives of a record and the place reached: these, and how many escapes were replaced
@@ -131,7 +131,7 @@ nothing_read = record { message = blank; octets_read = 0; replaced_escapes = 0 }
 
 -- the lengths that count: of the destination and the header if they are there, of the digits in the absolute format, of data and text
 abbrev pub address_length : SmsSubmit → ℕ
-address_length r = unwrap_or (option_map (λ (to : SMSAddress). to.address_length) r.tp_destination_address) 0
+address_length r = unwrap_or (option_map (λ (to : SMSAddress). to.address.length) r.tp_destination_address) 0
 
 abbrev pub digits_length : SmsSubmit → ℕ
 digits_length r = length_if (is_absolute r.tp_validity_period) r.validity_period_digits.length
@@ -160,21 +160,21 @@ destination_checks (Some to) = address_checks to.ton to.npi (text_held to)
 abbrev pub octets_of : SmsSubmit → List ℕ
 octets_of r =
     first_of r ∷ r.tp_mr ∷ destination_octets r.tp_destination_address ++ r.tp_pid ∷ r.tp_dcs
-    ∷ period_octets r.tp_validity_period (digits_of r.validity_period_digits) r.validity_period_octets ++ r.tp_user_data_length ∷ data_of r.tp_user_data_raw
+    ∷ period_octets r.tp_validity_period (filled r.validity_period_digits) r.validity_period_octets ++ r.tp_user_data_length ∷ filled r.tp_user_data_raw
 
 -- what the writer makes of a record: refusals 1, 3, 5 and 6, 7 and 8 of the data, 9 to 11 of the address, and 12
 unfoldable pub submitting : SmsSubmit → Making ℕ
 submitting r =
     checked
     ((LengthTooLarge unless all_fit (lengths_of r)) ∷ (WrongMessageType unless eqb r.tp_mti 1) ∷ (ValidityFormatDisagrees unless eqb r.tp_vpf (format_of r.tp_validity_period))
-    ∷ (NoDestination unless is_some r.tp_destination_address) ∷ data_checks r.tp_dcs r.tp_user_data_length (length (data_of r.tp_user_data_raw)) ++ destination_checks r.tp_destination_address
-    ++ (NotATime unless time_holds r.tp_validity_period (digits_of r.validity_period_digits)) ∷ [])
+    ∷ (NoDestination unless is_some r.tp_destination_address) ∷ data_checks r.tp_dcs r.tp_user_data_length (length (filled r.tp_user_data_raw)) ++ destination_checks r.tp_destination_address
+    ++ (NotATime unless time_holds r.tp_validity_period (filled r.validity_period_digits)) ∷ [])
     (octets_of r)
 
 -- what the reader says of the header in the data that a record holds: 17 where it doesn't fit the data, 18 where it doesn't fit the count. The writer doesn't look at it (document 01, demand 2's exception)
 unfoldable pub header_answer : SmsSubmit → Said Unit
 header_answer r =
-    let ud = data_of r.tp_user_data_raw in
+    let ud = filled r.tp_user_data_raw in
     let h = header_size r.tp_udhi ud in
     found ((HeaderNotWhole unless leb h (length ud)) ∷ (HeaderPassesCount unless in_count (coding_of r.tp_dcs) r.tp_user_data_length h) ∷ [])
 
@@ -205,18 +205,15 @@ changed r to digits enhanced raw header text = record {
 -- without header and text
 abbrev pub underived : SmsSubmit → SmsSubmit
 underived r =
-    changed r r.tp_destination_address r.validity_period_digits r.validity_period_octets r.tp_user_data_raw None (text_with [])
-
-abbrev pub cleared_text : SubmitText → SubmitText
-cleared_text t = record { octets = cleared_array 510 t.length t.octets; length = t.length }
+    changed r r.tp_destination_address r.validity_period_digits r.validity_period_octets r.tp_user_data_raw None (holding 510 [])
 
 -- digits that are not in the absolute format, seven octets that are not in the enhanced one, and what lies after a length set to zero: records are equal where these are
 abbrev pub cleared : SmsSubmit → SmsSubmit
 cleared r =
     changed r (option_map cleared_address r.tp_destination_address)
-    (if is_absolute r.tp_validity_period then cleared_time r.validity_period_digits else time_in [])
+    (if is_absolute r.tp_validity_period then cleared_held r.validity_period_digits else time_in [])
     (if eqb (format_of r.tp_validity_period) 1 then r.validity_period_octets else pad 7 [])
-    (cleared_data r.tp_user_data_raw) (option_map cleared_data r.tp_user_data_header) (cleared_text r.tp_user_data)
+    (cleared_held r.tp_user_data_raw) (option_map cleared_held r.tp_user_data_header) (cleared_held r.tp_user_data)
 
 -- what demand 2 compares: not header and text, which are derived from the data
 abbrev pub compared : SmsSubmit → SmsSubmit
@@ -231,5 +228,5 @@ capitalised r =
 -- the arrays have the lengths of their types
 abbrev pub Typed : SmsSubmit → Type 0
 Typed r =
-    IfSome r.tp_destination_address TypedAddress × TypedTime r.validity_period_digits × (length r.validity_period_octets ≡ 7) × TypedData r.tp_user_data_raw × IfSome r.tp_user_data_header TypedData
-    × (length r.tp_user_data.octets ≡ 510)
+    IfSome r.tp_destination_address TypedAddress × TypedHeld r.validity_period_digits × (length r.validity_period_octets ≡ 7) × TypedHeld r.tp_user_data_raw × IfSome r.tp_user_data_header TypedHeld
+    × TypedHeld r.tp_user_data

@@ -5,7 +5,7 @@ pub mod reading;
 pub mod writing;
 
 ghost use Rattle.std.specs.Prelude.{◌≡◌, true, [], ◌++◌, ◌+◌, ◌-◌, ◌≤◌, length, take, drop, Ok, Err};
-ghost use Rattle.octets.specs.Choice.{length_if};
+ghost use Rattle.octets.specs.Checks.{all_fit};
 ghost use Rattle.octets.specs.Lent.{Wrote, lend};
 ghost use Rattle.coding.specs.Coding.{data_octets};
 ghost use Rattle.septets.specs.Septets.{header_septets, fill_bits, septets_in};
@@ -13,28 +13,23 @@ ghost use Rattle.gsm7.specs.Reading.{text_of, replaced_in, replaced_in_all};
 ghost use Rattle.user_data_header.specs.Header.{in_count};
 ghost use Rattle.layout.specs.Layout.{read, answer};
 ghost use Rattle.submit.specs.Internal.{fields_at, Inside};
-ghost use Rattle.submit.specs.Submit.{submit, submitted, blank, read_with, nothing_read, readable, data_septets, text_with, submitting};
+ghost use Rattle.submit.specs.Submit.{submit, submitted, read_with, readable, data_septets, lengths_of, submitting};
 
 use crate::reading::SubmitFields;
 use crate::writing::SubmitValues;
 use address::SMSAddress;
-use address::writing::Number;
 use coding::{UserData, UserDataCoding};
 use gsm7::decode::TextPut;
 use layout::MTI_SUBMIT;
-use octets::Refusal;
+use octets::{Held, Refusal};
 use time::Time;
 use validity_period::{VALIDITY_PERIOD_FORMAT_ABSOLUTE, ValidityPeriod};
 
-// The readable form of user data: octets, and how many there are.
-// An array with its length: there is no heap, and a length past the array is what refusal 1 is of.
-#[derive(Clone, Copy, Debug)]
-pub struct SubmitText {
-    pub octets: [u8; 510],
-    pub length: usize,
-}
+// The readable form of user data.
+pub type SubmitText = Held<510>;
 
-#[derive(Clone, Copy, Debug)]
+// Its default is the blank message.
+#[derive(Clone, Copy, Debug, Default)]
 pub struct SmsSubmit {
     pub tp_rp: bool,
     pub tp_udhi: bool,
@@ -56,63 +51,12 @@ pub struct SmsSubmit {
 }
 
 // What reading gives: the message, the number of octets read, and the number of escapes in its text that led to no character of the extension table.
-#[derive(Clone, Copy, Debug)]
+// No `MessageRead`, since the number of octets stands beside it.
+#[derive(Clone, Copy, Debug, Default)]
 pub struct SubmitRead {
     pub message: SmsSubmit,
     pub octets_read: usize,
     pub replaced_escapes: usize,
-}
-
-// No text.
-impl Default for SubmitText {
-    ghost is_default = { λ t. t ≡ text_with [] };
-
-    fn default() -> SubmitText {
-        SubmitText {
-            octets: [0u8; 510],
-            length: 0,
-        }
-    }
-}
-
-// The blank message.
-impl Default for SmsSubmit {
-    ghost is_default = { λ r. r ≡ blank };
-
-    fn default() -> SmsSubmit {
-        SmsSubmit {
-            tp_rp: false,
-            tp_udhi: false,
-            tp_srr: false,
-            tp_mti: 0,
-            tp_rd: false,
-            tp_vpf: 0,
-            tp_mr: 0,
-            tp_destination_address: None,
-            tp_pid: 0,
-            tp_dcs: 0,
-            tp_validity_period: ValidityPeriod::None,
-            validity_period_digits: time::no_time(),
-            validity_period_octets: [0u8; 7],
-            tp_user_data_length: 0,
-            tp_user_data_raw: coding::no_data(),
-            tp_user_data_header: None,
-            tp_user_data: SubmitText::default(),
-        }
-    }
-}
-
-// The blank message, of no octets: what stands where reading is refused.
-impl Default for SubmitRead {
-    ghost is_default = { λ r. r ≡ nothing_read };
-
-    fn default() -> SubmitRead {
-        SubmitRead {
-            message: SmsSubmit::default(),
-            octets_read: 0,
-            replaced_escapes: 0,
-        }
-    }
 }
 
 // Stores a header of h octets and the text after it.
@@ -124,7 +68,7 @@ fn put_with_header(septets: usize, h: usize, data: &[u8], text: &mut [u8; 510]) 
     let at = octets::put_octets(text, 0, &data[..h]);
     gsm7::decode::unpack_septets(
         &data[h..],
-        in_header * 7 - h * 8,
+        septets::fill_bits(h),
         septets - in_header,
         text,
         at,
@@ -143,6 +87,7 @@ fn put_raw(data: &[u8], text: &mut [u8; 510]) -> TextPut
 }
 
 // Stores the readable form of user data.
+#[tactic(auto, using(coding::proofs::Laws::data_at_most), unfolding(crate::specs::Submit::readable, crate::specs::Submit::data_septets, user_data_header::specs::Header::in_count, gsm7::specs::Reading::replaced_in))]
 fn put_readable(
     coding: UserDataCoding,
     udl: u8,
@@ -155,9 +100,9 @@ fn put_readable(
 {
     match coding {
         UserDataCoding::Gsm7Bit => put_with_header(udl as usize, h, data, text),
-        UserDataCoding::EightBit => put_raw(data, text),
-        UserDataCoding::Ucs2 => put_raw(data, text),
-        UserDataCoding::Compressed => put_raw(data, text),
+        UserDataCoding::EightBit | UserDataCoding::Ucs2 | UserDataCoding::Compressed => {
+            put_raw(data, text)
+        }
     }
 }
 
@@ -198,8 +143,8 @@ fn message(data: &[u8], f: SubmitFields) -> SubmitRead
             validity_period_digits: validity_period::digits_in(format, vp),
             validity_period_octets: validity_period::enhanced_in(format, vp),
             tp_user_data_length: udl,
-            tp_user_data_raw: coding::data_with(ud),
-            tp_user_data_header: (first / 64 % 2 == 1).then_some(coding::data_with(&ud[..h])),
+            tp_user_data_raw: octets::hold(ud),
+            tp_user_data_header: (first / 64 % 2 == 1).then_some(octets::hold(&ud[..h])),
             tp_user_data: SubmitText {
                 octets,
                 length: put.end,
@@ -218,30 +163,31 @@ pub fn decode_sms_submit_tpdu(data: &[u8]) -> Result<SubmitRead, Refusal>
     Ok(message(data, fields))
 }
 
-// A length that counts: that of what is absent doesn't.
-fn length_if(there: bool, length: usize) -> usize
-    ensures { result ≡ length_if there length }
-{
-    if there { length } else { 0 }
-}
-
 impl SmsSubmit {
+    // Whether each length that counts keeps within its array: not that of an absent destination or header, nor that of
+    // digits in another format than the absolute one.
+    fn lengths_fit(&self) -> bool
+        ensures { result ≡ all_fit (lengths_of self.now) }
+    {
+        let destination = self
+            .tp_destination_address
+            .map_or(true, |to| to.address.fits());
+        let absolute = self.tp_validity_period.format() == VALIDITY_PERIOD_FORMAT_ABSOLUTE;
+        let digits = !absolute | self.validity_period_digits.fits();
+        let header = self
+            .tp_user_data_header
+            .map_or(true, |header| header.fits());
+        destination
+            & (digits & (self.tp_user_data_raw.fits() & (header & self.tp_user_data.fits())))
+    }
+
     // Writes the message to the start of a lent output.
     pub fn encode(self, out: &mut [u8]) -> Result<usize, Refusal>
         ensures { (result, out.new) ≡ lend (submitting self) out.old }
     {
         let period = self.tp_validity_period;
         let vpf = self.tp_vpf;
-        let n = self
-            .tp_destination_address
-            .map_or(0, |to| to.address_length);
-        let absolute = period.format() == VALIDITY_PERIOD_FORMAT_ABSOLUTE;
-        let m = length_if(absolute, self.validity_period_digits.length);
-        let k = self.tp_user_data_raw.length;
-        let h = self.tp_user_data_header.map_or(0, |header| header.length);
-        let t = self.tp_user_data.length;
-        let fit = (n <= 290) & ((m <= 14) & ((k <= 255) & ((h <= 255) & (t <= 510))));
-        if !fit {
+        if !self.lengths_fit() {
             return Err(Refusal::LengthTooLarge);
         }
         if self.tp_mti != MTI_SUBMIT {
@@ -269,17 +215,12 @@ impl SmsSubmit {
             period,
             udl: self.tp_user_data_length,
         };
-        let number = Number {
-            ton: to.ton,
-            npi: to.npi,
-            text: &to.address[..to.address_length],
-        };
         writing::encode_fields(
             values,
-            number,
-            &self.validity_period_digits.digits[..m],
+            to.number(),
+            self.validity_period_digits.as_slice(),
             self.validity_period_octets,
-            &self.tp_user_data_raw.octets[..k],
+            self.tp_user_data_raw.as_slice(),
             out,
         )
     }

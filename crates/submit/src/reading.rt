@@ -25,19 +25,15 @@ pub struct SubmitFields {
 }
 
 // The octets that a header takes; none without TP-UDHI.
+#[tactic(auto, unfolding(crate::specs::Layout::header_size))]
 fn header_size(udhi: bool, data: &[u8]) -> usize
     ensures { (result ≡ header_size udhi «data».now) × (result ≤ 256) }
 {
-    if !udhi {
-        return 0;
-    }
-    if data.len() == 0 {
-        return 1;
-    }
-    data[0] as usize + 1
+    octets::length_if(udhi, user_data_header::header_octets(data))
 }
 
 // What follows TP-DCS.
+#[tactic(auto, using(octets::proofs::Places::span_there))]
 fn after_coding(
     data: &[u8],
     first: u8,

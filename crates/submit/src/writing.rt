@@ -22,6 +22,7 @@ pub struct SubmitValues {
 }
 
 // Writes values that were checked, with the address, the digits or octets of the validity period and the user data; how many octets they take.
+#[tactic(auto, using(octets::proofs::Laws::kept_by, address::proofs::Checks::fine_size, validity_period::proofs::Period::period_size_lem))]
 fn put_fields(
     v: SubmitValues,
     number: Number<'_>,
@@ -46,6 +47,7 @@ fn put_fields(
 }
 
 // Writes the values to the start of a lent output: checks in order, then the size, then the octets.
+#[tactic(auto, using(address::proofs::Checks::fine_small))]
 pub fn encode_fields(
     v: SubmitValues,
     number: Number<'_>,

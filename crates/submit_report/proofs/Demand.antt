@@ -13,11 +13,11 @@ use Rattle.octets.specs.Choice.{flag}
 use Rattle.octets.specs.Each.{Octets}
 use Rattle.octets.specs.Lent.{refused}
 use Rattle.octets.specs.declared.Refusal.TheVariants.{NotATime}
+use Rattle.octets.specs.Held.{holding}
+use Rattle.octets.proofs.Holding.{filled_holding, holding_cleared}
 use Rattle.octets.proofs.Laws.{take_cleared}
-use Rattle.coding.specs.Coding.{data_with}
-use Rattle.coding.proofs.Laws.{data_held, data_cleared}
-use Rattle.time.specs.Time.{is_time, time_in, time_digits}
-use Rattle.time.proofs.Laws.{time_held, time_cleared, length_digits, digits_time, octets_back}
+use Rattle.time.specs.Time.{is_time, time_digits}
+use Rattle.time.proofs.Laws.{length_digits, digits_time, octets_back}
 use Rattle.layout.specs.Demand.{Demand3}
 use Rattle.layout.specs.Layout.{Field, joined, Format, done, ◌then◌, reached, read, canonical_of, unwritable}
 use Rattle.layout.proofs.Demand.{Answers, Stopped, stopped_apart}
@@ -40,7 +40,7 @@ use Rattle.submit_report.proofs.RecordWritten.{by_fields}
 of_cleared : (limit : ℕ) (r : SmsSubmitReport) → Typed r → submit_reporting_within limit (cleared r) ≡ submit_reporting_within limit r
 unfolding submit_reporting_within
 of_cleared limit r (t, d) =
-    rw (take_cleared 14 r.tp_service_centre_timestamp.length r.tp_service_centre_timestamp.digits t, take_cleared 255 r.tp_user_data.length r.tp_user_data.octets d)
+    rw (take_cleared 14 r.tp_service_centre_timestamp.length r.tp_service_centre_timestamp.octets t, take_cleared 255 r.tp_user_data.length r.tp_user_data.octets d)
 
 -- equal records are written alike, within a limit and to the standard
 pub written_alike : (limit : ℕ) (r q : SmsSubmitReport) → Typed r → Typed q → cleared r ≡ cleared q → submit_reporting_within limit r ≡ submit_reporting_within limit q
@@ -52,7 +52,7 @@ standard_written_alike r q f g e = written_alike _ r q f g e ∙ ap (λ (o : Sms
 -- a record that was made of fields is cleared
 pub made_cleared : (x : Fields) → cleared (submit_reported x) ≡ submit_reported x
 unfolding submit_reported
-made_cleared x = rw (time_cleared x.scts, data_cleared x.parameters.ud)
+made_cleared x = rw (holding_cleared 14 (time_digits x.scts), holding_cleared 255 x.parameters.ud)
 
 -- ---- a record that was read
 
@@ -71,13 +71,13 @@ flag_small false = omega arith
 module _ (outcome : RpOutcome) (x : Fields) (cs : List Field) (h : made.Stands 1 true outcome x cs) where
   held : written (cleared (submit_reported x)) ≡ octets_of 1 x
   unfolding submit_reported
-  held = ap written (made_cleared x) ∙ rw (flag_told x.udhi, time_held x.scts, octets_back x.scts h.time_octets, data_held x.parameters.ud)
+  held = ap written (made_cleared x) ∙ rw (flag_told x.udhi, filled_holding 14 (time_digits x.scts), octets_back x.scts h.time_octets, filled_holding 255 x.parameters.ud)
 
   making : submit_reporting (submit_reported x) ≡ checked (checks_within 140 true x) (octets_of 1 x)
-  unfolding submit_reported data_with time_in reportMaking
+  unfolding submit_reported holding reportMaking
   making =
       by_fields 140 (submit_reported x) (rw (le-leb (length (time_digits x.scts)) 14 (omega (arith, length_digits x.scts, h.time_size)), le-leb (length x.parameters.ud) 255 h.few)) h.agrees (flag_small x.udhi)
-      ∙ rw (flag_told x.udhi, time_held x.scts, octets_back x.scts h.time_octets, digits_time x.scts h.time_octets (sym h.time_size), data_held x.parameters.ud)
+      ∙ rw (flag_told x.udhi, filled_holding 14 (time_digits x.scts), octets_back x.scts h.time_octets, digits_time x.scts h.time_octets (sym h.time_size), filled_holding 255 x.parameters.ud)
 
 -- ---- demand 3, and what the writer makes of a record that was read, whatever the buffer
 
@@ -95,7 +95,7 @@ abbrev format_of : Format SmsSubmitReport
 format_of = format 1 true RpError then λ x. done (submit_reported x)
 
 no_time : (x : Fields) → 7 ≡ length x.scts → cleared stopped ≡ cleared (submit_reported x) → ⊥
-unfolding submit_reported time_in
+unfolding submit_reported holding
 no_time x w e = omega (arith, ap (λ (q : SmsSubmitReport). q.tp_service_centre_timestamp.length) e, length_digits [], length_digits x.scts)
 
 longer : (x : Fields) (cs : List Field) → 7 ≡ length x.scts → octets_of 1 x ≡ joined cs → stands ≡ joined cs → ⊥
@@ -105,7 +105,7 @@ apart : Makes (λ r cs. (cleared stopped ≡ cleared r → ⊥) × (stands ≡ j
 apart = makes_then (made.Stands 1 true RpError) _ (format 1 true RpError) _ (made.format_makes 1 true RpError) λ x cs h. (no_time x h.time_size, rw append-nil (longer x cs h.time_size h.octets))
 
 stopped_refused : submit_reporting stopped ≡ refused NotATime
-unfolding submit_reporting_within submit_reported time_in time_digits data_with checked indicator_checks is_time
+unfolding submit_reporting_within submit_reported holding time_digits checked indicator_checks is_time
 stopped_refused = refl
 
 beside : Stopped cleared submit_reporting format_of stands stopped true

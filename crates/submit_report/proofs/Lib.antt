@@ -1,3 +1,4 @@
 pub mod RecordWritten
 pub mod Demand
 pub mod Limits
+pub mod Blank

@@ -9,11 +9,21 @@ use lib.Dec.{eqb}
 use Rattle.octets.specs.Checks.{checked, all_fit}
 use Rattle.octets.specs.Lent.{refused}
 use Rattle.octets.specs.declared.Refusal.TheVariants.{LengthTooLarge, OutcomeDisagrees, UdhiTooLarge}
-use Rattle.time.specs.Time.{digits_of}
+use Rattle.octets.specs.Held.{filled}
 use Rattle.parameters.specs.Outcome.{outcome_agrees}
 use Rattle.report.specs.Internal.{making}
-use Rattle.submit_report.specs.SubmitReport.{fields_in, lengths_of, submit_reporting_within}
+use Rattle.report.specs.declared.writing.ReportValues.{ReportValues}
+use Rattle.submit_report.specs.SubmitReport.{lengths_of, submit_reporting_within}
 use Rattle.submit_report.specs.declared.SmsSubmitReport.{SmsSubmitReport}
+
+abbrev pub values_of : SmsSubmitReport → ReportValues
+values_of r = record {
+  mti = 1;
+  udhi = eqb r.tp_udhi 1;
+  cause = r.tp_failure_cause;
+  indicator = r.tp_parameter_indicator;
+  parameters = record { pid = r.tp_pid; dcs = r.tp_dcs; udl = r.tp_user_data_length };
+}
 
 module _ (limit : ℕ) (r : SmsSubmitReport) where
   pub too_long : all_fit (lengths_of r) ≡ false → submit_reporting_within limit r ≡ refused LengthTooLarge
@@ -30,6 +40,6 @@ module _ (limit : ℕ) (r : SmsSubmitReport) where
       unfolding submit_reporting_within checked
       udhi_large h = rw (fit, agrees, lt-leb r.tp_udhi 1 h)
 
-      pub by_fields : r.tp_udhi ≤ 1 → submit_reporting_within limit r ≡ making limit 1 (eqb r.tp_udhi 1) r.tp_failure_cause r.tp_parameter_indicator (Some (digits_of r.tp_service_centre_timestamp)) (fields_in r).parameters
+      pub by_fields : r.tp_udhi ≤ 1 → submit_reporting_within limit r ≡ making limit (values_of r) (Some (filled r.tp_service_centre_timestamp)) (filled r.tp_user_data)
       unfolding submit_reporting_within making checked
       by_fields h = rw (fit, agrees, le-leb r.tp_udhi 1 h)

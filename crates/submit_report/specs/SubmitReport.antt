@@ -5,20 +5,19 @@ use Rattle.octets.specs.Checks.{◌unless◌, found, checked, all_fit}
 use Rattle.octets.specs.Choice.{flag}
 use Rattle.octets.specs.Lent.{Making}
 use Rattle.octets.specs.declared.Refusal.TheVariants.{LengthTooLarge, OctetsEnd, WrongMessageType, UdhiTooLarge, UserDataTooLong, OutcomeDisagrees}
-use Rattle.coding.specs.Coding.{coding_of, character_set, data_octets, data_with, data_of, cleared_data, TypedData}
-use Rattle.coding.specs.declared.UserData.{UserData}
-use Rattle.time.specs.Time.{is_time, time_in, time_octets, digits_of, cleared_time, capital_time, TypedTime}
-use Rattle.time.specs.declared.Time.{Time}
+use Rattle.octets.specs.Held.{holding, filled, cleared_held, TypedHeld}
+use Rattle.coding.specs.Coding.{coding_of, character_set, data_octets, UserData}
+use Rattle.time.specs.Time.{is_time, time_in, time_octets, capital_time, Time}
 use Rattle.gsm7.specs.Reading.{replaced_in_all}
 use Rattle.layout.specs.Layout.{indicator_size, kept, Layout, records, stops, reached, halted, after, reading, read_from, read, fields_of, canonical_of}
+use Rattle.layout.specs.declared.MessageRead.{MessageRead}
 use Rattle.parameters.specs.Checking.{data_within}
 use Rattle.parameters.specs.Layout.{parameters}
 use Rattle.parameters.specs.Outcome.{outcome_agrees}
 use Rattle.parameters.specs.declared.RpOutcome.{RpOutcome}
 use Rattle.parameters.specs.declared.RpOutcome.TheVariants.{RpAck, RpError}
-use Rattle.report.specs.Report.{Fields, format, blank as blankFields, stopped as stoppedFields, layout_of as reportLayout, texts_read, octets_of, checks_within}
+use Rattle.report.specs.Report.{Fields, format, blank as blankFields, stopped as stoppedFields, layout_of as reportLayout, texts_read, octets_of, checks_within, standard_limit as limit_of}
 use Rattle.submit_report.specs.declared.SmsSubmitReport.{SmsSubmitReport}
-use Rattle.submit_report.specs.declared.SubmitReportRead.{SubmitReportRead}
 
 -- ---- reading
 
@@ -32,7 +31,7 @@ submit_reported x = record {
   tp_pid = x.parameters.pid;
   tp_dcs = x.parameters.dcs;
   tp_user_data_length = x.parameters.udl;
-  tp_user_data = data_with x.parameters.ud;
+  tp_user_data = holding 255 x.parameters.ud;
   rp_outcome = x.outcome;
 }
 
@@ -54,7 +53,11 @@ known_reports : (read (layout_of RpError) (0x05 ∷ []) ≡ reached stopped 1) �
 unfolding format read read_from reading after stops canonical_of fields_of parameters kept indicator_size
 known_reports = (refl, refl, refl, refl, refl)
 
--- what a reader gives of a record: it, and how many escapes in its texts were replaced
+-- what a reader gives
+abbrev pub SubmitReportRead : Type 0
+SubmitReportRead = MessageRead SmsSubmitReport
+
+-- of a record: it, and how many escapes in its texts were replaced
 abbrev pub read_with : List ℕ → SmsSubmitReport → ℕ → SubmitReportRead
 read_with s r at = record { message = r; replaced_escapes = replaced_in_all (texts_read s r) }
 
@@ -67,8 +70,8 @@ fields_in r = record {
   udhi = eqb r.tp_udhi 1;
   cause = r.tp_failure_cause;
   indicator = r.tp_parameter_indicator;
-  scts = time_octets (digits_of r.tp_service_centre_timestamp);
-  parameters = record { pid = r.tp_pid; dcs = r.tp_dcs; udl = r.tp_user_data_length; ud = data_of r.tp_user_data };
+  scts = time_octets (filled r.tp_service_centre_timestamp);
+  parameters = record { pid = r.tp_pid; dcs = r.tp_dcs; udl = r.tp_user_data_length; ud = filled r.tp_user_data };
 }
 
 -- its lengths, each with the size of its array
@@ -80,7 +83,7 @@ unfoldable pub submit_reporting_within : ℕ → SmsSubmitReport → Making ℕ
 submit_reporting_within limit r =
     checked
     ((LengthTooLarge unless all_fit (lengths_of r)) ∷ (OutcomeDisagrees unless outcome_agrees r.rp_outcome r.tp_failure_cause) ∷ (UdhiTooLarge unless leb r.tp_udhi 1)
-    ∷ checks_within limit (is_time (digits_of r.tp_service_centre_timestamp)) (fields_in r))
+    ∷ checks_within limit (is_time (filled r.tp_service_centre_timestamp)) (fields_in r))
     (octets_of 1 (fields_in r))
 
 -- the ported writer: within 140
@@ -89,8 +92,7 @@ submit_reporting = submit_reporting_within 140
 
 -- the limits of the standard's two tables (TS 23.040 §9.2.2.2a): 152 in an RP-ACK, 151 in an RP-ERROR, which a cause means
 abbrev pub standard_limit : Option ℕ → ℕ
-standard_limit None = 152
-standard_limit (Some cause) = 151
+standard_limit = limit_of 152 151
 
 -- the writer to the standard: within these
 abbrev pub submit_reporting_to_standard : SmsSubmitReport → Making ℕ
@@ -120,7 +122,7 @@ changed time user_data outcome r = record {
 
 -- what lies after a length set to zero: records are equal where these are
 abbrev pub cleared : SmsSubmitReport → SmsSubmitReport
-cleared r = changed cleared_time cleared_data r.rp_outcome r
+cleared r = changed cleared_held cleared_held r.rp_outcome r
 
 -- two records are equal without their outcomes where they are with another's
 abbrev pub with_outcome : RpOutcome → SmsSubmitReport → SmsSubmitReport
@@ -132,4 +134,4 @@ capitalised r = changed capital_time (λ d. d) r.rp_outcome r
 
 -- the arrays have the lengths of their types
 abbrev pub Typed : SmsSubmitReport → Type 0
-Typed r = TypedTime r.tp_service_centre_timestamp × TypedData r.tp_user_data
+Typed r = TypedHeld r.tp_service_centre_timestamp × TypedHeld r.tp_user_data

@@ -7,12 +7,13 @@ ghost use Rattle.time.specs.Time.{time_in};
 ghost use Rattle.layout.specs.Layout.{read, answer};
 ghost use Rattle.parameters.specs.declared.RpOutcome.TheVariants.{RpAck, RpError};
 ghost use Rattle.report.specs.Internal.{time_at};
-ghost use Rattle.submit_report.specs.SubmitReport.{blank as blankReport, layout_of, read_with, standard_limit, submit_reporting_within, submit_reporting, submit_reporting_to_standard};
+ghost use Rattle.submit_report.specs.SubmitReport.{layout_of, read_with, submit_reporting_within, submit_reporting, submit_reporting_to_standard};
 
 use coding::UserData;
-use layout::MTI_SUBMIT;
+use layout::{MTI_SUBMIT, MessageRead};
 use octets::Refusal;
 use parameters::{ParameterOctets, RpOutcome};
+use report::writing::ReportValues;
 use time::Time;
 
 // The octets of user data in the standard's tables of a report in an RP-ACK and in an RP-ERROR (TS 23.040 §9.2.2.2a).
@@ -23,7 +24,8 @@ const RP_ERROR_USER_DATA_OCTETS: usize = 151;
 // TP-UDHI of a record is a number: 0 or 1.
 const MAX_UDHI: u8 = 1;
 
-#[derive(Clone, Copy, Debug)]
+// The default is the blank record, which holds RP-ACK whatever the entry point.
+#[derive(Clone, Copy, Debug, Default)]
 pub struct SmsSubmitReport {
     pub tp_udhi: u8,
     pub tp_failure_cause: Option<u8>,
@@ -36,41 +38,16 @@ pub struct SmsSubmitReport {
     pub rp_outcome: RpOutcome,
 }
 
-// The blank record holds RP-ACK, whatever the entry point.
-impl Default for SmsSubmitReport {
-    ghost is_default = { λ r. r ≡ blankReport };
-
-    fn default() -> Self {
-        SmsSubmitReport {
-            tp_udhi: 0,
-            tp_failure_cause: None,
-            tp_parameter_indicator: 0,
-            tp_service_centre_timestamp: time::no_time(),
-            tp_pid: None,
-            tp_dcs: None,
-            tp_user_data_length: None,
-            tp_user_data: coding::no_data(),
-            rp_outcome: RpOutcome::RpAck,
-        }
-    }
-}
-
-// What reading gives: the message, and the number of escapes in its text that led to no character of the extension table. The kind has no text: 0.
-#[derive(Clone, Copy, Debug, Default)]
-pub struct SubmitReportRead {
-    pub message: SmsSubmitReport,
-    pub replaced_escapes: usize,
-}
+// What reading gives; the kind has no text, so no escapes were replaced: 0.
+pub type SubmitReportRead = MessageRead<SmsSubmitReport>;
 
 // The time at a place, if there is one.
+#[tactic(auto, unfolding(time::specs::Time::time_digits))]
 fn time_if(data: &[u8], place: Option<usize>) -> Time
     requires { IfSome place (λ at. at + 7 ≤ length «data».now) }
     ensures { result ≡ time_in (time_at «data».now place) }
 {
-    match place {
-        None => time::no_time(),
-        Some(at) => time::time_at(data, at),
-    }
+    place.map_or(Time::default(), |at| time::time_at(data, at))
 }
 
 // The report that a string is, read as one of this outcome.
@@ -78,7 +55,7 @@ fn decode(data: &[u8], rp_outcome: RpOutcome) -> Result<SubmitReportRead, Refusa
     ensures { result ≡ answer (read_with «data».now) (read (layout_of rp_outcome) «data».now) }
 {
     let f = report::reading::fields_of(data, MTI_SUBMIT, true, rp_outcome)?;
-    Ok(SubmitReportRead {
+    Ok(MessageRead {
         message: SmsSubmitReport {
             tp_udhi: octets::flag(f.udhi, 1),
             tp_failure_cause: f.cause,
@@ -87,21 +64,11 @@ fn decode(data: &[u8], rp_outcome: RpOutcome) -> Result<SubmitReportRead, Refusa
             tp_pid: f.parameters.pid,
             tp_dcs: f.parameters.dcs,
             tp_user_data_length: f.parameters.udl,
-            tp_user_data: coding::data_with(&data[f.data..f.data + f.octets]),
+            tp_user_data: octets::hold(&data[f.data..f.data + f.octets]),
             rp_outcome: f.rp_outcome,
         },
         replaced_escapes: 0,
     })
-}
-
-// The standard's limit of user data: a cause held means RP-ERROR.
-fn standard_limit(cause: Option<u8>) -> usize
-    ensures { result ≡ standard_limit cause }
-{
-    match cause {
-        None => RP_ACK_USER_DATA_OCTETS,
-        Some(_) => RP_ERROR_USER_DATA_OCTETS,
-    }
 }
 
 impl SmsSubmitReport {
@@ -124,9 +91,8 @@ impl SmsSubmitReport {
     fn encode_within(self, limit: usize, out: &mut [u8]) -> Result<usize, Refusal>
         ensures { (result, out.new) ≡ lend (submit_reporting_within limit self) out.old }
     {
-        let m = self.tp_service_centre_timestamp.length;
-        let n = self.tp_user_data.length;
-        if !((m <= 14) & (n <= 255)) {
+        let fit = self.tp_service_centre_timestamp.fits() & self.tp_user_data.fits();
+        if !fit {
             return Err(Refusal::LengthTooLarge);
         }
         if !parameters::outcome_agrees(self.rp_outcome, self.tp_failure_cause) {
@@ -135,21 +101,22 @@ impl SmsSubmitReport {
         if self.tp_udhi > MAX_UDHI {
             return Err(Refusal::UdhiTooLarge);
         }
-        let digits = self.tp_service_centre_timestamp.digits;
-        let octets = self.tp_user_data.octets;
-        report::writing::encode_fields(
-            limit,
-            MTI_SUBMIT,
-            self.tp_udhi == 1,
-            self.tp_failure_cause,
-            self.tp_parameter_indicator,
-            Some(&digits[..m]),
-            ParameterOctets {
+        let values = ReportValues {
+            mti: MTI_SUBMIT,
+            udhi: self.tp_udhi == 1,
+            cause: self.tp_failure_cause,
+            indicator: self.tp_parameter_indicator,
+            parameters: ParameterOctets {
                 pid: self.tp_pid,
                 dcs: self.tp_dcs,
                 udl: self.tp_user_data_length,
             },
-            &octets[..n],
+        };
+        report::writing::encode_fields(
+            limit,
+            values,
+            Some(self.tp_service_centre_timestamp.as_slice()),
+            self.tp_user_data.as_slice(),
             out,
         )
     }
@@ -165,6 +132,11 @@ impl SmsSubmitReport {
     pub fn encode_to_standard(self, out: &mut [u8]) -> Result<usize, Refusal>
         ensures { (result, out.new) ≡ lend (submit_reporting_to_standard self) out.old }
     {
-        self.encode_within(standard_limit(self.tp_failure_cause), out)
+        let limit = report::standard_limit(
+            RP_ACK_USER_DATA_OCTETS,
+            RP_ERROR_USER_DATA_OCTETS,
+            self.tp_failure_cause,
+        );
+        self.encode_within(limit, out)
     }
 }

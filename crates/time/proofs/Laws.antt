@@ -15,9 +15,9 @@ use Rattle.octets.specs.Each.{Octets, each}
 use Rattle.octets.proofs.Choice.{and_true, and_means}
 use Rattle.octets.proofs.Each.{each_means}
 use Rattle.octets.specs.Arrays.{pad}
-use Rattle.octets.proofs.Laws.{take_pad, pad_full, cleared_pad}
-use Rattle.time.specs.declared.Time.{Time}
-use Rattle.time.specs.Time.{hex_digit, is_hex, hex_value, capital, capitals, time_digits, time_octets, is_time, time_in, digits_of, cleared_time, capital_time}
+use Rattle.octets.specs.Held.{holding, filled, cleared_held}
+use Rattle.octets.proofs.Laws.{pad_full}
+use Rattle.time.specs.Time.{hex_digit, is_hex, hex_value, capital, capitals, time_digits, time_octets, is_time, Time, time_in, capital_time}
 use Rattle.time.proofs.Hex.{hex_value_lem, hex_digit_lem}
 
 -- a time is fourteen hexadecimal digits
@@ -109,16 +109,6 @@ module _ (i : ℕ) where
   unfolding time_octets
   octets_end ds h = rw (drop_of_length-le ds h)
 
--- the digits of a time that was read
-pub time_held : (os : List ℕ) → digits_of (time_in os) ≡ time_digits os
-unfolding time_in
-time_held os = take_pad 14 (time_digits os)
-
--- and it is cleared
-pub time_cleared : (os : List ℕ) → cleared_time (time_in os) ≡ time_in os
-unfolding time_in
-time_cleared os = rw (cleared_pad 14 (time_digits os))
-
 -- a time that was written, read back: its letters capital
 capitals_zeros : (n : ℕ) → capitals (replicate n 0) ≡ replicate n 0
 unfolding capitals
@@ -139,13 +129,13 @@ capitals_pad : (n : ℕ) (ds : List ℕ) → capitals (pad n ds) ≡ pad n (capi
 unfolding pad
 capitals_pad n ds = capitals_append ds (replicate (n - length ds) 0) ∙ rw (length_capitals ds, capitals_zeros)
 
-pub time_back : (t : Time) → is_time (digits_of t) ≡ true → length (digits_of t) ≡ t.length → time_in (time_octets (digits_of t)) ≡ capital_time (cleared_time t)
-unfolding time_in
+pub time_back : (t : Time) → is_time (filled t) ≡ true → length (filled t) ≡ t.length → time_in (time_octets (filled t)) ≡ capital_time (cleared_held t)
+unfolding holding
 time_back t e n =
-    let size : length (capitals (digits_of t)) ≡ t.length = length_capitals (digits_of t) ∙ n in
-    rw (digits_back (digits_of t) e, size, ← capitals_pad 14 (digits_of t))
+    let size : length (capitals (filled t)) ≡ t.length = length_capitals (filled t) ∙ n in
+    rw (digits_back (filled t) e, size, ← capitals_pad 14 (filled t))
 
 -- seven octets that were read, as the time of a record
-pub time_stored : (os : List ℕ) → length os ≡ 7 → {ds : List ℕ} → ds ≡ time_digits os → ◌≡◌ {A = Time} (record { digits = ds; length = 14 }) (time_in os)
-unfolding time_in
+pub time_stored : (os : List ℕ) → length os ≡ 7 → {ds : List ℕ} → ds ≡ time_digits os → ◌≡◌ {A = Time} (record { octets = ds; length = 14 }) (time_in os)
+unfolding holding
 time_stored os seven e = let n : length (time_digits os) ≡ 14 = length_digits os ∙ rw seven in rw (e, n, pad_full 14 (time_digits os) n)

@@ -1,11 +1,11 @@
 -- Times (TS 23.040 §9.2.3.11): fourteen hexadecimal digits are seven octets, the first digit of each pair in the low half.
-use Rattle.std.specs.Prelude.{ℕ, ◌+◌, ◌-◌, ◌*◌, ◌/◌, ◌%◌, ◌≡◌, refl, Bool, true, false, ◌&&◌, ◌||◌, List, [], ◌∷◌, map, eqb, leb, length, length as size, get_or, take, if◌then◌else◌}
+use Rattle.std.specs.Prelude.{ℕ, ◌+◌, ◌-◌, ◌*◌, ◌/◌, ◌%◌, ◌≡◌, refl, Bool, true, false, ◌&&◌, ◌||◌, List, [], ◌∷◌, map, eqb, leb, length, get_or, if◌then◌else◌}
 use Prim.Native.Char.{code}
-use Rattle.octets.specs.Arrays.{pad, cleared_array}
+use Rattle.octets.specs.Held.{holding}
 use Rattle.octets.specs.Choice.{within}
 use Rattle.octets.specs.Each.{each}
 use Rattle.octets.specs.Texts.{codes}
-use Rattle.time.specs.declared.Time.{Time}
+use Rattle.octets.specs.declared.Held.{Held}
 
 -- ---- hexadecimal digits
 
@@ -59,22 +59,14 @@ known_time = (refl, refl, refl, refl, refl, refl, refl, refl)
 
 -- ---- times in records
 
+-- a time in a record
+abbrev pub Time : Type 0
+Time = Held 14
+
 -- the time that octets are read as
-unfoldable pub time_in : List ℕ → Time
-time_in os = record { digits = pad 14 (time_digits os); length = size (time_digits os) }
-
--- the digits that a record holds
-abbrev pub digits_of : Time → List ℕ
-digits_of t = take t.length t.digits
-
--- what lies after the length is no part of a record: set to zero
-abbrev pub cleared_time : Time → Time
-cleared_time t = record { digits = cleared_array 14 t.length t.digits; length = t.length }
+abbrev pub time_in : List ℕ → Time
+time_in os = holding 14 (time_digits os)
 
 -- its letters capital
 abbrev pub capital_time : Time → Time
-capital_time t = record { digits = capitals t.digits; length = t.length }
-
--- the array has the length of its type
-abbrev pub TypedTime : Time → Type 0
-TypedTime t = size t.digits ≡ 14
+capital_time t = record { octets = capitals t.octets; length = t.length }

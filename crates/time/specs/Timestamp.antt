@@ -2,7 +2,7 @@
 use Rattle.std.specs.Prelude.{ℕ, ◌+◌, ◌/◌, ◌%◌, ◌≡◌, refl, Bool, not, ◌&&◌, List, [], ◌∷◌, ◌++◌, leb, ltb, ℤ, pos, negsuc, nat_abs, if◌then◌else◌, Ok, Err}
 use Rattle.std.specs.Int.Signed.{lt_z}
 use Rattle.octets.specs.Answers.{Said}
-use Rattle.octets.specs.Choice.{within}
+use Rattle.octets.specs.Choice.{within, flag}
 use Rattle.octets.specs.Texts.{codes}
 use Rattle.octets.specs.declared.Refusal.TheVariants.{CalendarOutOfRange, ZoneOutOfRange}
 use Rattle.time.specs.Time.{hex_digit}
@@ -17,7 +17,7 @@ two_digits n = hex_digit (n / 10) ∷ hex_digit (n % 10) ∷ []
 
 -- the sign of a zone, and its digits, in quarter hours: a negative one has 8 added to its tens digit
 abbrev pub zone_sign : ℤ → ℕ
-zone_sign zone = if lt_z zone (pos 0) then 8 else 0
+zone_sign zone = flag (lt_z zone (pos 0)) 8
 
 abbrev pub zone_digits : ℤ → List ℕ
 zone_digits zone = hex_digit (nat_abs zone / 10 + zone_sign zone) ∷ hex_digit (nat_abs zone % 10) ∷ []

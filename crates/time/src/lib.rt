@@ -3,17 +3,14 @@
 
 pub mod timestamp;
 
-ghost use Rattle.std.specs.Prelude.{◌≡◌, true, [], ◌+◌, ◌≤◌, ◌<◌, length, take, drop};
+ghost use Rattle.std.specs.Prelude.{◌≡◌, true, ◌+◌, ◌≤◌, ◌<◌, length, take, drop};
 ghost use Rattle.octets.specs.Lent.{Wrote};
 ghost use Rattle.time.specs.Time.{hex_digit, is_hex, hex_value, time_digits, time_in, time_octets, is_time};
 
-// A time as a record holds it: digits, and how many there are.
-// An array with its length: there is no heap, and a length past the array is what refusal 1 is of.
-#[derive(Clone, Copy, Debug)]
-pub struct Time {
-    pub digits: [u8; 14],
-    pub length: usize,
-}
+use octets::Held;
+
+// A time as a record holds it: digits.
+pub type Time = Held<14>;
 
 // The capital hexadecimal digit of a value below 16; the letters stand 7 characters after the figures.
 pub fn hex_digit(value: u8) -> u8
@@ -50,10 +47,10 @@ pub fn encode_time(digits: &[u8], out: &mut [u8], at: usize) -> usize
     requires { (is_time digits.now ≡ true) × (at + 7 ≤ length out.old) }
     ensures { Wrote at (time_octets digits.now) out.old result out.new }
 {
-    for i in 0..7 {
-        let first = hex_value(digits[2 * i]);
-        let second = hex_value(digits[2 * i + 1]);
-        out[at + i] = first + 16 * second;
+    let (pairs, _) = digits.as_chunks::<2>();
+    // By place: octets from `at` on and pairs of digits, zipped, would name the same seven places twice.
+    for (i, &[first, second]) in pairs.iter().enumerate() {
+        out[at + i] = hex_value(first) + 16 * hex_value(second);
     }
     at + 7
 }
@@ -64,8 +61,8 @@ pub fn decode_time(data: &[u8], at: usize) -> [u8; 14]
     ensures { result ≡ time_digits (take 7 (drop at «data».now)) }
 {
     let mut digits = [0u8; 14];
-    for i in 0..7 {
-        let octet = data[at + i];
+    // By place: an octet gives two digits; chunks would leave the same two writes.
+    for (i, octet) in data[at..at + 7].iter().enumerate() {
         digits[2 * i] = hex_digit(octet % 16);
         digits[2 * i + 1] = hex_digit(octet / 16);
     }
@@ -78,17 +75,7 @@ pub fn time_at(data: &[u8], at: usize) -> Time
     ensures { result ≡ time_in (take 7 (drop at «data».now)) }
 {
     Time {
-        digits: decode_time(data, at),
+        octets: decode_time(data, at),
         length: 14,
-    }
-}
-
-// No time.
-pub fn no_time() -> Time
-    ensures { result ≡ time_in [] }
-{
-    Time {
-        digits: [0u8; 14],
-        length: 0,
     }
 }

@@ -36,7 +36,7 @@ const NEGATIVE: u8 = 8;
 fn zone_sign(zone: i8) -> u8
     ensures { (result ≡ zone_sign zone) × (result ≤ 8) }
 {
-    if zone < 0 { NEGATIVE } else { 0 }
+    octets::flag(zone < 0, NEGATIVE)
 }
 
 // The octet whose digits are the two decimal digits of a value.

@@ -18,9 +18,9 @@ pub use deliver_report::{DeliverReportRead, SmsDeliverReport};
 pub use gsm7::decode::{Unpacked, unpack_gsm7};
 pub use gsm7::packing::{Packed, pack_gsm7};
 pub use header_elements::{HeaderElements, read_header_elements};
-pub use octets::Refusal;
+pub use octets::{Held, Refusal};
 pub use parameters::RpOutcome;
-pub use part_number::Reference;
+pub use part_number::{PartNumber, Reference};
 pub use reassembly::{
     MESSAGE_OCTETS, MessageDropped, MessageTaken, PartAccepted, STORE_OCTETS, accept_part,
     drop_message, empty_store, take_message,

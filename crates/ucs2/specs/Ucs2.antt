@@ -18,6 +18,10 @@ characters_in [] = []
 characters_in (high ∷ []) = []
 characters_in (high ∷ low ∷ rest) = (high * 256 + low) ∷ characters_in rest
 
+-- a character's two octets
+abbrev pub pair : ℕ → List ℕ
+pair c = c / 256 ∷ c % 256 ∷ []
+
 -- the UCS2 of characters
 unfoldable pub ucs2_of : List ℕ → List ℕ
 ucs2_of [] = []

@@ -4,18 +4,19 @@ use Rattle.std.specs.Prelude.{Ok, Err}
 use Prim.Native.Nat.{ℕ, ◌-◌, ◌*◌, ◌<◌, ◌≤◌}
 use mathlib.Core.Path.{◌≡◌}
 use mathlib.Core.List.{List}
-use native.Mathlib.Nat.{le_refl, zero-add}
+use native.Mathlib.Nat.{le_refl}
 use borrow.Author.Tests.{lt-ltb, le-ltb, eq-eqb, ne_eqb}
 use lib.ListN.{length, take, drop, replicate, length-drop}
-use lib.Seq.{take_all, length-take-le}
-use Rattle.octets.specs.Arrays.{pad}
+use lib.Seq.{take_all}
+use Rattle.octets.specs.Held.{holding}
+use Rattle.octets.specs.declared.Held.{Held}
+use Rattle.octets.proofs.Holding.{stored}
 use Rattle.octets.specs.Lent.{refused, Wrote}
 use Rattle.octets.specs.declared.Refusal.TheVariants.{LengthTooLarge, HeaderNotWhole, HeaderPassesCount, TooFewOctets}
 use Rattle.septets.specs.Septets.{septets_in, octet_count, header_septets}
 use Rattle.gsm7.specs.Reading.{text_of, replaced_in}
 use Rattle.gsm7.specs.Packing.{packing}
 use Rattle.gsm7.proofs.DecodingLaws.{text_fits}
-use Rattle.octets.proofs.Laws.{sets_zeros}
 use Rattle.user_data_header.specs.declared.UnpackedWithHeader.{UnpackedWithHeader}
 use Rattle.user_data_header.specs.Header.{header_octets, header_given, unpacked_with_header, packing_with_header}
 
@@ -54,11 +55,11 @@ module _ (header text : List ℕ) where
   packing_good h = rw (eq-eqb _ _ h)
 
 -- a header of h octets, and the text of what runs from there to the end, in their arrays
-pub both_stored : (os : List ℕ) (h fill septets : ℕ) → h ≤ length os → septets ≤ 255 → {n m : ℕ} {header array : List ℕ} → header ≡ pad 255 (take h os)
+pub both_stored : (os : List ℕ) (h fill septets : ℕ) → h ≤ length os → septets ≤ 255 → {n m : ℕ} {header : Held 255} {array : List ℕ} → header ≡ holding 255 (take h os)
     → (let ss = septets_in (take (length os - h) (drop h os)) fill septets in Wrote 0 (text_of ss) (replicate 510 0) n array × (m ≡ replaced_in ss))
-    → (let ss = septets_in (drop h os) fill septets in ◌≡◌ {A = UnpackedWithHeader} (record { header = header; header_length = h; text = array; text_length = n; replaced_escapes = m }) (header_given (take h os) (text_of ss) (replaced_in ss)))
+    → (let ss = septets_in (drop h os) fill septets in ◌≡◌ {A = UnpackedWithHeader} (record { header = header; text = record { octets = array; length = n }; replaced_escapes = m }) (header_given (take h os) (text_of ss) (replaced_in ss)))
 unfolding header_given
 both_stored os h fill septets whole few e w =
     let text = text_of (septets_in (drop h os) fill septets) in
     let to_end : take (length os - h) (drop h os) ≡ drop h os = take_all (length os - h) (drop h os) (rw length-drop (le_refl _)) in
-    rw (e, length-take-le h os whole, w.0.place, w.0.list, w.1, to_end, zero-add, sets_zeros 510 text (text_fits (drop h os) fill septets few))
+    rw (e, ← to_end, stored 510 _ (rw to_end (text_fits (drop h os) fill septets few)) w.0, w.1)

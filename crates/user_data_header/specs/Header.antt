@@ -1,7 +1,7 @@
 -- Text after a user data header (TS 23.040 §9.2.3.24), in 7-bit coding.
 use Rattle.std.specs.Prelude.{ℕ, ◌+◌, ◌-◌, ◌≡◌, refl, Bool, true, List, [], ◌∷◌, length, get_or, take, drop, eqb, leb, ltb, if◌then◌else◌, Ok, Err}
 use Rattle.octets.specs.Answers.{Said}
-use Rattle.octets.specs.Arrays.{pad}
+use Rattle.octets.specs.Held.{holding}
 use Rattle.octets.specs.Lent.{Making, refused}
 use Rattle.octets.specs.declared.Refusal.TheVariants.{LengthTooLarge, HeaderNotWhole, HeaderPassesCount, TooFewOctets}
 use Rattle.coding.specs.declared.UserDataCoding.{UserDataCoding}
@@ -27,10 +27,8 @@ in_count Compressed udl h = true
 -- a header and a text in their arrays, with n escapes replaced
 unfoldable pub header_given : List ℕ → List ℕ → ℕ → UnpackedWithHeader
 header_given header text n = record {
-  header = pad 255 header;
-  header_length = length header;
-  text = pad 510 text;
-  text_length = length text;
+  header = holding 255 header;
+  text = holding 510 text;
   replaced_escapes = n;
 }
 

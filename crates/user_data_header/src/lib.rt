@@ -1,7 +1,7 @@
 // Text after a user data header, in 7-bit coding (TS 23.040 §9.2.3.24).
 #![tactic(auto)]
 
-ghost use Rattle.std.specs.Prelude.{◌≡◌, ◌≤◌, ◌<◌, length, take, drop};
+ghost use Rattle.std.specs.Prelude.{◌≡◌, ◌≤◌, ◌<◌, ◌↔◌, IsSome, IfSome, length, get_or, take, drop};
 ghost use Rattle.octets.specs.Lent.{lend};
 ghost use Rattle.septets.specs.Septets.{septets_in};
 ghost use Rattle.gsm7.specs.Reading.{text_of, replaced_in};
@@ -9,16 +9,13 @@ ghost use Rattle.user_data_header.specs.Header.{header_octets, in_count, header_
 
 use coding::UserDataCoding;
 use gsm7::packing::Packed;
-use octets::Refusal;
+use octets::{Held, Refusal};
 
 // A header, its length octet included, and the text after it, with the number of escapes in it that led to no character of the extension table.
-// Arrays with their lengths: there is no heap.
 #[derive(Clone, Copy, Debug)]
 pub struct UnpackedWithHeader {
-    pub header: [u8; 255],
-    pub header_length: usize,
-    pub text: [u8; 510],
-    pub text_length: usize,
+    pub header: Held<255>,
+    pub text: Held<510>,
     pub replaced_escapes: usize,
 }
 
@@ -29,16 +26,23 @@ pub fn header_octets(data: &[u8]) -> usize
     septets::octet_or_zero(data, 0) as usize + 1
 }
 
+// The octets of a header after its first; none where the header is not there whole.
+pub fn header_body(data: &[u8]) -> Option<&[u8]>
+    ensures whole { IsSome result ↔ (header_octets «data».now ≤ length «data».now) }
+    ensures body { IfSome result (λ b. (b.now ≡ take (get_or «data».now 0 0) (drop 1 «data».now)) × (length b.now ≤ 255)) }
+{
+    data.get(1..header_octets(data))
+}
+
 // In 7-bit coding a header of `h` octets takes septets of the count.
+#[tactic(auto, unfolding(crate::specs::Header::in_count))]
 pub fn in_count(coding: UserDataCoding, udl: u8, h: usize) -> bool
     requires { h ≤ 256 }
     ensures { result ≡ in_count coding udl h }
 {
     match coding {
         UserDataCoding::Gsm7Bit => septets::header_septets(h) <= udl as usize,
-        UserDataCoding::EightBit => true,
-        UserDataCoding::Ucs2 => true,
-        UserDataCoding::Compressed => true,
+        UserDataCoding::EightBit | UserDataCoding::Ucs2 | UserDataCoding::Compressed => true,
     }
 }
 
@@ -50,10 +54,11 @@ fn header_and_text(data: &[u8], h: usize, fill: usize, septets: usize) -> Unpack
     let mut text = [0u8; 510];
     let put = gsm7::decode::unpack_septets(&data[h..], fill, septets, &mut text, 0);
     UnpackedWithHeader {
-        header: octets::stored_octets(&data[..h]),
-        header_length: h,
-        text,
-        text_length: put.end,
+        header: octets::hold(&data[..h]),
+        text: Held {
+            octets: text,
+            length: put.end,
+        },
         replaced_escapes: put.replaced,
     }
 }
@@ -73,9 +78,9 @@ pub fn unpack_gsm7_with_header(data: &[u8], septets: usize) -> Result<UnpackedWi
     if septets < in_header {
         return Err(Refusal::HeaderPassesCount);
     }
-    let fill = in_header * 7 - h * 8;
+    let fill = septets::fill_bits(h);
     let in_text = septets - in_header;
-    if data.len() - h < (fill + in_text * 7 + 7) / 8 {
+    if data.len() - h < septets::octet_count(fill, in_text) {
         return Err(Refusal::TooFewOctets);
     }
     Ok(header_and_text(data, h, fill, in_text))

@@ -1,20 +1,25 @@
 -- Characters by their size, and of units by their ranges.
 -- Assumes nothing.
-use Prim.Native.Nat.{ℕ, ◌+◌, ◌-◌, ◌*◌, ◌/◌, ◌%◌, ◌<◌, ◌≤◌}
-use mathlib.Core.Path.{◌≡◌}
-use mathlib.Core.List.{[], ◌∷◌}
+use Prim.Native.Nat.{ℕ, ◌+◌, ◌-◌, ◌*◌, ◌<◌, ◌≤◌}
+use mathlib.Core.Path.{◌≡◌, refl}
+use mathlib.Core.Bool.{Bool, true, false}
 use native.Mathlib.Omega.{arith}
-use borrow.Author.Tests.{lt-ltb, le-ltb, lt-leb, le-leb}
+use borrow.Author.Tests.{lt-ltb, le-ltb, lt-leb, le-leb, ltb-true}
+use lib.Dec.{ltb}
+use Rattle.std.specs.Char.{encode_utf8}
 use Rattle.gsm7.specs.Reading.{utf8 as utf8OfUnit}
 use Rattle.utf16.specs.Characters.{utf8, character_of, sized, replacement}
 
-pub utf8_unit : (c : ℕ) → c < 0x10000 → utf8 c ≡ utf8OfUnit c
-unfolding utf8
-utf8_unit c h = rw (lt-ltb c 0x10000 h)
-
-pub utf8_four : (c : ℕ) → 0x10000 ≤ c → utf8 c ≡ (240 + c / 262144) ∷ (128 + c / 4096 % 64) ∷ (128 + c / 64 % 64) ∷ (128 + c % 64) ∷ []
-unfolding utf8
-utf8_four c h = rw (le-ltb c 0x10000 h)
+-- the library's UTF-8 is that of the definition
+pub library_utf8 : (c : ℕ) → encode_utf8 c ≡ utf8 c
+unfolding encode_utf8 utf8 utf8OfUnit
+library_utf8 c = by (ltb c 0x80) (ltb c 0x800) (ltb c 0x10000) refl refl refl
+  where
+    by : (a b d : Bool) → ltb c 0x80 ≡ a → ltb c 0x800 ≡ b → ltb c 0x10000 ≡ d → encode_utf8 c ≡ utf8 c
+    by true b d e f g = let h = ltb-true c 0x80 e in rw (e, lt-ltb c 0x10000 (omega (arith, h))) refl
+    by false true d e f g = let h = ltb-true c 0x800 f in rw (e, f, lt-ltb c 0x10000 (omega (arith, h))) refl
+    by false false true e f g = rw (e, f, g) refl
+    by false false false e f g = rw (e, f, g) refl
 
 module _ (high low : ℕ) where
   pub below_surrogates : high < 0xd800 → character_of high low ≡ sized high 2

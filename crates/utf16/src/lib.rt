@@ -5,59 +5,19 @@ ghost use Rattle.std.specs.Prelude.{◌≡◌, ◌+◌, ◌*◌, ◌<◌, ◌≤
 ghost use Rattle.utf16.specs.Characters.{utf8 as utf8_of, character_of, first_character, replacement as theReplacement};
 
 use output::Output;
-use text_fields::slices::first;
 
 // A character, and how many octets it took.
-#[derive(Clone, Copy)]
+#[derive(Clone, Copy, Debug, PartialEq, Eq)]
 pub struct Character {
-    pub code: u32,
+    pub code: char,
     pub size: usize,
 }
 
-// The octets of a character, and how many they are.
-#[derive(Clone, Copy)]
-pub struct Utf8Octets {
-    pub octets: [u8; 4],
-    pub length: usize,
-}
-
 // The UTF-8 of a character.
-fn utf8(c: u32) -> Utf8Octets
-    requires { c < 0x110000 }
-    ensures { take result.length result.octets ≡ utf8_of c }
+fn utf8(c: char, octets: &mut [u8; 4]) -> &[u8]
+    ensures { result.now ≡ utf8_of c }
 {
-    if c < 0x80 {
-        return Utf8Octets {
-            octets: [c as u8, 0, 0, 0],
-            length: 1,
-        };
-    }
-    if c < 0x800 {
-        return Utf8Octets {
-            octets: [(192 + c / 64) as u8, (128 + c % 64) as u8, 0, 0],
-            length: 2,
-        };
-    }
-    if c < 0x10000 {
-        return Utf8Octets {
-            octets: [
-                (224 + c / 4096) as u8,
-                (128 + c / 64 % 64) as u8,
-                (128 + c % 64) as u8,
-                0,
-            ],
-            length: 3,
-        };
-    }
-    Utf8Octets {
-        octets: [
-            (240 + c / 262144) as u8,
-            (128 + c / 4096 % 64) as u8,
-            (128 + c / 64 % 64) as u8,
-            (128 + c % 64) as u8,
-        ],
-        length: 4,
-    }
+    c.encode_utf8(octets).as_bytes()
 }
 
 // What stands for a lone surrogate and for a lone octet: U+FFFD.
@@ -65,7 +25,7 @@ fn replacement() -> Character
     ensures { result ≡ theReplacement }
 {
     Character {
-        code: 0xFFFD,
+        code: char::REPLACEMENT_CHARACTER,
         size: 2,
     }
 }
@@ -75,29 +35,15 @@ fn character_of(high: u32, low: u32) -> Character
     requires { (high < 65536) × (low < 65536) }
     ensures { (result ≡ character_of high low) × (result.code < 0x110000) × (1 ≤ result.size) × (result.size ≤ 4) }
 {
-    if high < 0xD800 {
-        return Character {
-            code: high,
-            size: 2,
-        };
+    if let Some(code) = char::from_u32(high) {
+        return Character { code, size: 2 };
     }
-    if 0xDFFF < high {
-        return Character {
-            code: high,
-            size: 2,
-        };
-    }
-    if 0xDC00 <= high {
+    if 0xDC00 <= high || low < 0xDC00 || 0xDFFF < low {
         return replacement();
     }
-    if low < 0xDC00 {
-        return replacement();
-    }
-    if 0xDFFF < low {
-        return replacement();
-    }
+    let pair = 0x10000 + (high - 0xD800) * 0x400 + (low - 0xDC00);
     Character {
-        code: 0x10000 + (high - 0xD800) * 0x400 + (low - 0xDC00),
+        code: char::from_u32(pair).unwrap(),
         size: 4,
     }
 }
@@ -106,7 +52,7 @@ fn character_of(high: u32, low: u32) -> Character
 fn unit(high: u8, low: u8) -> u32
     ensures { (result ≡ high * 256 + low) × (result < 65536) }
 {
-    high as u32 * 256 + low as u32
+    u32::from(u16::from_be_bytes([high, low]))
 }
 
 // The first character of octets in UTF-16.
@@ -125,27 +71,36 @@ fn first_character(octets: &[u8]) -> Character
 
 // ---- text in the output
 
-// The letter after the backslash of an octet that is spelled out; 0 for one that stands for itself.
-fn escape_letter(octet: u8) -> u8 {
+// How an octet of a text is written.
+#[derive(Clone, Copy, Debug, PartialEq, Eq)]
+enum Spelling {
+    Plain,
+    // after a backslash, a letter
+    Letter(u8),
+    // after a backslash and x, two digits
+    Digits,
+}
+
+fn spelled(octet: u8) -> Spelling {
     match octet {
-        b'\n' => b'n',
-        b'\r' => b'r',
-        0x0C => b'f',
-        b'\\' => b'\\',
-        0..=0x1F | 0x7F => b'x',
-        _ => 0,
+        b'\n' => Spelling::Letter(b'n'),
+        b'\r' => Spelling::Letter(b'r'),
+        0x0C => Spelling::Letter(b'f'),
+        b'\\' => Spelling::Letter(b'\\'),
+        0..=0x1F | 0x7F => Spelling::Digits,
+        _ => Spelling::Plain,
     }
 }
 
 // An octet of a text, spelled out if it must be.
 fn put_escaped(out: &mut Output, octet: u8) {
-    match escape_letter(octet) {
-        0 => out.put(&[octet]),
-        b'x' => {
+    match spelled(octet) {
+        Spelling::Plain => out.put(&[octet]),
+        Spelling::Letter(letter) => out.put(&[b'\\', letter]),
+        Spelling::Digits => {
             out.put(b"\\x");
             out.put_hex_octet(octet);
         }
-        letter => out.put(&[b'\\', letter]),
     }
 }
 
@@ -156,21 +111,13 @@ pub fn put_utf8(out: &mut Output, text: &[u8]) {
     }
 }
 
-fn put_character(out: &mut Output, c: u32)
-    requires { c < 0x110000 }
-{
-    let made = utf8(c);
-    let octets = made.octets;
-    put_utf8(out, first(&octets, made.length));
-}
-
 // A text given as UTF-16, high octets first.
 pub fn put_utf16(out: &mut Output, octets: &[u8]) {
     let mut i = 0;
     // A `while`: a character is two octets or four, which it says itself.
     while i < octets.len() {
         let c = first_character(&octets[i..]);
-        put_character(out, c.code);
+        put_utf8(out, utf8(c.code, &mut [0; 4]));
         i += c.size;
     }
 }

@@ -15,6 +15,7 @@ use Rattle.time.specs.Time.{time_in, time_digits}
 use Rattle.time.proofs.Laws.{length_octets, length_digits, time_means, octets_back, digits_time}
 use Rattle.validity_period.specs.declared.ValidityPeriod.{ValidityPeriod}
 use Rattle.octets.specs.Choice.{length_if}
+use Rattle.octets.specs.Held.{holding}
 use Rattle.validity_period.specs.Validity.{format_of, period_size, period_in, of_format, period_octets, is_absolute, time_holds}
 
 -- the number of octets that it is written as
@@ -32,7 +33,7 @@ abbrev pub digits_count : ℕ → List ℕ → ℕ
 digits_count v vp = length_if (is_absolute (period_in v vp)) (time_in (of_format 3 v vp)).length
 
 abbrev pub digits_beside : ℕ → List ℕ → List ℕ
-digits_beside v vp = take (digits_count v vp) (time_in (of_format 3 v vp)).digits
+digits_beside v vp = take (digits_count v vp) (time_in (of_format 3 v vp)).octets
 
 -- the seven octets beside it that count
 abbrev pub enhanced_beside : ℕ → List ℕ → List ℕ
@@ -46,7 +47,7 @@ pub record Held (v : ℕ) (vp : List ℕ) : Type 0 where
   pub counted : period_octets (period_in v vp) (digits_beside v vp) (enhanced_beside v vp) ≡ vp
 
 pub period_held : (v : ℕ) (vp : List ℕ) → v < 4 → period_size v ≡ length vp → Octets vp → Held v vp
-unfolding period_size period_in time_in
+unfolding period_size period_in holding
 period_held zero [] l n o = record { format = refl; time = refl; few = omega arith; octets = refl; counted = refl }
 period_held zero (x ∷ vp) l n o = absurd (omega arith)
 period_held (suc zero) vp l n o =

@@ -20,8 +20,9 @@ pub const VALIDITY_PERIOD_FORMAT_RELATIVE: u8 = 2;
 pub const VALIDITY_PERIOD_FORMAT_ABSOLUTE: u8 = 3;
 
 // TP-Validity-Period (§9.2.3.12). The digits of an absolute one and the seven octets of an enhanced one stand beside it.
-#[derive(Clone, Copy, Debug, PartialEq, Eq)]
+#[derive(Clone, Copy, Debug, Default, PartialEq, Eq)]
 pub enum ValidityPeriod {
+    #[default]
     None,
     Relative(u8),
     Absolute,
@@ -72,7 +73,7 @@ pub fn digits_in(format: u8, octets: &[u8]) -> Time
     ensures { result ≡ time_in (of_format 3 format octets.now) }
 {
     if format != VALIDITY_PERIOD_FORMAT_ABSOLUTE {
-        return time::no_time();
+        return Time::default();
     }
     time::time_at(octets, 0)
 }
@@ -94,10 +95,8 @@ pub fn check_period(period: ValidityPeriod, digits: &[u8]) -> bool
     ensures { result ≡ time_holds period digits.now }
 {
     match period {
-        ValidityPeriod::None => true,
-        ValidityPeriod::Relative(_) => true,
         ValidityPeriod::Absolute => time::is_time(digits),
-        ValidityPeriod::Enhanced => true,
+        ValidityPeriod::None | ValidityPeriod::Relative(_) | ValidityPeriod::Enhanced => true,
     }
 }
 

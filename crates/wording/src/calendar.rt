@@ -3,6 +3,7 @@ ghost use Rattle.std.specs.Prelude.{◌<◌, IfSome};
 
 use output::Output;
 use output::hexadecimal::digit_value;
+use std::fmt::Write;
 
 // The value of a decimal digit.
 fn decimal_digit(c: u8) -> Option<u8>
@@ -22,17 +23,15 @@ fn number(tens: u8, ones: u8) -> Option<u8> {
 // ---- times: fourteen digits, YYMMDDhhmmssZZ
 
 // The sign of a zone: 8 is added to the first digit of a negative one (TS 23.040 §9.2.3.11).
-fn zone_sign(tens: u8) -> u8 {
+fn zone_sign(tens: u8) -> char {
     match tens {
-        b'0'..=b'7' => b'+',
-        _ => b'-',
+        b'0'..=b'7' => '+',
+        _ => '-',
     }
 }
 
 // The quarters of an hour of a zone, without its sign.
-fn zone_quarters(tens: u8, ones: u8) -> Option<u8>
-    ensures { IfSome result (λ q. q < 80) }
-{
+fn zone_quarters(tens: u8, ones: u8) -> Option<u8> {
     Some(digit_value(tens)? % 8 * 10 + decimal_digit(ones)?)
 }
 
@@ -59,20 +58,10 @@ fn put_date_and_time(out: &mut Output, digits: &[u8; 14]) {
 }
 
 // A zone: ` +01:00`.
-fn put_zone(out: &mut Output, sign: u8, quarters: u8)
-    requires { quarters < 80 }
-{
+fn put_zone(out: &mut Output, sign: char, quarters: u8) {
     let hours = quarters / 4;
     let minutes = quarters % 4 * 15;
-    out.put(&[
-        b' ',
-        sign,
-        b'0' + hours / 10,
-        b'0' + hours % 10,
-        b':',
-        b'0' + minutes / 10,
-        b'0' + minutes % 10,
-    ]);
+    let _ = write!(out, " {sign}{hours:02}:{minutes:02}");
 }
 
 // A time as `2024-02-15 12:30:45 +00:00`, or its digits as they are.
@@ -93,12 +82,8 @@ pub fn put_calendar_time(out: &mut Output, digits: [u8; 14]) {
 
 // A number of units: `1 hour`, `2 days`.
 fn put_count(out: &mut Output, n: u64, unit: &str) {
-    out.put_decimal(n);
-    out.put(b" ");
-    out.put_text(unit);
-    if n != 1 {
-        out.put(b"s");
-    }
+    let ending = if n == 1 { "" } else { "s" };
+    let _ = write!(out, "{n} {unit}{ending}");
 }
 
 // Minutes as hours and minutes.
@@ -126,9 +111,7 @@ fn put_period_length(out: &mut Output, v: u8) {
 
 // A relative validity period: `relative 170 (4 days)`.
 pub fn put_relative(out: &mut Output, v: u8) {
-    out.put(b"relative ");
-    out.put_decimal(u64::from(v));
-    out.put(b" (");
+    let _ = write!(out, "relative {v} (");
     put_period_length(out, v);
     out.put(b")");
 }

@@ -3,6 +3,7 @@
 use crate::labels::{Label, put_label};
 use crate::values::put_octets;
 use output::Output;
+use std::fmt::Write;
 use text_fields::slices::first;
 use tpdu::HeaderElements;
 
@@ -18,20 +19,15 @@ const PORTS_8: u8 = 0x04;
 
 const PORTS_16: u8 = 0x05;
 
-fn put_words_and_number(out: &mut Output, words: &str, n: u16) {
-    out.put_text(words);
-    out.put_decimal(u64::from(n));
-}
-
 fn put_part(out: &mut Output, reference: u16, total: u8, number: u8) {
-    put_words_and_number(out, "part ", u16::from(number));
-    put_words_and_number(out, " of ", u16::from(total));
-    put_words_and_number(out, ", reference ", reference);
+    let _ = write!(out, "part {number} of {total}, reference {reference}");
 }
 
 fn put_ports(out: &mut Output, destination: u16, originator: u16) {
-    put_words_and_number(out, "destination port ", destination);
-    put_words_and_number(out, ", originator port ", originator);
+    let _ = write!(
+        out,
+        "destination port {destination}, originator port {originator}"
+    );
 }
 
 // The value of an element: in words for a part and for ports, if it has their length; else in hexadecimal.
@@ -58,34 +54,43 @@ fn put_value(out: &mut Output, identifier: u8, value: &[u8]) {
 // An element as a line: `  element   00 part 1 of 2, reference 7`.
 fn put_line(out: &mut Output, identifier: u8, value: &[u8]) {
     put_label(out, Label::Element);
-    out.put_hex_octet(identifier);
-    out.put(b" ");
+    let _ = write!(out, "{identifier:02x} ");
     put_value(out, identifier, value);
     out.put(b"\n");
 }
 
 // An element in a list: `00:070201`.
 fn put_item(out: &mut Output, identifier: u8, value: &[u8]) {
-    out.put_hex_octet(identifier);
-    out.put(b":");
+    let _ = write!(out, "{identifier:02x}:");
     out.put_hex(value);
 }
 
-// The elements: for people in lines, or with commas between.
-pub fn put_elements(out: &mut Output, elements: HeaderElements, show: bool) {
-    let octets = elements.octets;
-    let mut rest = octets.as_slice();
-    for i in 0..elements.count.min(127) {
-        let identifier = elements.identifiers[i];
-        let value = first(rest, usize::from(elements.lengths[i]));
+// Does something with each element, from the first.
+fn each_element<F: FnMut(u8, &[u8])>(elements: &HeaderElements, mut put: F)
+    requires { F.IsAlwaysCallable put }
+{
+    let mut rest = elements.octets.as_slice();
+    let listed = elements.identifiers.iter().zip(&elements.lengths);
+    for (identifier, length) in listed.take(elements.count) {
+        let value = first(rest, usize::from(*length));
         rest = &rest[value.len()..];
-        if show {
-            put_line(out, identifier, value);
-        } else {
-            if 0 < i {
-                out.put(b",");
-            }
-            put_item(out, identifier, value);
-        }
+        put(*identifier, value);
     }
+}
+
+// The elements for people, in lines.
+pub fn put_lines(out: &mut Output, elements: &HeaderElements) {
+    each_element(elements, |identifier, value| {
+        put_line(out, identifier, value)
+    });
+}
+
+// The elements with commas between.
+pub fn put_list(out: &mut Output, elements: &HeaderElements) {
+    let mut separator = "";
+    each_element(elements, |identifier, value| {
+        out.put_text(separator);
+        put_item(out, identifier, value);
+        separator = ",";
+    });
 }

@@ -1,7 +1,8 @@
 // The labels of lines.
 use output::Output;
+use std::fmt::Write;
 
-#[derive(Clone, Copy)]
+#[derive(Clone, Copy, Debug, PartialEq, Eq)]
 pub enum Label {
     From,
     To,
@@ -22,25 +23,32 @@ pub enum Label {
     Note,
 }
 
+impl Label {
+    fn word(self) -> &'static str {
+        match self {
+            Label::From => "from",
+            Label::To => "to",
+            Label::Time => "time",
+            Label::Sent => "sent",
+            Label::Done => "done",
+            Label::Valid => "valid",
+            Label::Report => "report",
+            Label::Reference => "reference",
+            Label::Status => "status",
+            Label::Cause => "cause",
+            Label::Coding => "coding",
+            Label::Header => "header",
+            Label::Text => "text",
+            Label::Data => "data",
+            Label::Refused => "refused",
+            Label::Element => "element",
+            Label::Note => "note",
+        }
+    }
+}
+
 // The start of a line: two spaces, the label, and spaces up to the value.
 pub fn put_label(out: &mut Output, label: Label) {
-    out.put_text(match label {
-        Label::From => "  from      ",
-        Label::To => "  to        ",
-        Label::Time => "  time      ",
-        Label::Sent => "  sent      ",
-        Label::Done => "  done      ",
-        Label::Valid => "  valid     ",
-        Label::Report => "  report    ",
-        Label::Reference => "  reference ",
-        Label::Status => "  status    ",
-        Label::Cause => "  cause     ",
-        Label::Coding => "  coding    ",
-        Label::Header => "  header    ",
-        Label::Text => "  text      ",
-        Label::Data => "  data      ",
-        Label::Refused => "  refused   ",
-        Label::Element => "  element   ",
-        Label::Note => "  note      ",
-    });
+    let word = label.word();
+    let _ = write!(out, "  {word:<10}");
 }

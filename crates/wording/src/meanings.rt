@@ -1,18 +1,21 @@
 // What an octet means: coding schemes, statuses and causes.
 use output::Output;
+use std::fmt::Write;
 use tpdu::UserDataCoding;
 
-// A coding with its TP-DCS (TS 23.038 §4): `7-bit (DCS 00)`.
-pub fn put_coding(out: &mut Output, dcs: u8) {
-    out.put_text(match tpdu::user_data_coding(dcs) {
+fn coding_name(dcs: u8) -> &'static str {
+    match tpdu::user_data_coding(dcs) {
         UserDataCoding::Gsm7Bit => "7-bit",
         UserDataCoding::EightBit => "8-bit",
         UserDataCoding::Ucs2 => "UCS2",
         UserDataCoding::Compressed => "compressed",
-    });
-    out.put(b" (DCS ");
-    out.put_hex_octet(dcs);
-    out.put(b")");
+    }
+}
+
+// A coding with its TP-DCS (TS 23.038 §4): `7-bit (DCS 00)`.
+pub fn put_coding(out: &mut Output, dcs: u8) {
+    let name = coding_name(dcs);
+    let _ = write!(out, "{name} (DCS {dcs:02x})");
 }
 
 // What a group of 32 statuses says of the transaction.
@@ -57,10 +60,9 @@ fn status_meaning(status: u8) -> &'static str {
 
 // A TP-Status and what it means (TS 23.040 §9.2.3.15).
 pub fn put_status(out: &mut Output, status: u8) {
-    out.put_hex_octet(status);
-    out.put(b" ");
-    out.put_text(status_group(status));
-    out.put_text(status_meaning(status));
+    let group = status_group(status);
+    let meaning = status_meaning(status);
+    let _ = write!(out, "{status:02x} {group}{meaning}");
 }
 
 // The causes: those of TP-PID and TP-DCS, of commands and messages, of the service centre, and of the mobile station.
@@ -99,7 +101,6 @@ fn cause_meaning(cause: u8) -> &'static str {
 
 // A TP-Failure-Cause and what it means (TS 23.040 §9.2.3.22).
 pub fn put_cause(out: &mut Output, cause: u8) {
-    out.put_hex_octet(cause);
-    out.put(b" ");
-    out.put_text(cause_meaning(cause));
+    let meaning = cause_meaning(cause);
+    let _ = write!(out, "{cause:02x} {meaning}");
 }

@@ -1,49 +1,9 @@
-// The refusals in words: the name of each, and what it means.
+// The refusals in words: what each means. Its number is what `Display` prints, its name what `Debug` does.
 use output::Output;
+use std::fmt::Write;
 use tpdu::Refusal;
 
-fn name(refusal: Refusal) -> &'static str {
-    match refusal {
-        Refusal::LengthTooLarge => "LengthTooLarge",
-        Refusal::OctetsEnd => "OctetsEnd",
-        Refusal::WrongMessageType => "WrongMessageType",
-        Refusal::UdhiTooLarge => "UdhiTooLarge",
-        Refusal::ValidityFormatDisagrees => "ValidityFormatDisagrees",
-        Refusal::NoDestination => "NoDestination",
-        Refusal::UserDataLengthDisagrees => "UserDataLengthDisagrees",
-        Refusal::UserDataTooLong => "UserDataTooLong",
-        Refusal::NumberTypeOrPlanTooLarge => "NumberTypeOrPlanTooLarge",
-        Refusal::NotInAlphabet => "NotInAlphabet",
-        Refusal::AddressTooLong => "AddressTooLong",
-        Refusal::NotATime => "NotATime",
-        Refusal::IndicatorDisagrees => "IndicatorDisagrees",
-        Refusal::IndicatorExtended => "IndicatorExtended",
-        Refusal::UserDataWithoutLength => "UserDataWithoutLength",
-        Refusal::ParametersWithoutIndicator => "ParametersWithoutIndicator",
-        Refusal::HeaderNotWhole => "HeaderNotWhole",
-        Refusal::HeaderPassesCount => "HeaderPassesCount",
-        Refusal::TooFewOctets => "TooFewOctets",
-        Refusal::CalendarOutOfRange => "CalendarOutOfRange",
-        Refusal::ZoneOutOfRange => "ZoneOutOfRange",
-        Refusal::TooManySeptets => "TooManySeptets",
-        Refusal::OutputTooShort => "OutputTooShort",
-        Refusal::ElementPassesHeader => "ElementPassesHeader",
-        Refusal::ElementsTooLong => "ElementsTooLong",
-        Refusal::TooManyParts => "TooManyParts",
-        Refusal::StoreFull => "StoreFull",
-        Refusal::NotAPart => "NotAPart",
-        Refusal::OutcomeDisagrees => "OutcomeDisagrees",
-        Refusal::OddOctets => "OddOctets",
-        Refusal::InNeitherTable => "InNeitherTable",
-        Refusal::AlphanumericRelayAddress => "AlphanumericRelayAddress",
-        Refusal::TooManyRecords => "TooManyRecords",
-        Refusal::RecipientNotPrintable => "RecipientNotPrintable",
-        Refusal::StringsTooLarge => "StringsTooLarge",
-        Refusal::BlockNotWhole => "BlockNotWhole",
-    }
-}
-
-fn meaning(refusal: Refusal) -> &'static str {
+pub fn meaning(refusal: Refusal) -> &'static str {
     match refusal {
         Refusal::LengthTooLarge => {
             "A record's length field passes its array, or a text reader's count passes 255"
@@ -100,20 +60,18 @@ fn meaning(refusal: Refusal) -> &'static str {
     }
 }
 
-// A refusal's number and a space.
-fn put_number(out: &mut Output, refusal: Refusal) {
-    out.put_decimal(u64::from(refusal.number()));
-    out.put(b" ");
+// Whom an answer is for.
+#[derive(Clone, Copy, Debug, PartialEq, Eq)]
+pub enum Audience {
+    Programs,
+    People,
 }
 
-// A refusal's number and name, for programs: `2 OctetsEnd`.
-pub fn put_number_and_name(out: &mut Output, refusal: Refusal) {
-    put_number(out, refusal);
-    out.put_text(name(refusal));
-}
-
-// A refusal's number and meaning, for people: `2 The octets end inside a field`.
-pub fn put_number_and_meaning(out: &mut Output, refusal: Refusal) {
-    put_number(out, refusal);
-    out.put_text(meaning(refusal));
+// The answer that is a refusal: with its name, or, for people, with its meaning.
+pub fn put_refused(out: &mut Output, refusal: Refusal, audience: Audience) {
+    let meaning = meaning(refusal);
+    let _ = match audience {
+        Audience::Programs => write!(out, "{refusal} {refusal:?}"),
+        Audience::People => write!(out, "{refusal} {meaning}"),
+    };
 }

@@ -8,7 +8,8 @@ use lib.ListN.{length, get_or, take, drop, replicate}
 use lib.Seq.{get_or-drop, get_or-take, drop-drop, take-nil}
 use Rattle.octets.specs.Each.{Octets}
 use Rattle.octets.specs.Lent.{Wrote}
-use Rattle.octets.proofs.Laws.{sets_zeros, part_is, part_size}
+use Rattle.octets.proofs.Holding.{stored}
+use Rattle.octets.proofs.Laws.{part_is, part_size}
 use Rattle.octets.proofs.Each.{octets_take, octets_drop}
 use Rattle.address.specs.declared.SMSAddress.{SMSAddress}
 use Rattle.address.specs.Address.{type_of_number, plan_of, value_text, value_septets, address_with, text_in, address_in, septets_read, address_size}
@@ -41,12 +42,12 @@ module _ (d : List ℕ) (at : ℕ) where
   -- what is read of it, stored in the array of a record
   whole : (address : List ℕ) (n : ℕ) (value : List ℕ) → get_or d at 0 < 256 → Octets value → value ≡ take ((get_or d at 0 + 1) / 2) (drop (at + 2) d)
       → let ton = type_of_number (get_or d (at + 1) 0) in Wrote 0 (value_text ton (get_or d at 0) value) (replicate 290 0) n address
-      → ◌≡◌ {A = SMSAddress} (record { ton = ton; npi = plan_of (get_or d (at + 1) 0); address = address; address_length = n }) (address_in field)
+      → ◌≡◌ {A = SMSAddress} (record { ton = ton; npi = plan_of (get_or d (at + 1) 0); address = record { octets = address; length = n } }) (address_in field)
   unfolding address_in address_with text_in
   whole address n value small octets value_is w =
       let ton = type_of_number (get_or d (at + 1) 0) in
       let fits = (read_fits ton 0 (get_or d at 0) value small octets).3 in
-      rw (type_octet, length_octet, value_octets_lem, ← value_is, w.list, w.place, zero-add, sets_zeros 290 (value_text ton (get_or d at 0) value) fits)
+      rw (type_octet, length_octet, value_octets_lem, ← value_is, stored 290 (value_text ton (get_or d at 0) value) fits w)
 
   septets_are : (value : List ℕ) → value ≡ take ((get_or d at 0 + 1) / 2) (drop (at + 2) d) → value_septets (type_of_number (get_or d (at + 1) 0)) (get_or d at 0) value ≡ septets_read field
   unfolding septets_read

@@ -1,5 +1,4 @@
 -- `alphabet_table::alphabet_lines` meets its contract: the lines of both tables, one after the other, where they fit.
-use Rattle.std.specs.Prelude.{Err}
 use mathlib.Core.Path.{refl}
 use native.Mathlib.Omega.{arith}
 use Rattle.octets.proofs.Laws.{wrote_then, kept_by, lent_short, lent_written}

@@ -2,7 +2,8 @@
 use Prim.Native.Nat.{ℕ, zero, suc}
 use mathlib.Core.Path.{◌≡◌, refl}
 use native.Mathlib.Omega.{arith}
-use lib.ListN.{get_or, replicate}
+use borrow.Author.Rules.{rules}
+use lib.ListN.{length, get_or, replicate}
 use Rattle.columns.proofs.Places.{counts_within, starts_first}
 use Rattle.columns.proofs.column_starts.Goals as goal
 
@@ -12,12 +13,12 @@ zero_at (suc n) zero = refl
 zero_at (suc n) (suc k) = zero_at n k
 
 pub count_octets-requires : goal.count_octets-requires
-count_octets-requires c = (c.requires.0, refl, zero_at 255)
+count_octets-requires c = zero_at 255
 
 pub sum_up-requires : goal.sum_up-requires
 sum_up-requires c =
-    let e = c.count_octets.ensures in
-    (e.0, omega (arith, counts_within c.args.lengths.now c.count_octets.new.counts e.1 e.0, c.requires.1))
+    let size : length c.count_octets.new.counts ≡ 255 = search rules in
+    omega (arith, counts_within c.args.lengths.each.now c.count_octets.new.counts c.count_octets.ensures size, c.requires)
 
 pub returns : goal.returns
-returns c = starts_first _ _ c.count_octets.ensures.1 c.sum_up.ensures
+returns c = starts_first _ _ c.count_octets.ensures c.sum_up.ensures

@@ -8,16 +8,16 @@ use Rattle.columns.proofs.count_octets.Goals as goal
 
 pub loop-n-init : goal.loop-n-init
 unfolding longer_than
-loop-n-init c = (c.requires.1, c.requires.2)
+loop-n-init c = c.requires
 
 pub raise-requires : goal.raise-requires
 raise-requires c =
     let l = c.loop-n in
-    let most = (allowed_means c.args.lengths.now).0 c.requires.0 in
-    (l.invariant.0, at_most_at 255 c.args.lengths.now most.1 l.n-index, λ k h. omega (arith, l.invariant.1 k, longer_within k l.n-index c.args.lengths.now, most.0))
+    let most = (allowed_means c.args.lengths.each.now).0 c.args.lengths.few in
+    (at_most_at 255 c.args.lengths.each.now most.1 l.n-index, λ k h. omega (arith, l.invariant k, longer_within k l.n-index c.args.lengths.each.now, most.0))
 
 pub loop-n-preserved : goal.loop-n-preserved
 loop-n-preserved c =
     let l = c.loop-n in
     let r = c.raise.ensures in
-    (r.size, λ k. rw add-one (omega (arith, r.each k, l.invariant.1 k, longer_next k l.n-index c.args.lengths.now c.loop-n-test.true)))
+    (λ k. rw add-one (omega (arith, r.each k, l.invariant k, longer_next k l.n-index c.args.lengths.each.now c.loop-n-test.true)))

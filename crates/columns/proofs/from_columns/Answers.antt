@@ -1,11 +1,15 @@
 -- `columns::from_columns` meets its contract: the number of strings, their lengths, their octets; then 23.
-use Rattle.std.specs.Prelude.{Ok, Some}
+use Rattle.std.specs.Prelude.{Ok, Err, Some, None, ok_or, Option as Maybe}
+use Rattle.std.proofs.lemmas.Result.{err_from_is_err_and}
+use Rattle.octets.proofs.Checks.{never}
+use Rattle.octets.specs.declared.Refusal.{Refusal}
 use Prim.Native.Nat.{ℕ, ◌+◌, ◌-◌, ◌≤◌}
 use mathlib.Core.Path.{◌≡◌, refl, sym, ◌∙◌, ap, subst}
 use mathlib.Core.Bool.{true}
 use mathlib.Core.List.{List}
 use mathlib.Core.Option.{some}
 use native.Mathlib.Omega.{arith}
+use borrow.Author.Rules.{rules}
 use lib.ListN.{length, take, drop, length-drop}
 use lib.Seq.{sets, length-sets}
 use Rattle.octets.specs.Answers.{Said}
@@ -85,45 +89,60 @@ module _ {b : List ℕ} {count at total body : ℕ} (t : Told b count at total b
           let is : octets' ≡ sets octets 0 (joined (dealt 255 known.ns rest)) = rw first at w.list in
           both_done octets list read (omega (arith, octets_size, octets_fit)) (omega (arith, known.size, list_fits)) known.size octets_size is stored
 
-pub returns-in_default : goal.returns-in_default
-returns-in_default c =
-    let bad = c.in_default.ensures in
-    both_refused _ _ BlockNotWhole (count_large c.args.block.now (λ n rest e. omega (arith, bad n rest e)))
+-- where an option was none
+missing : {A : Type 0} (r : Maybe A) {why w : Refusal} → Err w ≡ ok_or r why → (r ≡ None) × (w ≡ why)
+missing None e = (refl, cc)
+missing (Some x) e = absurd (never (sym e))
+
+pub returns-in_err-count : goal.returns-in_err-count
+returns-in_err-count c =
+    let p = err_from_is_err_and c.from_residual.result c.from_residual.ensures.1 in
+    let (none, why) = missing c.number_at.result c.in_err-count.ensures.value in
+    let bad = rw none at c.number_at.ensures in
+    rw (p.1, p.2, why) (both_refused _ _ BlockNotWhole (count_large c.args.block.now (λ n rest e. omega (arith, bad n rest e))))
 
 pub returns-then-count-gt1000 : goal.returns-then-count-gt1000
 returns-then-count-gt1000 c =
     let b = c.args.block.now in
-    let counted = c.in-Some.ensures in
+    let counted : NumberAs b 0 (Some (c.in_ok-count.count, c.in_ok-count.at)) = search rules in
     both_refused _ _ BlockNotWhole (count_large b (λ n rest e. omega (arith, same_number b counted.0 e, c.if-count-gt1000.true)))
 
-pub returns-in_default-measure : goal.returns-in_default-measure
-returns-in_default-measure c =
-    let counted = c.in-Some.ensures in
-    both_refused _ _ BlockNotWhole (lengths_missing _ counted.0 c.if-count-gt1000.false c.in_default-measure.ensures)
+pub returns-in_err-total : goal.returns-in_err-total
+returns-in_err-total c =
+    let p = err_from_is_err_and c.from_residual-in_err-total.result c.from_residual-in_err-total.ensures.1 in
+    let (none, why) = missing c.measure.result c.in_err-total.ensures.value in
+    let counted : NumberAs c.args.block.now 0 (Some (c.in_ok-count.count, c.in_ok-count.at)) = search rules in
+    rw (p.1, p.2, why) (both_refused _ _ BlockNotWhole (lengths_missing _ counted.0 c.if-count-gt1000.false (rw none at c.measure.ensures)))
 
 pub returns-then-block-body : goal.returns-then-block-body
 returns-then-block-body c =
-    let t = told c.in-Some.ensures c.if-count-gt1000.false c.in-Some-measure.ensures in
+    let t : Told c.args.block.now c.in_ok-count.count c.in_ok-count.at c.in_ok-total.total c.in_ok-total.body = told (search rules) c.if-count-gt1000.false (search rules) in
     both_refused _ _ BlockNotWhole (not_whole t c.if-block-body.true)
 
 pub returns-then-octets-total : goal.returns-then-octets-total
 returns-then-octets-total c =
-    let t = told c.in-Some.ensures c.if-count-gt1000.false c.in-Some-measure.ensures in
+    let t : Told c.args.block.now c.in_ok-count.count c.in_ok-count.at c.in_ok-total.total c.in_ok-total.body = told (search rules) c.if-count-gt1000.false (search rules) in
     let all = c.if-block-body.false in
     octets_short _ _ (read t all) (omega (arith, octets_size t all))
 
 pub returns-then-lengths-count : goal.returns-then-lengths-count
 returns-then-lengths-count c =
-    let t = told c.in-Some.ensures c.if-count-gt1000.false c.in-Some-measure.ensures in
+    let t : Told c.args.block.now c.in_ok-count.count c.in_ok-count.at c.in_ok-total.total c.in_ok-total.body = told (search rules) c.if-count-gt1000.false (search rules) in
     let all = c.if-block-body.false in
     list_short _ _ (read t all) (omega (arith, octets_size t all)) (omega (arith, (known t).size))
 
+pub invariant_of-held : goal.invariant_of-held
+invariant_of-held c =
+    let t : Told c.args.block.now c.in_ok-count.count c.in_ok-count.at c.in_ok-total.total c.in_ok-total.body = told (search rules) c.if-count-gt1000.false (search rules) in
+    record { few = (asked t c.if-block-body.false c.if-lengths-count.false c.put_lengths.ensures _ c.if-octets-total.false).0 }
+
 pub take_strings-requires : goal.take_strings-requires
 take_strings-requires c =
-    let t = told c.in-Some.ensures c.if-count-gt1000.false c.in-Some-measure.ensures in
-    asked t c.if-block-body.false c.if-lengths-count.false c.put_lengths.ensures _ c.if-octets-total.false
+    let t : Told c.args.block.now c.in_ok-count.count c.in_ok-count.at c.in_ok-total.total c.in_ok-total.body = told (search rules) c.if-count-gt1000.false (search rules) in
+    let (few, whole, fit) = asked t c.if-block-body.false c.if-lengths-count.false c.put_lengths.ensures _ c.if-octets-total.false in
+    (whole, fit)
 
 pub returns : goal.returns
 returns c =
-    let t = told c.in-Some.ensures c.if-count-gt1000.false c.in-Some-measure.ensures in
+    let t : Told c.args.block.now c.in_ok-count.count c.in_ok-count.at c.in_ok-total.total c.in_ok-total.body = told (search rules) c.if-count-gt1000.false (search rules) in
     both t c.if-block-body.false c.if-lengths-count.false c.put_lengths.ensures c.if-octets-total.false c.take_strings.ensures

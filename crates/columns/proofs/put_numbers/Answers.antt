@@ -14,8 +14,8 @@ use Rattle.columns.proofs.put_numbers.Goals as goal
 pub put_number-place-requires : goal.put_number-place-requires
 put_number-place-requires c =
     let l = c.loop-n in
-    let few = at_most_at 255 c.args.lengths.now ((allowed_means c.args.lengths.now).0 c.requires.0).1 l.n-index in
-    (omega (arith, few), left_fits (groups (get_or c.args.lengths.now l.n-index 0)) (numbers (drop (l.n-index + 1) c.args.lengths.now)) l.invariant (numbers_next _ l.n-index c.loop-n-test.true) (omega (arith, c.requires.1)))
+    let few = at_most_at 255 c.args.lengths.each.now ((allowed_means c.args.lengths.each.now).0 c.args.lengths.few).1 l.n-index in
+    (omega (arith, few), left_fits (groups (get_or c.args.lengths.each.now l.n-index 0)) (numbers (drop (l.n-index + 1) c.args.lengths.each.now)) l.invariant (numbers_next _ l.n-index c.loop-n-test.true) (omega (arith, c.requires)))
 
 pub loop-n-preserved : goal.loop-n-preserved
 loop-n-preserved c =

@@ -6,14 +6,14 @@ use Rattle.columns.proofs.StringByString.{taking_start, taking_next, taking_end,
 use Rattle.columns.proofs.take_strings.Goals as goal
 
 pub loop-n-init : goal.loop-n-init
-loop-n-init c = let p = c.requires in taking_start ((allowed_means _).0 p.0).1 p.1 p.2 c.column_starts-places.ensures
+loop-n-init c = let p = c.requires in taking_start ((allowed_means _).0 c.args.lengths.few).1 p.0 p.1 c.column_starts-places.ensures
 
 pub take_string-at-requires : goal.take_string-at-requires
 take_string-at-requires c =
     let l = c.loop-n in
     let t = l.invariant in
-    let ns = c.args.lengths.now in
-    (t.starts.size, at_most_at 255 ns t.few l.n-index, omega (arith, t.here, t.room, string_inside ns l.n-index), λ k h. omega (arith, t.whole, places_inside ns l.n-index t.starts t.few c.loop-n-test.true k h))
+    let ns = c.args.lengths.each.now in
+    (at_most_at 255 ns t.few l.n-index, omega (arith, t.here, t.room, string_inside ns l.n-index), λ k h. omega (arith, t.whole, places_inside ns l.n-index t.starts t.few c.loop-n-test.true k h))
 
 pub raise-requires : goal.raise-requires
 raise-requires c = let l = c.loop-n in places_raised _ l.n-index l.invariant.starts l.invariant.few c.loop-n-test.true (omega (arith, l.invariant.whole))

@@ -1,5 +1,5 @@
 -- `columns::to_columns` meets its contract: 35, 1, 23; then the number of strings, the lengths and the columns.
-use Rattle.std.specs.Prelude.{Ok, Err}
+use Rattle.std.specs.Prelude.{Ok}
 use Prim.Native.Nat.{ℕ, ◌+◌, ◌≤◌}
 use mathlib.Core.Path.{◌≡◌, ◌∙◌}
 use mathlib.Core.Bool.{true}
@@ -7,7 +7,7 @@ use mathlib.Core.List.{List}
 use native.Mathlib.Omega.{arith}
 use lib.ListN.{length}
 use Rattle.octets.specs.Lent.{made, Wrote}
-use Rattle.octets.specs.declared.Refusal.TheVariants.{LengthTooLarge, StringsTooLarge}
+use Rattle.octets.specs.declared.Refusal.TheVariants.{LengthTooLarge}
 use Rattle.octets.proofs.Laws.{kept_by, lent_refused, lent_short, lent_written}
 use Rattle.columns.specs.Numbers.{groups}
 use Rattle.columns.specs.Blocks.{strings_in, sum, allowed, columns, numbers, block}
@@ -77,18 +77,21 @@ returns-then-out-groups_of c =
 pub put_number-next-requires : goal.put_number-next-requires
 put_number-next-requires c = (omega (arith, few c.args.octets.now c.args.lengths.now c.in_ok-total.ensures), omega (arith, c.groups_of.ensures, c.if-out-groups_of.false))
 
+pub invariant_of-lengths : goal.invariant_of-lengths
+invariant_of-lengths c = record { few = (known c.args.octets.now c.args.lengths.now c.in_ok-total.ensures).0 }
+
 pub put_numbers-body-requires : goal.put_numbers-body-requires
 put_numbers-body-requires c =
     let w = c.put_number-next.ensures in
     let k = known c.args.octets.now c.args.lengths.now c.in_ok-total.ensures in
-    (k.0, omega (arith, w.place, kept_by w, c.groups_of.ensures, c.if-out-groups_of.false, k.2))
+    omega (arith, w.place, kept_by w, c.groups_of.ensures, c.if-out-groups_of.false, k.2)
 
 pub put_strings-requires : goal.put_strings-requires
 put_strings-requires c =
     let w₁ = c.put_number-next.ensures in
     let w₂ = c.put_numbers-body.ensures in
     let k = known c.args.octets.now c.args.lengths.now c.in_ok-total.ensures in
-    (k.0, omega (arith, k.1, c.if-octets-total.false), omega (arith, w₁.place, kept_by w₁, w₂.place, kept_by w₂, c.groups_of.ensures, c.if-out-groups_of.false, k.1, k.2))
+    (omega (arith, k.1, c.if-octets-total.false), omega (arith, w₁.place, kept_by w₁, w₂.place, kept_by w₂, c.groups_of.ensures, c.if-out-groups_of.false, k.1, k.2))
 
 pub returns : goal.returns
 returns c =

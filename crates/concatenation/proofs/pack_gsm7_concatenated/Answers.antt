@@ -12,7 +12,6 @@ use Rattle.octets.specs.Answers.{Said}
 use Rattle.octets.specs.Lent.{lend, Wrote}
 use Rattle.octets.proofs.Laws.{lent_refused, lent_short, lent_done}
 use Rattle.gsm7.specs.Writing.{septets_of}
-use Rattle.gsm7.proofs.ByCharacter.{codes_right}
 use Rattle.concatenation.specs.Cutting.{parts_of}
 use Rattle.concatenation.specs.Messages.{numbered, concatenating}
 use Rattle.concatenation.specs.declared.Concatenated.{Concatenated}
@@ -52,9 +51,6 @@ parts_sent reference text coded long few is room w =
     let w' = rw is at w in
     rw (w.place, zero-add, is)
     (lent_done _ (in_parts _ _ _ coded long (omega arith)) room' w'.list)
-
-pub count_parts-requires : goal.count_parts-requires
-count_parts-requires c = codes_right
 
 pub returns-in_err-septets : goal.returns-in_err-septets
 returns-in_err-septets c =
@@ -105,7 +101,7 @@ returns-then-out-full c =
 pub put_parts-octets-requires : goal.put_parts-octets-requires
 put_parts-octets-requires c =
     let k = known c.args.text.now c.in_ok-septets.ensures in
-    (codes_right, k.0, k.2, omega (arith, size c.args.text.now c.in_ok-septets.ensures c.if-septets-le160.false c.args.reference c.in_ok-septets.field-0.parts))
+    (k.0, k.2, omega (arith, size c.args.text.now c.in_ok-septets.ensures c.if-septets-le160.false c.args.reference c.in_ok-septets.field-0.parts))
 
 pub returns : goal.returns
 returns c =

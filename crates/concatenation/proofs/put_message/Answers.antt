@@ -9,10 +9,8 @@ pub pack_octets-requires : goal.pack_octets-requires
 pack_octets-requires c =
     let w = c.put_octet-data.ensures in
     let v = c.put_octets-text.ensures in
-    let in-header = c.header_septets-in_header.ensures in
-    (omega (arith, in-header), omega arith, c.requires.1, rw (in-header, v.place, w.place, kept_by v, kept_by w) (omega (arith, rw (length-append, length_packed) at c.requires.2)))
+    let fill = c.fill_bits.ensures in
+    (omega (arith, fill.1), omega arith, c.requires.1, rw (fill.0, v.place, w.place, kept_by v, kept_by w) (omega (arith, rw (length-append, length_packed) at c.requires.2)))
 
 pub returns : goal.returns
-returns c =
-    rw (← c.header_septets-in_header.ensures)
-    (wrote_then c.put_octet-data.ensures (wrote_then c.put_octets-text.ensures c.pack_octets.ensures))
+returns c = wrote_then (rw c.header_septets-in_header.ensures at c.put_octet-data.ensures) (wrote_then c.put_octets-text.ensures (rw c.fill_bits.ensures.0 at c.pack_octets.ensures))

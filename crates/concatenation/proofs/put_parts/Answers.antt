@@ -7,7 +7,7 @@ pub put_message-at-requires : goal.put_message-at-requires
 put_message-at-requires c =
     let l = c.loop-from in
     let p = c.in-Ok.ensures.0 in
-    (omega (arith, p.small), putting_digits l.invariant.1 p, omega (arith, putting_room l.invariant.1 p, c.requires.3))
+    (omega (arith, p.small), putting_digits l.invariant.1 p, omega (arith, putting_room l.invariant.1 p, c.requires.2))
 
 pub loop-from-preserved : goal.loop-from-preserved
 loop-from-preserved c =

@@ -19,4 +19,4 @@ unfolding deliver_reported replaced_in_all
 returns c =
     let f = c.in_ok-f.f in
     let n : f.«data» + f.octets - f.«data» ≡ f.octets = omega arith in
-    rw (c.data_with.ensures, n) (record_found deliver_reported (λ r. read_with c.args.«data».now r 0) 0 false c.args.rp_outcome c.args.«data».now c.in_ok-f.ensures.0)
+    rw (c.hold.ensures, n) (record_found deliver_reported (λ r. read_with c.args.«data».now r 0) 0 false c.args.rp_outcome c.args.«data».now c.in_ok-f.ensures.0)

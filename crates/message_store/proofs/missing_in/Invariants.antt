@@ -8,4 +8,4 @@ abbrev pub all : List ℕ → ℕ → List ℕ
 all slot total = missing_from 1 (holdings 1 total slot)
 
 abbrev pub invariant-loop-n : goal.invariant-loop-n
-invariant-loop-n l = (length l.numbers ≡ 8) × Left (sets (replicate 8 0) 0 (all l.slot l.total)) (0 + length (all l.slot l.total)) l.numbers l.count (missing_from l.n (holdings l.n (l.total + 1 - l.n) l.slot))
+invariant-loop-n l = (length l.octets ≡ 8) × Left (sets (replicate 8 0) 0 (all l.slot l.total)) (0 + length (all l.slot l.total)) l.octets l.length (missing_from l.n (holdings l.n (l.total + 1 - l.n) l.slot))

@@ -5,4 +5,4 @@ use Rattle.message_store.proofs.put_part.Goals as goal
 
 pub returns : goal.returns
 unfolding with_part
-returns c = rw add-one at c.put_octets.ensures.list
+returns c = rw (c.part_at-at.ensures, add-one) at c.put_octets.ensures.list

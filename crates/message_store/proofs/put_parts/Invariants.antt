@@ -10,7 +10,7 @@ rest slot total n = shown_parts (coding_in slot) (holdings n (total + 1 - n) slo
 abbrev pub all : List ℕ → ℕ → List ℕ
 all slot total = shown_parts (coding_in slot) (holdings 1 total slot)
 
-abbrev pub invariant-loop-n : goal.invariant-loop-n
-invariant-loop-n l =
-    (l.at + 510 ≤ l.n * 510) × (missing_from l.n (holdings l.n (l.total + 1 - l.n) l.slot) ≡ [])
-    × Left (sets l.initial.shown 0 (all l.slot l.total)) (0 + length (all l.slot l.total)) l.shown l.at (rest l.slot l.total l.n)
+abbrev pub invariant-loop-block : goal.invariant-loop-block
+invariant-loop-block l =
+    (l.at ≤ l.block-index * 510) × (missing_from (l.block-index + 1) (holdings (l.block-index + 1) (l.total + 1 - (l.block-index + 1)) l.slot) ≡ [])
+    × Left (sets l.initial.shown 0 (all l.slot l.total)) (0 + length (all l.slot l.total)) l.shown l.at (rest l.slot l.total (l.block-index + 1))

@@ -19,8 +19,8 @@ pub slice_bounds-unpack_septets-count : goal.slice_bounds-unpack_septets-count
 slice_bounds-unpack_septets-count c = header_within (part c.args.udl c.args.«data».now) c.requires.1 (omega (arith, c.ranges)) c.header_octets-h.ensures.0 c.header_septets-in_header.ensures c.if-septets-in_header.false
 
 pub unpack_septets-put-requires : goal.unpack_septets-put-requires
-unpack_septets-put-requires c = text_room (part c.args.udl c.args.«data».now) c.requires.1 (omega (arith, c.ranges)) c.header_octets-h.ensures.0 c.header_septets-in_header.ensures c.if-septets-in_header.false c.args.at c.requires.0
+unpack_septets-put-requires c = text_room (part c.args.udl c.args.«data».now) c.requires.1 (omega (arith, c.ranges)) c.header_octets-h.ensures.0 c.header_septets-in_header.ensures c.if-septets-in_header.false c.fill_bits.ensures.0 c.fill_bits.ensures.1 c.args.at c.requires.0
 
 pub returns : goal.returns
 returns c =
-    rw (text_cut (part c.args.udl c.args.«data».now) c.requires.1 (omega (arith, c.ranges)) c.header_octets-h.ensures.0 c.header_septets-in_header.ensures c.if-septets-in_header.false) at c.unpack_septets-put.ensures.0
+    rw (text_cut (part c.args.udl c.args.«data».now) c.requires.1 (omega (arith, c.ranges)) c.header_octets-h.ensures.0 c.header_septets-in_header.ensures c.if-septets-in_header.false c.fill_bits.ensures.0) at c.unpack_septets-put.ensures.0

@@ -4,4 +4,4 @@ use Rattle.reassembly.proofs.accepted.Goals as goal
 
 pub returns : goal.returns
 unfolding told
-returns c = rw (c.missing_in-missing.ensures.0, c.missing_in-missing.ensures.1)
+returns c = rw c.missing_in-missing.ensures

@@ -5,10 +5,10 @@ use Rattle.message_store.specs.Store.{store_octets}
 use Rattle.reassembly.specs.Calls.{emptied}
 use Rattle.reassembly.proofs.empty_store.Goals as goal
 
-pub returns-then-store-lt37696 : goal.returns-then-store-lt37696
+pub returns-then-store-lt-STORE_OCTETS : goal.returns-then-store-lt-STORE_OCTETS
 unfolding emptied
-returns-then-store-lt37696 c = rw (lt-leb store_octets _ c.if-store-lt37696.true)
+returns-then-store-lt-STORE_OCTETS c = rw (lt-leb store_octets _ c.if-store-lt-STORE_OCTETS.true)
 
 pub returns : goal.returns
 unfolding emptied
-returns c = rw (le-leb store_octets _ c.if-store-lt37696.false, c.fill.ensures.after (λ y e. e), length-take-le store_octets c.args.store.now c.if-store-lt37696.false)
+returns c = rw (le-leb store_octets _ c.if-store-lt-STORE_OCTETS.false, c.fill.ensures.after (λ y e. e), length-take-le store_octets c.args.store.now c.if-store-lt-STORE_OCTETS.false)

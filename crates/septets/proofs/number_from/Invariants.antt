@@ -1,8 +1,11 @@
-use Prim.Native.Nat.{◌+◌, ◌-◌, ◌≤◌}
 use mathlib.Core.Path.{◌≡◌}
-use lib.ListN.{take, drop}
+use mathlib.Core.List.{List, ◌++◌}
+use Prim.Native.Nat.{ℕ}
+use Rattle.std.specs.Iterator.Adapters.{rev_source}
+use Rattle.std.specs.Slice.Iter.{iter_rest}
 use Rattle.septets.specs.Septets.{number_of}
 use Rattle.septets.proofs.number_from.Given as goal
 
-abbrev pub invariant-loop-i : goal.invariant-loop-i
-invariant-loop-i l = (l.i ≤ l.n) × (l.number ≡ number_of l.w (take (l.n - l.i) (drop (l.at + l.i) l.digits)))
+abbrev pub invariant-loop-digit : goal.invariant-loop-digit
+invariant-loop-digit l =
+    (taken : List ℕ) × (iter_rest (rev_source l.digit-iterator) ++ taken ≡ l.digits) × (l.number ≡ number_of l.w taken)

@@ -8,5 +8,5 @@ use Rattle.shift_page.proofs.put_reports.Given as goal
 
 abbrev pub invariant-loop-report : goal.invariant-loop-report
 invariant-loop-report l =
-    (l.next + 39 * (length l.report-items - l.report-index) ≤ length l.out) × (found (reports_checks (drop l.report-index l.report-items)) ≡ fine)
-    × Left (sets l.initial.out l.at (ended (map report_line l.report-items))) (l.at + length (ended (map report_line l.report-items))) l.out l.next (ended (map report_line (drop l.report-index l.report-items)))
+    (l.next + 39 * (length l.reports - l.report-index) ≤ length l.out) × (found (reports_checks (drop l.report-index l.reports)) ≡ fine)
+    × Left (sets l.initial.out l.at (ended (map report_line l.reports))) (l.at + length (ended (map report_line l.reports))) l.out l.next (ended (map report_line (drop l.report-index l.reports)))

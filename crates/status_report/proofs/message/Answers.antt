@@ -5,4 +5,4 @@ use Rattle.status_report.proofs.message.Goals as goal
 pub returns : goal.returns
 returns c =
     message_is c.args.«data».now (λ i. (c.type_inv.«data» i).fits) c.args.f c.requires
-    _ c.address_at-read.ensures.0 _ c.time_at-timestamp.ensures _ c.time_at-discharge_time.ensures _ c.data_with-user_data.ensures _ c.address_at-read.ensures.1
+    _ c.address_at-read.ensures.0 _ c.time_at-timestamp.ensures _ c.time_at-discharge_time.ensures _ c.hold-user_data.ensures _ c.address_at-read.ensures.1

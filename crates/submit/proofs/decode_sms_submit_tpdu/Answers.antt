@@ -11,8 +11,5 @@ returns-in_err-fields c =
     let p = err_from_is_err_and c.from_residual.result c.from_residual.ensures.1 in
     rw (p.1, p.2) (sym (answer_is c.args.«data».now (Err c.in_err-fields.field-0.0) c.in_err-fields.ensures.0 (read_with c.args.«data».now)))
 
-pub message-requires : goal.message-requires
-message-requires c = c.in_ok-fields.ensures.1
-
 pub returns : goal.returns
 returns c = rw c.message.ensures (sym (answer_is c.args.«data».now (Ok c.in_ok-fields.fields) c.in_ok-fields.ensures.0 (read_with c.args.«data».now)))

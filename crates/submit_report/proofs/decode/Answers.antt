@@ -19,4 +19,4 @@ unfolding submit_reported replaced_in_all
 returns c =
     let f = c.in_ok-f.f in
     let n : f.«data» + f.octets - f.«data» ≡ f.octets = omega arith in
-    rw (c.flag.ensures.0, c.time_if.ensures, c.data_with.ensures, n) (record_found submit_reported (λ r. read_with c.args.«data».now r 0) 1 true c.args.rp_outcome c.args.«data».now c.in_ok-f.ensures.0)
+    rw (c.flag.ensures.0, c.time_if.ensures, c.hold.ensures, n) (record_found submit_reported (λ r. read_with c.args.«data».now r 0) 1 true c.args.rp_outcome c.args.«data».now c.in_ok-f.ensures.0)

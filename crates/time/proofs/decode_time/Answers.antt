@@ -1,9 +1,9 @@
 -- `time::decode_time` meets its contract: the digits of the octets that are left are stored pair by pair.
-use Prim.Native.Nat.{◌+◌, ◌*◌}
+use Prim.Native.Nat.{◌+◌, ◌-◌, ◌*◌}
 use mathlib.Core.Path.{◌≡◌, ◌∙◌}
 use native.Mathlib.Omega.{arith}
 use lib.ListN.{take, drop, length-drop}
-use lib.Seq.{get_or-drop, get_or-take, length-take-le}
+use lib.Seq.{length-take-le}
 use Rattle.octets.proofs.Laws.{sets_full, left_start, left_step, left_end, wrote_one, wrote_then}
 use Rattle.time.specs.Time.{time_digits}
 use Rattle.time.proofs.Laws.{length_digits, digits_next, digits_end}
@@ -13,17 +13,18 @@ pub loop-i-init : goal.loop-i-init
 loop-i-init c = (length-take-le 7 (drop c.args.at c.args.«data».now) (simp length-drop (omega arith)), left_start _ _ _)
 
 pub hex_digit-requires-in-loop-i : goal.hex_digit-requires-in-loop-i
-hex_digit-requires-in-loop-i c = omega (arith, c.shared_slice_known-in-loop-i-1.given (c.args.at + c.loop-i.i))
+hex_digit-requires-in-loop-i c = omega (arith, c.type_inv.«data» (c.args.at + c.loop-i.i))
 
 pub loop-i-preserved : goal.loop-i-preserved
 loop-i-preserved c =
     let l = c.loop-i in
     let a = c.args in
     let s = drop a.at a.«data».now in
+    let seven : (a.at + 7) - a.at ≡ 7 = omega arith in
     let e : 2 * (l.i + 1) ≡ 2 * l.i + 1 + 1 = omega arith in (
       l.invariant.0,
       rw e (left_step _ l.invariant.1 (wrote_then (wrote_one _ _ _) (wrote_one _ _ _))
-          (rw (c.hex_digit.ensures, c.hex_digit-in-loop-i.ensures, ← get_or-drop a.at a.«data».now l.i 0, ← get_or-take 7 s l.i 0 (omega arith)) (digits_next l.i (take 7 s) (omega arith)))),
+          (rw (c.hex_digit.ensures, c.hex_digit-in-loop-i.ensures, seven) (digits_next l.i (take 7 s) (omega arith)))),
     )
 
 pub returns : goal.returns

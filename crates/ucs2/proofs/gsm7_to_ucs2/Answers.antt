@@ -1,61 +1,59 @@
--- `ucs2::gsm7_to_ucs2` meets its contract, by the definition's two tests; the UCS2 fits its array.
+-- `ucs2::gsm7_to_ucs2` meets its contract, by the test of the count; the UCS2 fits its array.
 use Prim.Native.Nat.{ℕ, ◌≤◌}
 use mathlib.Core.Path.{◌≡◌, sym}
 use mathlib.Core.List.{List}
 use native.Mathlib.Omega.{arith}
-use lib.ListN.{length}
+use native.Mathlib.Nat.{zero-add}
+use lib.ListN.{length, replicate}
 use lib.Seq.{length-take-le}
-use Rattle.octets.specs.Lent.{made}
+use Rattle.octets.specs.Lent.{Wrote}
 use Rattle.octets.proofs.Laws.{kept_by, lent_refused, lent_short, lent_written}
-use Rattle.ucs2.specs.Ucs2.{to_ucs2}
-use Rattle.ucs2.proofs.Stepwise.{ucs2_fits, stored_are}
+use Rattle.septets.specs.Septets.{septets_in}
+use Rattle.std.proofs.lemmas.Result.{err_from_is_err_and}
+use Rattle.octets.specs.Lent.{refused}
+use Rattle.gsm7.specs.Internal.{shown_by}
+use Rattle.gsm7.proofs.Reading.{counted_not, counted_ok}
+use Rattle.ucs2.specs.Ucs2.{pair, to_ucs2}
+use Rattle.ucs2.proofs.Stepwise.{ucs2_fits, stored_are, characters_pairs}
 use Rattle.ucs2.proofs.Laws.{ucs2_shown, ucs2_long, ucs2_few, ucs2_done}
 use Rattle.ucs2.proofs.gsm7_to_ucs2.Goals as goal
-use Rattle.ucs2.proofs.gsm7_to_ucs2.Tie as tie
-use Rattle.ucs2.proofs.gsm7_to_ucs2.Lts as lts
-use Rattle.ucs2.proofs.gsm7_to_ucs2.Reads as reads
 
--- where the UCS2 stands in its array
-module _ (c : lts.After-put_characters tie.the-claims reads.Pre reads.Post) where
-  abbrev start : lts.Start tie.the-claims reads.Pre reads.Post
-  start = c.before.before.before.before.before.before
+-- the UCS2 that stands in its array
+module _ (os : List ℕ) (n : ℕ) (few : n ≤ 255) {end : ℕ} {array : List ℕ} (wrote : Wrote 0 (shown_by pair (septets_in os 0 n)) (replicate 510 0) end array) where
+  written : Wrote 0 (ucs2_shown os n) (replicate 510 0) end array
+  written = rw characters_pairs wrote
 
-  abbrev octets : List ℕ
-  octets = start.args.«data».now
+  size : end ≡ length (ucs2_shown os n)
+  size = omega (arith, written.place)
 
-  abbrev shown : List ℕ
-  shown = ucs2_shown octets start.args.septets
+  within_array : end ≤ length array
+  within_array = omega (arith, size, kept_by written, ucs2_fits os n few)
 
-  few : start.args.septets ≤ 255
-  few = c.if-septets-gt255.false
+pub returns-in_err-check_count : goal.returns-in_err-check_count
+returns-in_err-check_count c =
+    let os = c.args.«data».now in
+    let n = c.args.septets in
+    let p = err_from_is_err_and c.from_residual.result c.from_residual.ensures.1 in
+    rw (p.1, p.2) (lent_refused _ _ (counted_not os n (λ why. to_ucs2 os n ≡ refused why) (ucs2_long os n) (ucs2_few os n) _ c.in_err-check_count.ensures))
 
-  fits : length shown ≤ 510
-  fits = ucs2_fits octets start.args.septets few
-
-  makes : to_ucs2 octets start.args.septets ≡ made shown (length shown)
-  makes = ucs2_done octets start.args.septets few (omega (arith, c.if-data-septets.false))
-
--- the part of the array that is UCS2
-within_array : (c : lts.After-put_characters tie.the-claims reads.Pre reads.Post) → let r = c.put_characters-n in r.result ≤ length r.new.ucs2
-within_array c = let w = c.put_characters-n.ensures in omega (arith, w.place, kept_by w, fits c)
-
-pub returns-then-septets-gt255 : goal.returns-then-septets-gt255
-returns-then-septets-gt255 c = lent_refused _ _ (ucs2_long _ _ c.if-septets-gt255.true)
-
-pub returns-then-data-septets : goal.returns-then-data-septets
-returns-then-data-septets c = lent_refused _ _ (ucs2_few _ _ c.if-septets-gt255.false (omega (arith, c.if-data-septets.true)))
+pub put_characters-n-requires : goal.put_characters-n-requires
+put_characters-n-requires c =
+    let few = (counted_ok _ _ _ c.in_ok-check_count.ensures).0 in
+    (omega arith, few, rw (← characters_pairs, zero-add) (ucs2_fits _ _ few))
 
 pub returns-then-out-n : goal.returns-then-out-n
-returns-then-out-n c = lent_short _ (makes c.before.before) (omega (arith, c.if-out-n.true, c.put_characters-n.ensures.place))
+returns-then-out-n c =
+    let there = counted_ok _ _ _ c.in_ok-check_count.ensures in
+    lent_short _ (ucs2_done _ _ there.0 there.1) (omega (arith, c.if-out-n.true, size _ _ there.0 c.put_characters-n.ensures.0))
 
 pub slice_bounds-ucs2-end : goal.slice_bounds-ucs2-end
-slice_bounds-ucs2-end c = within_array c.before.before.before
+slice_bounds-ucs2-end c = within_array _ _ (counted_ok _ _ _ c.in_ok-check_count.ensures).0 c.put_characters-n.ensures.0
 
 pub slice_bounds-put_octets-end : goal.slice_bounds-put_octets-end
-slice_bounds-put_octets-end c = sym (length-take-le _ _ (within_array c.before.before.before.before))
+slice_bounds-put_octets-end c = sym (length-take-le _ _ (within_array _ _ (counted_ok _ _ _ c.in_ok-check_count.ensures).0 c.put_characters-n.ensures.0))
 
 pub returns : goal.returns
 returns c =
-    let p = c.before.before.before.before.before.before.before in
-    let w = p.put_characters-n.ensures in
-    lent_written _ (makes p) (omega (arith, w.place, c.if-out-n.false)) (rw (stored_are 510 (fits p) w) at c.put_octets.ensures)
+    let there = counted_ok _ _ _ c.in_ok-check_count.ensures in
+    let w = written _ _ there.0 c.put_characters-n.ensures.0 in
+    lent_written _ (ucs2_done _ _ there.0 there.1) (omega (arith, size _ _ there.0 c.put_characters-n.ensures.0, c.if-out-n.false)) (rw (stored_are 510 (ucs2_fits _ _ there.0) w) at c.put_octets.ensures)

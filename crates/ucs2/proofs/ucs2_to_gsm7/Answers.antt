@@ -1,10 +1,9 @@
 -- `ucs2::ucs2_to_gsm7` meets its contract: the scan tells the septets, and those that fit the array are packed.
-use mathlib.Core.Path.{refl, sym, subst}
+use mathlib.Core.Path.{sym, subst}
 use native.Mathlib.Omega.{arith}
 use lib.ListN.{replicate}
 use Rattle.octets.proofs.Laws.{lent_refused}
 use Rattle.septets.specs.Septets.{Digits}
-use Rattle.gsm7.proofs.ByCharacter.{codes_right}
 use Rattle.gsm7.proofs.Scanning.{scanned_not, scanned_codes, codes_first}
 use Rattle.ucs2.specs.Ucs2.{characters_in, codes_of}
 use Rattle.ucs2.proofs.Characters.{codes_digits}
@@ -13,9 +12,6 @@ use Rattle.ucs2.proofs.ucs2_to_gsm7.Goals as goal
 
 pub returns-then-ucs2-ne0 : goal.returns-then-ucs2-ne0
 returns-then-ucs2-ne0 c = lent_refused _ _ (gsm7_odd _ c.if-ucs2-ne0.true)
-
-pub scan_characters-requires : goal.scan_characters-requires
-scan_characters-requires c = (codes_right, refl)
 
 pub returns-in_default : goal.returns-in_default
 returns-in_default c =

@@ -1,6 +1,7 @@
 -- `user_data_header::unpack_gsm7_with_header` meets its contract: each answer is a case of the definition.
 use Rattle.std.specs.Prelude.{Ok}
-use mathlib.Core.Path.{sym, ap}
+use Prim.Native.Nat.{◌-◌, ◌*◌}
+use mathlib.Core.Path.{◌≡◌, sym, ap}
 use native.Mathlib.Omega.{arith}
 use Rattle.user_data_header.proofs.Cases.{read_long, read_short, read_over, read_few, read_done}
 use Rattle.user_data_header.proofs.unpack_gsm7_with_header.Goals as goal
@@ -18,16 +19,16 @@ pub returns-then-septets-in_header : goal.returns-then-septets-in_header
 returns-then-septets-in_header c = let h = c.before.before.before.before in
     sym (read_over _ _ h.if-septets-gt255.false h.header_octets-h.ensures.0 c.if-data-h.false c.header_septets-in_header.ensures c.if-septets-in_header.true)
 
-pub overflow_sub-fill : goal.overflow_sub-fill
-overflow_sub-fill c = omega (arith, c.header_septets-in_header.ensures)
-
 pub returns-then-data-h-2 : goal.returns-then-data-h-2
 returns-then-data-h-2 c = let h = c.before.before.before.before.before in
-    sym (read_few _ _ h.if-septets-gt255.false h.header_octets-h.ensures.0 c.if-data-h.false c.header_septets-in_header.ensures c.if-septets-in_header.false c.if-data-h-2.true)
+    sym (read_few _ _ h.if-septets-gt255.false h.header_octets-h.ensures.0 c.if-data-h.false c.header_septets-in_header.ensures c.if-septets-in_header.false (omega (arith, c.octet_count.ensures, c.if-data-h-2.true, c.fill_bits-fill.ensures.0, c.header_septets-in_header.ensures)))
 
 pub header_and_text-requires : goal.header_and_text-requires
-header_and_text-requires c = omega (arith, c.header_septets-in_header.ensures)
+header_and_text-requires c = omega (arith, c.header_septets-in_header.ensures, c.fill_bits-fill.ensures.1)
 
 pub returns : goal.returns
-returns c = let h = c.before.before.before.before.before.before in
-    rw (read_done _ _ h.if-septets-gt255.false h.header_octets-h.ensures.0 c.if-data-h.false c.header_septets-in_header.ensures c.if-septets-in_header.false c.if-data-h-2.false) (ap Ok c.header_and_text.ensures)
+returns c =
+    let h = c.before.before.before.before.before.before in
+    let in_header = c.header_septets-in_header in
+    let fill : in_header.result * 7 - h.header_octets-h.result * 8 ≡ c.fill_bits-fill.result = rw in_header.ensures (sym c.fill_bits-fill.ensures.0) in
+    rw (read_done _ _ h.if-septets-gt255.false h.header_octets-h.ensures.0 c.if-data-h.false in_header.ensures c.if-septets-in_header.false (rw (fill, ← c.octet_count.ensures) c.if-data-h-2.false), fill) (ap Ok c.header_and_text.ensures)

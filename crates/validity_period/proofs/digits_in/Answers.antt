@@ -4,11 +4,13 @@ use native.Mathlib.Omega.{arith}
 use borrow.Author.Tests.{ne_eqb}
 use lib.ListN.{length}
 use lib.Seq.{take_all}
+use Rattle.time.specs.Time.{time_digits}
 use Rattle.validity_period.specs.Validity.{period_size}
 use Rattle.validity_period.proofs.digits_in.Goals as goal
 
 pub returns-then-format-ne-VALIDITY_PERIOD_FORMAT_ABSOLUTE : goal.returns-then-format-ne-VALIDITY_PERIOD_FORMAT_ABSOLUTE
-returns-then-format-ne-VALIDITY_PERIOD_FORMAT_ABSOLUTE c = rw (ne_eqb _ 3 c.if-format-ne-VALIDITY_PERIOD_FORMAT_ABSOLUTE.true) c.no_time.ensures
+unfolding time_digits
+returns-then-format-ne-VALIDITY_PERIOD_FORMAT_ABSOLUTE c = rw (ne_eqb _ 3 c.if-format-ne-VALIDITY_PERIOD_FORMAT_ABSOLUTE.true) c.default.ensures
 
 pub time_at-requires : goal.time_at-requires
 unfolding period_size

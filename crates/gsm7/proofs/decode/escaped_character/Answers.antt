@@ -1,39 +1,25 @@
--- `gsm7::decode::escaped_character` meets its contract: the extension table is searched from the front, by code, then the default alphabet.
+-- `gsm7::decode::escaped_character` meets its contract: the first row of the extension table with the code.
+use Rattle.std.proofs.Common.{rules}
+use Rattle.std.proofs.lemmas.Iterator.{first_from_find, YieldsList-from_slice}
+use Rattle.std.specs.Prelude.{None, Some, MatchOption, Option as Maybe}
 use Prim.Native.Nat.{ℕ}
-use mathlib.Core.Path.{◌≡◌, refl, ◌∙◌}
-use mathlib.Core.Option.{none, some}
-use native.Mathlib.Omega.{arith}
-use Rattle.gsm7.specs.declared.decode.AfterEscape.{AfterEscape}
+use borrow.Author.Tests.{tests}
+use denote.Ref.{Bor}
+use mathlib.Core.Path.{◌≡◌}
 use Rattle.gsm7.specs.declared.decode.Extension.{Extension}
-use Rattle.gsm7.specs.Alphabet.{extension, row_with, character, escaped, replaced}
-use Rattle.gsm7.proofs.Rows.{row_here, row_next, row_end}
+use Rattle.gsm7.specs.Alphabet.{extension, character_of, extension_character}
+use Rattle.gsm7.proofs.Rows.{Other, seen, row_found}
 use Rattle.gsm7.proofs.decode.escaped_character.Goals as goal
 
-abbrev Is : ℕ → ℕ → ℕ → Type 0
-Is code c n = ◌≡◌ {A = AfterEscape} (record { character = c; replaced = n }) (record { character = escaped code; replaced = replaced code })
-
-found : (code : ℕ) {e : Extension} → row_with (λ (e : Extension). e.code) code extension ≡ some e → Is code e.character 0
-unfolding escaped replaced
-found code p = rw p
-
-missed : (code : ℕ) {c : ℕ} → c ≡ character code → row_with (λ (e : Extension). e.code) code extension ≡ none → Is code c 1
-unfolding escaped replaced
-missed code e p = rw (e, p)
-
-pub returns-then-e-code : goal.returns-then-e-code
-returns-then-e-code c =
-    let l = c.loop-i in
-    found _ (l.invariant ∙ row_here (λ (e : Extension). e.code) _ extension l.i (omega arith) c.extension_row-e.ensures c.if-e-code.true)
-
-pub loop-i-preserved : goal.loop-i-preserved
-loop-i-preserved c =
-    let l = c.loop-i in
-    l.invariant ∙ row_next (λ (e : Extension). e.code) _ extension l.i (omega arith) c.extension_row-e.ensures c.if-e-code.false
-
-pub default_character-requires : goal.default_character-requires
-default_character-requires c = c.requires
+-- the character of the row that is seen
+shown : (row : Maybe (Bor Extension)) (c : Maybe ℕ) → MatchOption row (c ≡ None) (λ e. c ≡ Some e.now.character) → c ≡ character_of (seen row)
+shown None c e = e
+shown (Some r) c e = e
 
 pub returns : goal.returns
+unfolding extension_character
 returns c =
-    let l = c.loop-i in
-    missed _ c.default_character.ensures (l.invariant ∙ row_end (λ (e : Extension). e.code) _ extension l.i (omega arith))
+    let code = c.args.code in
+    let found = row_found (λ (e : Extension). e.code) code extension c.find.result
+    (first_from_find _ _ c.find.result (λ e. e.code ≡ code) (Other (λ (e : Extension). e.code) code) c.find.ensures.ran (YieldsList-from_slice extension cc) (λ x q k. search (rules, tests)) (λ x q k. search (rules, tests))) in
+    rw found (shown c.find.result c.map.result (search rules))

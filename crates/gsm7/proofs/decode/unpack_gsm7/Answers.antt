@@ -1,15 +1,20 @@
--- `gsm7::decode::unpack_gsm7` meets its contract, by the definition's two tests.
-use Rattle.std.specs.Prelude.{Ok}
-use mathlib.Core.Path.{sym, ap, ◌∙◌}
-use native.Mathlib.Nat.{zero-add}
-use Rattle.gsm7.proofs.Reading.{unpacked_long, unpacked_few, unpacked_done}
+-- `gsm7::decode::unpack_gsm7` meets its contract: what the test of the count refuses, else the text.
+use Rattle.std.specs.Prelude.{Ok, Err}
+use Rattle.std.proofs.lemmas.Result.{err_from_is_err_and}
+use mathlib.Core.Path.{◌≡◌, sym, ap, ◌∙◌}
+use Rattle.gsm7.specs.Reading.{unpacked}
+use Rattle.gsm7.proofs.Reading.{counted_not, counted_ok, unpacked_long, unpacked_few, unpacked_done}
 use Rattle.gsm7.proofs.decode.unpack_gsm7.Goals as goal
 
-pub returns-then-septets-gt255 : goal.returns-then-septets-gt255
-returns-then-septets-gt255 c = sym (unpacked_long _ _ _ c.if-septets-gt255.true)
+pub returns-in_err-check_count : goal.returns-in_err-check_count
+returns-in_err-check_count c =
+    let os = c.args.«data».now in
+    let n = c.args.septets in
+    let p = err_from_is_err_and c.from_residual.result c.from_residual.ensures.1 in
+    rw (p.1, p.2) (counted_not os n (λ why. Err why ≡ unpacked os 0 n) (λ h. sym (unpacked_long os 0 n h)) (λ h k. sym (unpacked_few os 0 n h k)) _ c.in_err-check_count.ensures)
 
-pub returns-then-data-septets : goal.returns-then-data-septets
-returns-then-data-septets c = sym (unpacked_few _ _ _ c.if-septets-gt255.false (rw zero-add c.if-data-septets.true))
+pub whole_text-requires : goal.whole_text-requires
+whole_text-requires c = (counted_ok _ _ _ c.in_ok-check_count.ensures).0
 
 pub returns : goal.returns
-returns c = ap Ok c.whole_text.ensures ∙ sym (unpacked_done _ _ _ c.if-septets-gt255.false (rw zero-add c.if-data-septets.false))
+returns c = let there = counted_ok _ _ _ c.in_ok-check_count.ensures in ap Ok c.whole_text.ensures ∙ sym (unpacked_done _ _ _ there.0 there.1)

@@ -1,17 +1,12 @@
 -- `gsm7::packing::pack_septets` meets its contract: the scan tells the septets, and those that fit the array are packed.
-use Prim.Native.Nat.{ℕ, ◌≤◌}
-use mathlib.Core.Path.{◌≡◌, refl, ap, sym, subst, ◌∙◌}
-use mathlib.Core.List.{List}
-use mathlib.Core.Option.{some}
+use mathlib.Core.Path.{sym, subst}
 use native.Mathlib.Omega.{arith}
-use lib.ListN.{length, take, replicate}
-use lib.Seq.{sets, length-sets, length-take-le}
-use Rattle.std.specs.Prelude.{Ok}
+use lib.ListN.{replicate}
+use lib.Seq.{length-take-le}
 use Rattle.std.proofs.lemmas.Result.{err_from_is_err_and}
 use Rattle.octets.proofs.Laws.{lent_refused}
 use Rattle.septets.specs.Septets.{Digits}
 use Rattle.gsm7.specs.Writing.{septets_of}
-use Rattle.gsm7.specs.Internal.{ScannedAs}
 use Rattle.gsm7.proofs.Adequate.{septets_digits}
 use Rattle.gsm7.proofs.Scanning.{scanned_not, scanned_codes, codes_long, codes_first}
 use Rattle.gsm7.proofs.PackingCases.{packing_none, packing_some, packing_many}

@@ -6,21 +6,15 @@ use Rattle.octets.proofs.Laws.{wrote_then, kept_by}
 use Rattle.septets.proofs.Inverse.{length_packed}
 use Rattle.gsm7.proofs.packing.put_packed.Goals as goal
 
-pub overflow_mul-fill : goal.overflow_mul-fill
-overflow_mul-fill c = omega (arith, c.header_septets.ensures)
-
-pub overflow_sub-fill : goal.overflow_sub-fill
-overflow_sub-fill c = omega (arith, c.header_septets.ensures)
-
 pub put_octets-at-requires : goal.put_octets-at-requires
 put_octets-at-requires c = omega (arith, rw length-append at c.requires.3)
 
 pub pack_octets-requires : goal.pack_octets-requires
 pack_octets-requires c =
     let pre = c.requires in
-    let before = c.header_septets.ensures in
     let w = c.put_octets-at.ensures in
-    (omega (arith, before), pre.1, pre.2, rw (before, w.place, zero-add, kept_by w) (rw (length-append, length_packed) at pre.3))
+    let fill = c.fill_bits-fill.ensures in
+    (omega (arith, fill.1), pre.1, pre.2, rw (fill.0, w.place, zero-add, kept_by w) (rw (length-append, length_packed) at pre.3))
 
 pub returns : goal.returns
-returns c = wrote_then c.put_octets-at.ensures (rw c.header_septets.ensures at c.pack_octets.ensures)
+returns c = wrote_then c.put_octets-at.ensures (rw c.fill_bits-fill.ensures.0 at c.pack_octets.ensures)

@@ -1,14 +1,16 @@
 -- `header_elements::HeaderElements::encode` meets its contract: each answer is a case of what the writer makes.
-use Rattle.std.specs.Prelude.{Err}
-use Prim.Native.Nat.{ℕ, ◌+◌, ◌*◌, ◌≤◌}
+use Prim.Native.Nat.{ℕ, ◌+◌, ◌-◌, ◌*◌, ◌≤◌}
 use mir.Syntax.{w8}
 use mir.Val.{Fits}
 use mathlib.Core.Path.{◌≡◌, sym, ◌∙◌}
-use mathlib.Core.List.{◌∷◌}
+use mathlib.Core.List.{List, ◌∷◌}
 use native.Mathlib.Omega.{arith}
 use borrow.Author.Rules.{rules}
-use lib.ListN.{length, get_or, take}
-use Rattle.octets.proofs.Laws.{lent_refused, lent_short, lent_written, wrote_then, kept_by}
+use lib.ListN.{length, get_or, set, take, drop, length-drop, length-set}
+use lib.Seq.{length-take-le}
+use borrow.Rule.Slice.PartMut.{put_mid}
+use Rattle.octets.specs.Lent.{Wrote}
+use Rattle.octets.proofs.Laws.{lent_refused, lent_short, lent_written, set_part}
 use Rattle.header_elements.specs.declared.HeaderElements.{HeaderElements}
 use Rattle.header_elements.specs.Elements.{joined, header_of}
 use Rattle.header_elements.specs.Order.{ordered}
@@ -50,35 +52,43 @@ typed c = (search rules, search rules, search rules, λ i. (octet i).fits)
     octet : (i : ℕ) → Fits w8 (get_or c.args.self.identifiers i 0)
     octet i = search rules
 
-pub returns-then-count-gt127 : goal.returns-then-count-gt127
-returns-then-count-gt127 c = lent_refused _ _ (too_many _ c.if-count-gt127.true)
+-- the octets after the first, and with it
+body_size : (n : ℕ) (out : List ℕ) → n + 1 ≤ length out → length (take (n + 1 - 1) (drop 1 (set out 0 n))) ≡ n
+body_size n out h = let e : n + 1 - 1 ≡ n = omega arith in rw e (length-take-le n _ (rw (length-drop, length-set) (omega arith)))
 
-pub returns-then-needed-gt255 : goal.returns-then-needed-gt255
-returns-then-needed-gt255 c =
-    let t : Typed c.args.self = typed (goal.at.returns-then-needed-gt255 c).Start in
-    lent_refused _ _ (makes_none _ (omega (arith, is_needed c.args.self t c.if-count-gt127.false _ c.octets_needed-needed.ensures, c.if-needed-gt255.true)))
+stored : (n : ℕ) (out body : List ℕ) → length body ≡ n → n + 1 ≤ length out → Wrote 0 (n ∷ body) out (n + 1) (put_mid 1 (n + 1 - 1) (set out 0 n) body)
+stored n out body e h =
+    let k : n + 1 - 1 ≡ length body = omega arith in
+    record { place = omega arith; list = rw k (set_part 1 (set out 0 n) body (rw length-set (omega arith))) }
+
+pub returns-then-count-gt-MAX_ELEMENTS : goal.returns-then-count-gt-MAX_ELEMENTS
+returns-then-count-gt-MAX_ELEMENTS c = lent_refused _ _ (too_many _ c.if-count-gt-MAX_ELEMENTS.true)
+
+pub returns-then-needed-gt-MAX_OCTETS : goal.returns-then-needed-gt-MAX_OCTETS
+returns-then-needed-gt-MAX_OCTETS c =
+    let t : Typed c.args.self = typed (goal.at.returns-then-needed-gt-MAX_OCTETS c).Start in
+    lent_refused _ _ (makes_none _ (omega (arith, is_needed c.args.self t c.if-count-gt-MAX_ELEMENTS.false _ c.octets_needed-needed.ensures, c.if-needed-gt-MAX_OCTETS.true)))
 
 pub returns-then-out-size : goal.returns-then-out-size
 returns-then-out-size c =
     let t : Typed c.args.self = typed (goal.at.returns-then-out-size c).Start in
     let h : c.octets_needed-needed.result ≤ 255 = omega arith in
-    lent_short _ (makes _ (fits c.args.self t c.if-count-gt127.false _ c.octets_needed-needed.ensures h)) (omega (arith, size c.args.self t c.if-count-gt127.false _ c.octets_needed-needed.ensures h, c.if-out-size.true))
+    lent_short _ (makes _ (fits c.args.self t c.if-count-gt-MAX_ELEMENTS.false _ c.octets_needed-needed.ensures h)) (omega (arith, size c.args.self t c.if-count-gt-MAX_ELEMENTS.false _ c.octets_needed-needed.ensures h, c.if-out-size.true))
 
-pub put_ordered-requires : goal.put_ordered-requires
+pub put_elements-requires : goal.put_elements-requires
 unfolding list_of
-put_ordered-requires c =
+put_elements-requires c =
     let r = c.args.self in
-    let t : Typed c.args.self = typed (goal.at.put_ordered-requires c).Start in
-    let few = c.if-count-gt127.false in
+    let t : Typed c.args.self = typed (goal.at.put_elements-requires c).Start in
+    let few = c.if-count-gt-MAX_ELEMENTS.false in
     let counted = c.octets_needed-needed.ensures in
     let h : c.octets_needed-needed.result ≤ 255 = omega arith in
-    let w = c.put_octet-place.ensures in
     let fit = fits r t few _ counted h in (
       same_count r t fit,
-      omega (arith, identifiers_are r t few),
-      omega (arith, is_needed r t few _ counted),
+      omega (arith, identifiers_are r t few, counted),
       values_fit r t fit,
-      omega (arith, octets r t few _ counted h, w.place, kept_by w, c.if-out-size.false),
+      rw (body_size _ _ c.if-out-size.false) h,
+      body_size _ _ c.if-out-size.false ∙ sym (octets r t few _ counted h),
     )
 
 pub returns : goal.returns
@@ -86,8 +96,8 @@ unfolding list_of
 returns c =
     let r = c.args.self in
     let t : Typed c.args.self = typed (goal.at.returns c).Start in
-    let few = c.if-count-gt127.false in
+    let few = c.if-count-gt-MAX_ELEMENTS.false in
     let counted = c.octets_needed-needed.ensures in
     let h : c.octets_needed-needed.result ≤ 255 = omega arith in
-    let w = wrote_then c.put_octet-place.ensures c.put_ordered.ensures in
-    lent_written _ (makes r (fits r t few _ counted h)) (omega (arith, size r t few _ counted h, c.if-out-size.false)) (rw (whole r t few _ counted h) at w)
+    let w = stored _ _ (joined (ordered (list_of r))) (octets r t few _ counted h) c.if-out-size.false in
+    lent_written _ (makes r (fits r t few _ counted h)) (omega (arith, size r t few _ counted h, c.if-out-size.false)) (rw c.put_elements.ensures (rw (whole r t few _ counted h) at w))

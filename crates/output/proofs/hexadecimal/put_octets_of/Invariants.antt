@@ -1,5 +1,4 @@
 use Prim.Native.Nat.{◌+◌, ◌*◌}
-use mathlib.Core.Path.{◌≡◌}
 use lib.ListN.{length, drop}
 use lib.Seq.{sets}
 use Rattle.octets.proofs.Laws.{Left}
@@ -8,4 +7,4 @@ use Rattle.output.proofs.hexadecimal.put_octets_of.Given as goal
 
 abbrev pub invariant-loop-i : goal.invariant-loop-i
 invariant-loop-i l =
-    (length l.out ≡ length l.initial.out) × Left (sets l.initial.out 0 (octets_of l.text)) (0 + length (octets_of l.text)) l.out l.i (octets_of (drop (2 * l.i) l.text))
+    Left (sets l.initial.out 0 (octets_of l.text)) (0 + length (octets_of l.text)) l.out l.i (octets_of (drop (2 * l.i) l.text))

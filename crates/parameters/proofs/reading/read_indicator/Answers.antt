@@ -1,48 +1,24 @@
--- `parameters::reading::read_indicator` meets its contract: the octets passed and the size of what is left are the indicator's size.
-use mathlib.Core.Path.{sym}
+-- `parameters::reading::read_indicator` meets its contract: the first octet without bit 7 is the indicator's last.
+use mathlib.Core.Path.{◌≡◌, sym, ◌∙◌}
 use native.Mathlib.Omega.{arith}
-use lib.ListN.{drop}
-use Rattle.octets.proofs.Places.{octet_read, octet_ended}
-use Rattle.layout.proofs.Fields.{indicator_positive}
-use Rattle.parameters.proofs.Indicator.{size_whole, size_more, size_end, size_last, indicator_not, indicator_is}
+use Rattle.std.proofs.Common.{rules, tests}
+use Rattle.std.specs.List.{position}
+use Rattle.std.proofs.lemmas.Iterator.{YieldsList-from_slice}
+use Rattle.std.proofs.lemmas.Iterator.Search.{position_from_yields_List}
+use Rattle.parameters.proofs.Indicator.{ends, indicator_not, none_ends, first_ends}
 use Rattle.parameters.proofs.reading.read_indicator.Goals as goal
 
-pub returns-in_default : goal.returns-in_default
-returns-in_default c =
-    let a = c.args in
-    let ended = octet_ended a.«data».now a.place (sym c.in_default.ensures) in
-    indicator_not a.«data».now a.place (omega (arith, indicator_positive (drop a.place.at a.«data».now)))
+pub returns-in_err-octets : goal.returns-in_err-octets
+returns-in_err-octets c = rw c.from_residual.ensures (indicator_not c.args.«data».now c.args.place (omega (arith, c.in_err-octets.ensures.lookup.0)))
 
-pub loop-last-init : goal.loop-last-init
-loop-last-init c =
-    let a = c.args in
-    let first = octet_read a.«data».now a.place (sym c.in-Some.ensures) in
-    (omega arith, omega (arith, first.0, first.2), omega arith)
-
-pub returns-in_default-octet : goal.returns-in_default-octet
-returns-in_default-octet c =
-    let a = c.args in
-    let whole = size_whole a.«data».now a.place (sym c.in-Some.ensures) in
-    let ended = octet_ended a.«data».now (record { at = c.loop-last.at }) (sym c.in_default-octet.ensures) in
-    indicator_not a.«data».now a.place (omega (arith, whole.0, whole.1, size_end a.«data».now c.loop-last.at c.loop-last.last c.loop-last-test.true))
-
-pub loop-last-smaller : goal.loop-last-smaller
-loop-last-smaller c =
-    let a = c.args in
-    let more = octet_read a.«data».now (record { at = c.loop-last.at }) (sym c.in-Some-octet.ensures) in
-    omega (arith, more.0, more.2)
-
-pub loop-last-preserved : goal.loop-last-preserved
-loop-last-preserved c =
-    let a = c.args in
-    let more = octet_read a.«data».now (record { at = c.loop-last.at }) (sym c.in-Some-octet.ensures) in
-    let size = size_more a.«data».now c.loop-last.at c.loop-last.last c.loop-last-test.true more.0 in
-    (omega (arith, more.2), omega (arith, more.0, more.2), rw (more.1, more.2) (omega (arith, size)))
+pub returns-in_err-last : goal.returns-in_err-last
+returns-in_err-last c =
+    let h = c.in_ok-octets.ensures.lookup.0 in
+    let first : c.position.result ≡ position ends c.in_ok-octets.octets.now = position_from_yields_List ends _ _ c.position.result c.position.ensures.ran (YieldsList-from_slice c.in_ok-octets.octets.now cc) (λ x b q k. search (rules, tests)) in
+    rw c.from_residual-in_err-last.ensures (none_ends c.args.«data».now c.args.place h.0 h.2 (sym first ∙ c.in_err-last.was))
 
 pub returns : goal.returns
 returns c =
-    let a = c.args in
-    let e = sym c.in-Some.ensures in
-    let whole = size_whole a.«data».now a.place e in
-    rw (octet_read a.«data».now a.place e).1
-    (indicator_is a.«data».now a.place c.loop-last.at (omega (arith, whole.0, whole.1, size_last a.«data».now c.loop-last.at c.loop-last.last c.loop-last-test.false)) c.loop-last.invariant.1)
+    let h = c.in_ok-octets.ensures.lookup.0 in
+    let first : c.position.result ≡ position ends c.in_ok-octets.octets.now = position_from_yields_List ends _ _ c.position.result c.position.ensures.ran (YieldsList-from_slice c.in_ok-octets.octets.now cc) (λ x b q k. search (rules, tests)) in
+    first_ends c.args.«data».now c.args.place h.0 h.2 (sym first ∙ c.in_ok-last.was)

@@ -7,34 +7,34 @@ use Rattle.relay_address.proofs.RelayAddress.decode.Goals as goal
 pub returns-in_default : goal.returns-in_default
 returns-in_default c = none_there _ (sym c.in_default.ensures)
 
-pub returns-then-length-eq0 : goal.returns-then-length-eq0
-returns-then-length-eq0 c = absent _ (sym c.in-Some.ensures) c.if-length-eq0.true
+pub returns-then-count-eq0 : goal.returns-then-count-eq0
+returns-then-count-eq0 c = absent _ (sym c.in-Some.ensures) c.if-count-eq0.true
 
 pub returns-in_default-octet : goal.returns-in_default-octet
-returns-in_default-octet c = type_missing _ (sym c.in-Some.ensures) c.if-length-eq0.false (sym c.in_default-octet.ensures)
+returns-in_default-octet c = type_missing _ (sym c.in-Some.ensures) c.if-count-eq0.false (sym c.in_default-octet.ensures)
 
 pub returns-in_default-span : goal.returns-in_default-span
 returns-in_default-span c =
-    value_missing _ (sym c.in-Some.ensures) c.if-length-eq0.false (sym c.in-Some-octet.ensures) (sym c.in_default-span.ensures)
+    value_missing _ (sym c.in-Some.ensures) c.if-count-eq0.false (sym c.in-Some-octet.ensures) (sym c.in_default-span.ensures)
 
 pub slice_bounds-digits_text-count : goal.slice_bounds-digits_text-count
 slice_bounds-digits_text-count c =
-    (value_there _ (sym c.in-Some.ensures) c.if-length-eq0.false (sym c.in-Some-octet.ensures) (sym c.in-Some-span.ensures)).0
+    (value_there _ (sym c.in-Some.ensures) c.if-count-eq0.false (sym c.in-Some-octet.ensures) (sym c.in-Some-span.ensures)).0
 
 pub slice_bounds-digits_text-start : goal.slice_bounds-digits_text-start
 slice_bounds-digits_text-start c =
-    (value_there _ (sym c.in-Some.ensures) c.if-length-eq0.false (sym c.in-Some-octet.ensures) (sym c.in-Some-span.ensures)).0
+    (value_there _ (sym c.in-Some.ensures) c.if-count-eq0.false (sym c.in-Some-octet.ensures) (sym c.in-Some-span.ensures)).0
 
 pub slice_bounds-digits_text-end : goal.slice_bounds-digits_text-end
 slice_bounds-digits_text-end c =
-    (value_there _ (sym c.in-Some.ensures) c.if-length-eq0.false (sym c.in-Some-octet.ensures) (sym c.in-Some-span.ensures)).1
+    (value_there _ (sym c.in-Some.ensures) c.if-count-eq0.false (sym c.in-Some-octet.ensures) (sym c.in-Some-span.ensures)).1
 
-pub digits_text-address_length-requires : goal.digits_text-address_length-requires
-digits_text-address_length-requires c =
-    let size = value_size _ (sym c.in-Some.ensures) c.if-length-eq0.false (sym c.in-Some-octet.ensures) (sym c.in-Some-span.ensures) in
+pub digits_text-length-requires : goal.digits_text-length-requires
+digits_text-length-requires c =
+    let size = value_size _ (sym c.in-Some.ensures) c.if-count-eq0.false (sym c.in-Some-octet.ensures) (sym c.in-Some-span.ensures) in
     (omega arith, omega (arith, size))
 
 pub returns : goal.returns
 returns c =
-    all_there _ (sym c.in-Some.ensures) c.if-length-eq0.false (sym c.in-Some-octet.ensures) (sym c.in-Some-span.ensures)
-    (λ i. (c.type_inv.«data» i).fits) (omega arith) c.digits_text-address_length.ensures
+    all_there _ (sym c.in-Some.ensures) c.if-count-eq0.false (sym c.in-Some-octet.ensures) (sym c.in-Some-span.ensures)
+    (λ i. (c.type_inv.«data» i).fits) (omega arith) c.digits_text-length.ensures

@@ -1,6 +1,7 @@
 -- `report::reading::fields_of` meets its contract: first octet and cause, then the rest.
 use mathlib.Core.Path.{sym}
 use Rattle.report.proofs.FieldByField.{refused_found, stopped_found, no_first, other_type, ack_goes_on, error_stops, no_cause, error_goes_on}
+use Rattle.report.proofs.Blank.{default_nothing}
 use Rattle.report.proofs.reading.fields_of.Goals as goal
 
 pub returns-in_default : goal.returns-in_default
@@ -16,7 +17,7 @@ returns-then-first-mti c =
 pub returns-then-first-ne0 : goal.returns-then-first-ne0
 returns-then-first-ne0 c =
     let a = c.args in
-    rw (c.in-RpError.is, c.default.ensures) (stopped_found a.«data».now (error_stops _ a.mti a.has_time (sym c.in-Some.ensures) c.if-first-mti.false c.if-first-ne0.true))
+    rw (c.in-RpError.is, default_nothing _ c.default.ensures) (stopped_found a.«data».now (error_stops _ a.mti a.has_time (sym c.in-Some.ensures) c.if-first-mti.false c.if-first-ne0.true))
 
 pub returns-in_default-octet : goal.returns-in_default-octet
 returns-in_default-octet c =

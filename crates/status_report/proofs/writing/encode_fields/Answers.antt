@@ -2,8 +2,7 @@
 use mathlib.Core.Path.{sym, ◌∙◌}
 use native.Mathlib.Omega.{arith}
 use Rattle.std.proofs.lemmas.Result.{err_from_is_err_and}
-use Rattle.address.proofs.Checks.{fine_small}
-use Rattle.status_report.proofs.CheckByCheck.{rest_is, few, address_against, rest_against, short, written}
+use Rattle.status_report.proofs.CheckByCheck.{rest_is, address_against, rest_against, short, written}
 use Rattle.status_report.proofs.writing.encode_fields.Goals as goal
 
 pub returns-in_err-count : goal.returns-in_err-count
@@ -24,15 +23,6 @@ returns-in_err-check_optional c =
     rw (p.1, p.2)
     (rest_against _ _ _ _ _ _ _ _ _ (sym c.in_ok-count.ensures)
     (rest_is _ c.args.v _ _ _ (sym c.is_time.ensures ∙ c.if-not-is_time.false) (sym c.is_time-2.ensures ∙ c.if-not-is_time-2.false) ∙ sym c.in_err-check_optional.ensures))
-
-pub overflow_add-count : goal.overflow_add-count
-overflow_add-count c = omega (arith, fine_small _ _ _ _ (sym c.in_ok-count.ensures))
-
-pub overflow_add-count-2 : goal.overflow_add-count-2
-overflow_add-count-2 c = omega (arith, fine_small _ _ _ _ (sym c.in_ok-count.ensures))
-
-pub overflow_add-count-3 : goal.overflow_add-count-3
-overflow_add-count-3 c = omega (arith, few c.args.v _ c.requires, fine_small _ _ _ _ (sym c.in_ok-count.ensures))
 
 pub returns-then-out-count : goal.returns-then-out-count
 returns-then-out-count c =

@@ -1,7 +1,7 @@
 -- `submit::reading::after_coding` meets its contract: field by field, as the layout has them.
 use mathlib.Core.Path.{◌≡◌, refl, sym, ◌∙◌}
 use native.Mathlib.Omega.{arith}
-use Rattle.octets.proofs.Places.{octet_read, span_there, span_inside}
+use Rattle.octets.proofs.Places.{octet_read, span_inside}
 use Rattle.coding.specs.Coding.{coding_of}
 use Rattle.coding.proofs.Laws.{size_told}
 use Rattle.user_data_header.specs.Header.{in_count}
@@ -18,13 +18,6 @@ returns-in_default-octet c = (no_udl _ _ _ _ _ _ _ c.validity_octets-validity_oc
 pub returns-in_default-span : goal.returns-in_default-span
 returns-in_default-span c =
     (no_data _ _ _ _ _ _ _ c.validity_octets-validity_octets.ensures.0 (sym c.in-Some.ensures) (sym c.in-Some-octet.ensures) (size_told _ _ c.user_data_octets-octets.ensures c.user_data_coding.ensures) (sym c.in_default-span.ensures), tt)
-
--- the data end after their start
-pub slice_bounds-header_size-count : goal.slice_bounds-header_size-count
-slice_bounds-header_size-count c = omega (arith, span_there _ _ _ (sym c.in-Some-span.ensures))
-
-pub slice_bounds-header_size-start : goal.slice_bounds-header_size-start
-slice_bounds-header_size-start c = omega (arith, span_there _ _ _ (sym c.in-Some-span.ensures))
 
 pub slice_bounds-header_size-end : goal.slice_bounds-header_size-end
 slice_bounds-header_size-end c = (span_inside _ _ _ (sym c.in-Some-span.ensures) (omega (arith, octet_read _ _ (sym c.in-Some-octet.ensures)))).1

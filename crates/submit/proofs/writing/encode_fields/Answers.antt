@@ -1,11 +1,9 @@
 -- `submit::writing::encode_fields` meets its contract: each answer is a case of what the writer makes.
 use mathlib.Core.Path.{◌≡◌, sym, ◌∙◌}
-use native.Mathlib.Omega.{arith}
 use borrow.Author.Rules.{rules}
 use lib.ListN.{length}
 use Rattle.std.proofs.lemmas.Result.{err_from_is_err_and}
-use Rattle.octets.proofs.Laws.{kept_by, lent_refused, lent_short, lent_written}
-use Rattle.address.proofs.Checks.{fine_small}
+use Rattle.octets.proofs.Laws.{lent_refused, lent_short, lent_written}
 use Rattle.submit.proofs.CheckByCheck.{data_against, address_against, no_time, all_made, all_size}
 use Rattle.submit.proofs.writing.encode_fields.Goals as goal
 
@@ -24,12 +22,6 @@ pub returns-then-not-check_period : goal.returns-then-not-check_period
 returns-then-not-check_period c =
     lent_refused _ _ (no_time _ _ _ _ _ _ _ (sym c.in_ok-check_user_data.ensures) (sym c.in_ok-count.ensures) (sym c.check_period.ensures ∙ c.if-not-check_period.true))
 
-pub overflow_add-count : goal.overflow_add-count
-overflow_add-count c = omega (arith, fine_small _ _ _ _ (sym c.in_ok-count.ensures))
-
-pub overflow_add-count-4 : goal.overflow_add-count-4
-overflow_add-count-4 c = omega (arith, fine_small _ _ _ _ (sym c.in_ok-count.ensures), c.validity_octets-validity.ensures.1)
-
 pub returns-then-out-count : goal.returns-then-out-count
 returns-then-out-count c =
     let a = c.args in
@@ -38,16 +30,6 @@ returns-then-out-count c =
     let seven : length a.enhanced ≡ 7 = search rules in
     let size = all_size a.v a.number.ton a.number.npi a.number.text.now a.digits.now a.enhanced a.«data».now (sym c.in_ok-check_user_data.ensures) (sym c.in_ok-count.ensures) time seven in
     lent_short _ is_made (rw (size, ← c.format.ensures.0, ← c.validity_octets-validity.ensures.0) c.if-out-count.true)
-
-pub put_fields-requires : goal.put_fields-requires
-put_fields-requires c =
-    let a = c.args in
-    let time = sym c.check_period.ensures ∙ c.if-not-check_period.false in
-    let seven : length a.enhanced ≡ 7 = search rules in
-    (sym c.in_ok-count.ensures, time, seven, rw (← c.format.ensures.0, ← c.validity_octets-validity.ensures.0) c.if-out-count.false)
-
-pub shape_of-out : goal.shape_of-out
-shape_of-out c = kept_by c.put_fields.ensures
 
 pub returns : goal.returns
 returns c =

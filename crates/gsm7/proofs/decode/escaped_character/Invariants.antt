@@ -1,9 +1,0 @@
-use mathlib.Core.Path.{◌≡◌}
-use lib.ListN.{drop}
-use Rattle.gsm7.specs.declared.decode.Extension.{Extension}
-use Rattle.gsm7.specs.Alphabet.{extension, row_with}
-use Rattle.gsm7.proofs.decode.escaped_character.Given as goal
-
-abbrev pub invariant-loop-i : goal.invariant-loop-i
-invariant-loop-i l =
-    row_with (λ (e : Extension). e.code) l.code extension ≡ row_with (λ (e : Extension). e.code) l.code (drop l.i extension)
