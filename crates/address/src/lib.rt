@@ -96,6 +96,7 @@ pub fn address_span(data: &[u8], place: Place) -> Option<(usize, Place)>
 }
 
 // The address field that starts at `at`.
+#[inline(always)]
 pub fn address_at(data: &[u8], at: usize) -> AddressRead
     requires { at + address_size (drop at «data».now) ≤ length «data».now }
     ensures { (result.address ≡ address_in (take (address_size (drop at «data».now)) (drop at «data».now))) × (result.replaced ≡ replaced_in (septets_read (take (address_size (drop at «data».now)) (drop at «data».now)))) }

@@ -79,9 +79,11 @@ pub fn put_octets(out: &mut [u8], at: usize, octets: &[u8]) -> usize
     requires { at + length octets.now ≤ length out.old }
     ensures { Wrote at octets.now out.old result out.new }
 {
-    let end = at + octets.len();
-    out[at..end].copy_from_slice(octets);
-    end
+    // By place: of what a zip of `iter_mut` wrote nothing can be proved, and `copy_from_slice` calls the C library's `memmove`.
+    for (i, octet) in octets.iter().enumerate() {
+        out[at + i] = *octet;
+    }
+    at + octets.len()
 }
 
 // Writes one octet at `at`; the place after it.

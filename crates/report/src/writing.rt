@@ -51,6 +51,7 @@ fn time_holds(digits: Option<&[u8]>) -> bool
 
 // Writes the values to the start of a lent output, user data within a limit: checks in order, then the size, then the
 // octets.
+#[inline(always)]
 pub fn encode_fields(
     limit: usize,
     v: ReportValues,

@@ -239,25 +239,25 @@ fn fields_of(forms: &Forms) -> usize {
 
 // ---- the keys of a line
 
-// The key that a field gives a value, and the value.
-fn key_and_value(field: &[u8]) -> Option<(Key, &[u8])> {
+// The key that a field gives a value.
+fn key_of(field: &[u8]) -> Option<Key> {
     let end = find(field, 0, b'=')?;
-    let key = Key::named(&field[..end])?;
-    Some((key, &field[end + 1..]))
+    Key::named(&field[..end])
 }
 
-fn key_of(field: &[u8]) -> Option<Key> {
-    let (key, _) = key_and_value(field)?;
-    Some(key)
+// The value that a field gives a key; none where it gives that key none. Held against the one name, since to name the key of
+// each field for each value takes a request to write half as long again.
+fn value_in(field: &[u8], key: Key) -> Option<&[u8]> {
+    field
+        .strip_prefix(key.name().as_bytes())?
+        .strip_prefix(b"=")
 }
 
 // The value of a key; no octets if a line has none.
 pub fn value(line: &[u8], key: Key) -> &[u8] {
     for field in Fields::of(line) {
-        if let Some((k, value)) = key_and_value(field) {
-            if k == key {
-                return value;
-            }
+        if let Some(value) = value_in(field, key) {
+            return value;
         }
     }
     b""
@@ -279,7 +279,7 @@ fn check_key(forms: &Forms, line: &[u8], i: usize, field: &[u8]) -> Result<(), R
     if !has_key(forms, key) {
         return Err(Reason::UnknownKey);
     }
-    if Fields::of(line).position(|other| key_of(other) == Some(key)) != Some(i) {
+    if Fields::of(line).position(|other| value_in(other, key).is_some()) != Some(i) {
         return Err(Reason::KeyGivenTwice);
     }
     Ok(())
