@@ -4,7 +4,7 @@ use Rattle.std.specs.Prelude.{Ok, Err}
 use Rattle.octets.specs.Answers.{Said}
 use Rattle.std.specs.Prelude.{Err}
 use Prim.Native.Nat.{ℕ, ◌+◌, ◌*◌, ◌/◌, ◌%◌, ◌≤◌}
-use mathlib.Core.Path.{sym, subst, ◌≡◌, refl, ap}
+use mathlib.Core.Path.{sym, subst, ◌≡◌, refl}
 use mathlib.Core.Bool.{Bool, true, false}
 use mathlib.Core.List.{List, [], ◌∷◌, ◌++◌}
 use mathlib.Core.Logic.{◌↔◌}
@@ -13,13 +13,11 @@ use borrow.Author.Tests.{le-ltb, ltb-false}
 use lib.Dec.{ltb}
 use lib.IntN.{ℤ, pos, negsuc, nat_abs}
 use Rattle.octets.specs.Each.{each}
-use Rattle.octets.specs.declared.Refusal.TheVariants.{CalendarOutOfRange, ZoneOutOfRange}
 use Rattle.octets.proofs.Choice.{leb_means, and_means, within_means}
 use Rattle.time.proofs.Laws.{octet_digits, pair_hex}
 use Rattle.time.specs.Internal.{decimal_octet}
 use Rattle.time.specs.Time.{is_hex, time_digits, is_time}
 use Rattle.octets.proofs.Checks.{never}
-use Rattle.octets.proofs.Places.{given}
 use Rattle.time.specs.Timestamp.{in_calendar, two_digits, zone_sign, timestamp}
 
 two : (value : ℕ) → value ≤ 99 → (octets : List ℕ) → time_digits (decimal_octet value ∷ octets) ≡ two_digits value ++ time_digits octets

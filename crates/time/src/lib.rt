@@ -47,7 +47,8 @@ pub fn encode_time(digits: &[u8], out: &mut [u8], at: usize) -> usize
     requires { (is_time digits.now ≡ true) × (at + 7 ≤ length out.old) }
     ensures { Wrote at (time_octets digits.now) out.old result out.new }
 {
-    let (pairs, _) = digits.as_chunks::<2>();
+    // With their number seven, which is known in compiling: without it writing a report with a time takes half as long again.
+    let (pairs, _) = digits[..14].as_chunks::<2>();
     // By place: octets from `at` on and pairs of digits, zipped, would name the same seven places twice.
     for (i, &[first, second]) in pairs.iter().enumerate() {
         out[at + i] = hex_value(first) + 16 * hex_value(second);
