@@ -43,6 +43,7 @@ pub fn is_time(digits: &[u8]) -> bool
 }
 
 // Writes the seven octets of a time from `at` on; the place after them.
+#[inline(always)]
 pub fn encode_time(digits: &[u8], out: &mut [u8], at: usize) -> usize
     requires { (is_time digits.now ≡ true) × (at + 7 ≤ length out.old) }
     ensures { Wrote at (time_octets digits.now) out.old result out.new }
