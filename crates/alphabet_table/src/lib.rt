@@ -6,7 +6,7 @@ ghost use Rattle.octets.specs.Lent.{Wrote, made, lend};
 ghost use Rattle.gsm7.specs.Alphabet.{alphabet, extension};
 ghost use Rattle.alphabet_table.specs.AlphabetLines.{line_of, septet_lines, escape_lines, alphabet_lines};
 
-use gsm7::decode::{ALPHABET, EXTENSION};
+use gsm7::decode::{extension_row, ALPHABET};
 use octets::Refusal;
 use time::hex_digit;
 
@@ -49,7 +49,8 @@ fn put_escapes(out: &mut [u8], at: usize) -> usize
     ensures { Wrote at (escape_lines extension) out.old result out.new }
 {
     let mut next = at;
-    for row in &EXTENSION {
+    for place in 0..10 {
+        let row = extension_row(place);
         next = octets::put_octets(out, next, b"1B");
         next = put_line(out, next, row.code, row.character);
     }

@@ -1,7 +1,7 @@
 // GSM 7-bit default alphabet text (TS 23.038 §6.2.1), read: the two tables, and the text of septets.
-ghost use Rattle.std.specs.Prelude.{◌≡◌, ℕ, ◌+◌, ◌%◌, ◌<◌, ◌≤◌, List, [], ◌∷◌, length};
+ghost use Rattle.std.specs.Prelude.{◌≡◌, ℕ, ◌+◌, ◌%◌, ◌<◌, ◌≤◌, List, [], ◌∷◌, length, get_or};
 ghost use Rattle.octets.specs.Lent.{Wrote};
-ghost use Rattle.gsm7.specs.Alphabet.{character, extension_character};
+ghost use Rattle.gsm7.specs.Alphabet.{extension, row, character, extension_character};
 ghost use Rattle.septets.specs.Septets.{septets_in, in_window};
 ghost use Rattle.gsm7.specs.Internal.{plain, four_plain, four_characters, written_by, shown_by};
 ghost use Rattle.gsm7.specs.Reading.{utf8, text_of, replaced_in, text_given, counted, unpacked};
@@ -87,6 +87,14 @@ pub struct Unpacked {
 pub struct TextPut {
     pub end: usize,
     pub replaced: usize,
+}
+
+// The row at a place of the extension table.
+pub fn extension_row(place: usize) -> Extension
+    requires { place < 10 }
+    ensures { result ≡ get_or extension place (row 0 0) }
+{
+    EXTENSION[place]
 }
 
 // The character of a code of the default alphabet.

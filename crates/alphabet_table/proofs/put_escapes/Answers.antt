@@ -2,23 +2,21 @@
 use native.Mathlib.Omega.{arith}
 use Rattle.octets.specs.Texts.{codes}
 use Rattle.octets.proofs.Laws.{left_step, left_end, wrote_then}
-use mathlib.Core.Path.{refl}
-use lib.ListN.{get_or}
-use Rattle.gsm7.specs.Alphabet.{extension, row as row_of}
+use Rattle.gsm7.specs.Alphabet.{extension}
 use Rattle.alphabet_table.proofs.Lines.{length_line, escapes_next, escapes_end}
 use Rattle.alphabet_table.proofs.put_escapes.Goals as goal
 
-pub loop-row-preserved : goal.loop-row-preserved
+pub loop-place-preserved : goal.loop-place-preserved
 unfolding codes
-loop-row-preserved c =
-    let l = c.loop-row in
+loop-place-preserved c =
+    let l = c.loop-place in
     let v = c.put_octets-next.ensures in
     let w = c.put_line-next.ensures in
-    let row = get_or extension l.row-index (row_of 0 0) in
-    (omega (arith, v.place, w.place, length_line row.code row.character), left_step _ l.invariant.1 (wrote_then v w) (escapes_next l.row-index extension c.loop-row-test.true refl))
+    let row = c.extension_row-row.result in
+    (omega (arith, v.place, w.place, length_line row.code row.character), left_step _ l.invariant.1 (wrote_then v w) (escapes_next l.place extension c.loop-place-test.true c.extension_row-row.ensures))
 
 pub returns : goal.returns
 returns c =
-    let l = c.loop-row in
-    let e = left_end l.invariant.1 (escapes_end l.row-index extension c.loop-row-test.false) in
+    let l = c.loop-place in
+    let e = left_end l.invariant.1 (escapes_end l.place extension c.loop-place-test.false) in
     record { place = e.0; list = e.1 }
