@@ -41,7 +41,7 @@ fn code_in(entry: u8) -> Option<u8>
 }
 
 // The code of a character of the default alphabet; none where it has no such character.
-fn single_of(c: u16) -> Option<u8>
+pub fn single_of(c: u16) -> Option<u8>
     ensures { code_of c ≡ single_or result (extended_code c) }
 {
     match c {
@@ -152,6 +152,14 @@ pub fn scan_text(text: &[u8], codes: &mut [u8; 255]) -> Result<usize, Refusal>
     let mut i = 0;
     // A `while`: a character is one to three octets of the text, so no range counts them.
     while i < text.len() {
+        let octet = text[i];
+        if octet < 0x80 {
+            if let Some(code) = single_of(octet as u16) {
+                count = add(codes, count, code);
+                i += 1;
+                continue;
+            }
+        }
         let (c, width) = character_at(text, i)?;
         count = add_character(codes, count, c).ok_or(Refusal::NotInAlphabet)?;
         i += width;
