@@ -107,13 +107,16 @@ pub fn default_character(code: u8) -> u16
 }
 
 // The character of a code of the extension table; none where the table has no such code.
+#[inline(always)]
 pub fn escaped_character(code: u8) -> Option<u16>
     ensures { result ≡ extension_character code }
 {
-    EXTENSION
-        .iter()
-        .find(|row| row.code == code)
-        .map(|row| row.character)
+    for row in &EXTENSION {
+        if row.code == code {
+            return Some(row.character);
+        }
+    }
+    None
 }
 
 // The character of a septet of a window.
