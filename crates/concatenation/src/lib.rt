@@ -35,6 +35,18 @@ fn store_part(text: &[u8], from: usize, codes: &mut [u8; 255]) -> Result<(usize,
     let mut i = from;
     // A `while`: a character is one to three octets of the text, so no range counts them.
     while i < text.len() {
+        let octet = text[i];
+        if octet < 0x80 {
+            if let Some(code) = gsm7::encode::single_of(octet as u16) {
+                if 152 < count {
+                    break;
+                }
+                codes[count] = code;
+                count += 1;
+                i += 1;
+                continue;
+            }
+        }
         let (c, width) = gsm7::encode::character_at(text, i)?;
         let next = gsm7::encode::add_character(codes, count, c).ok_or(Refusal::NotInAlphabet)?;
         if 153 < next {
