@@ -6,7 +6,7 @@ ghost use Rattle.octets.specs.Lent.{Wrote, made, lend};
 ghost use Rattle.gsm7.specs.Alphabet.{alphabet, extension};
 ghost use Rattle.alphabet_table.specs.AlphabetLines.{line_of, septet_lines, escape_lines, alphabet_lines};
 
-use gsm7::decode::{extension_row, ALPHABET};
+use gsm7::decode::{ALPHABET, extension_row};
 use octets::Refusal;
 use time::hex_digit;
 

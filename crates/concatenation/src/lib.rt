@@ -35,6 +35,7 @@ fn store_part(text: &[u8], from: usize, codes: &mut [u8; 255]) -> Result<(usize,
     let mut i = from;
     // A `while`: a character is one to three octets of the text, so no range counts them.
     while i < text.len() {
+        // the short way, as in `scan_text` of gsm7
         let octet = text[i];
         if octet < 0x80 {
             if let Some(code) = gsm7::encode::single_of(octet as u16) {

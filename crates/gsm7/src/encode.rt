@@ -152,6 +152,7 @@ pub fn scan_text(text: &[u8], codes: &mut [u8; 255]) -> Result<usize, Refusal>
     let mut i = 0;
     // A `while`: a character is one to three octets of the text, so no range counts them.
     while i < text.len() {
+        // most characters are one octet with one septet: they take the short way, the others the general one
         let octet = text[i];
         if octet < 0x80 {
             if let Some(code) = single_of(octet as u16) {
