@@ -86,63 +86,64 @@ fn put_septets(text: &[u8], out: &mut [u8], at: usize) -> usize
     septets::pack_octets(&codes[..count], 0, out, at)
 }
 
+// Whether a text in septets can be written: its length octet, or the refusal.
+fn check_text(number: Number<'_>) -> Result<usize, Refusal>
+    ensures { result ≡ check_of (limited (text_field 5 number.entry.npi (septets_of number.entry.text.now))) }
+{
+    let mut codes = [0u8; 255];
+    let count = gsm7::encode::scan_text(number.text, &mut codes)?;
+    if 11 < count {
+        return Err(Refusal::AddressTooLong);
+    }
+    Ok((count * 7 + 3) / 4)
+}
+
+// Whether type, plan and text can be written: the length octet, or the refusal. Like `put_address` it is no method of
+// `Number`, since a user of crate tpdu can call those.
+pub fn check_address(number: Number<'_>) -> Result<usize, Refusal>
+    ensures { result ≡ check_of (address_making number.entry.ton number.entry.npi number.entry.text.now) }
+{
+    if 7 < number.ton {
+        return Err(Refusal::NumberTypeOrPlanTooLarge);
+    }
+    if 15 < number.npi {
+        return Err(Refusal::NumberTypeOrPlanTooLarge);
+    }
+    if number.ton == TYPE_OF_NUMBER_ALPHANUMERIC {
+        return check_text(number);
+    }
+    if !all_digits(number.text) {
+        return Err(Refusal::NotInAlphabet);
+    }
+    if 20 < number.text.len() {
+        return Err(Refusal::AddressTooLong);
+    }
+    Ok(number.text.len())
+}
+
+// Writes an address that was checked, with the length octet that the check told; the place after it.
+pub fn put_address(number: Number<'_>, count: usize, out: &mut [u8], at: usize) -> usize
+    requires { (check_of (address_making number.ton number.npi number.text.now) ≡ Ok count) × (at + 2 + (count + 1) / 2 ≤ length out.old) }
+    ensures { Wrote at (octets_or [] (address_octets number.entry.ton number.entry.npi number.entry.text.now)) out.old result out.new }
+{
+    out[at] = count as u8;
+    out[at + 1] = 128 + number.ton * 16 + number.npi;
+    if number.ton == TYPE_OF_NUMBER_ALPHANUMERIC {
+        return put_septets(number.text, out, at + 2);
+    }
+    put_digits(number.text, out, at + 2)
+}
+
 impl Number<'_> {
-    // Whether a text in septets can be written: its length octet, or the refusal.
-    fn check_text(self) -> Result<usize, Refusal>
-        ensures { result ≡ check_of (limited (text_field 5 self.entry.npi (septets_of self.entry.text.now))) }
-    {
-        let mut codes = [0u8; 255];
-        let count = gsm7::encode::scan_text(self.text, &mut codes)?;
-        if 11 < count {
-            return Err(Refusal::AddressTooLong);
-        }
-        Ok((count * 7 + 3) / 4)
-    }
-
-    // Whether type, plan and text can be written: the length octet, or the refusal.
-    pub fn check(self) -> Result<usize, Refusal>
-        ensures { result ≡ check_of (address_making self.entry.ton self.entry.npi self.entry.text.now) }
-    {
-        if 7 < self.ton {
-            return Err(Refusal::NumberTypeOrPlanTooLarge);
-        }
-        if 15 < self.npi {
-            return Err(Refusal::NumberTypeOrPlanTooLarge);
-        }
-        if self.ton == TYPE_OF_NUMBER_ALPHANUMERIC {
-            return self.check_text();
-        }
-        if !all_digits(self.text) {
-            return Err(Refusal::NotInAlphabet);
-        }
-        if 20 < self.text.len() {
-            return Err(Refusal::AddressTooLong);
-        }
-        Ok(self.text.len())
-    }
-
-    // Writes an address that was checked, with the length octet that the check told; the place after it.
-    pub fn put(self, count: usize, out: &mut [u8], at: usize) -> usize
-        requires { (check_of (address_making self.ton self.npi self.text.now) ≡ Ok count) × (at + 2 + (count + 1) / 2 ≤ length out.old) }
-        ensures { Wrote at (octets_or [] (address_octets self.entry.ton self.entry.npi self.entry.text.now)) out.old result out.new }
-    {
-        out[at] = count as u8;
-        out[at + 1] = 128 + self.ton * 16 + self.npi;
-        if self.ton == TYPE_OF_NUMBER_ALPHANUMERIC {
-            return put_septets(self.text, out, at + 2);
-        }
-        put_digits(self.text, out, at + 2)
-    }
-
     // Writes type, plan and text to the start of a lent output.
     pub fn encode(self, out: &mut [u8]) -> Result<usize, Refusal>
         ensures { (result, out.new) ≡ lend (address_making self.entry.ton self.entry.npi self.entry.text.now) out.old }
     {
-        let count = self.check()?;
+        let count = check_address(self)?;
         let needed = 2 + (count + 1) / 2;
         if out.len() < needed {
             return Err(Refusal::OutputTooShort);
         }
-        Ok(self.put(count, out, 0))
+        Ok(put_address(self, count, out, 0))
     }
 }

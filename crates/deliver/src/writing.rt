@@ -32,7 +32,7 @@ fn put_fields(
     ensures { Wrote 0 (octets_in v number.entry.ton number.entry.npi number.entry.text.now digits.now «data».now) out.old result out.new }
 {
     let p1 = octets::put_octet(out, 0, v.first);
-    let p2 = number.put(count, out, p1);
+    let p2 = address::writing::put_address(number, count, out, p1);
     let p3 = octets::put_octet(out, p2, v.pid);
     let p4 = octets::put_octet(out, p3, v.dcs);
     let p5 = time::encode_time(digits, out, p4);
@@ -52,7 +52,7 @@ pub fn encode_fields(
     ensures { (result, out.new) ≡ lend (making v number.entry.ton number.entry.npi number.entry.text.now digits.now «data».now) out.old }
 {
     coding::check_user_data(v.dcs, v.udl, data.len())?;
-    let count = number.check()?;
+    let count = address::writing::check_address(number)?;
     if !time::is_time(digits) {
         return Err(Refusal::NotATime);
     }

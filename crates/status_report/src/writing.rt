@@ -73,7 +73,7 @@ fn put_fields(
 {
     let p1 = octets::put_octet(out, 0, v.first);
     let p2 = octets::put_octet(out, p1, v.mr);
-    let p3 = number.put(count, out, p2);
+    let p3 = address::writing::put_address(number, count, out, p2);
     put_after_address(v, scts, dt, data, out, p3)
 }
 
@@ -92,7 +92,7 @@ pub fn encode_fields(
     requires { length «data».now ≤ 255 }
     ensures { (result, out.new) ≡ lend (making limit v number.entry.ton number.entry.npi number.entry.text.now scts.now dt.now «data».now) out.old }
 {
-    let count = number.check()?;
+    let count = address::writing::check_address(number)?;
     if !time::is_time(scts) {
         return Err(Refusal::NotATime);
     }

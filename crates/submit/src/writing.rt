@@ -38,7 +38,7 @@ fn put_fields(
     let period = v.period;
     let p1 = octets::put_octet(out, 0, v.first);
     let p2 = octets::put_octet(out, p1, v.mr);
-    let p3 = number.put(count, out, p2);
+    let p3 = address::writing::put_address(number, count, out, p2);
     let p4 = octets::put_octet(out, p3, v.pid);
     let p5 = octets::put_octet(out, p4, v.dcs);
     let p6 = validity_period::put_period(period, digits, enhanced, out, p5);
@@ -60,7 +60,7 @@ pub fn encode_fields(
 {
     let period = v.period;
     coding::check_user_data(v.dcs, v.udl, data.len())?;
-    let count = number.check()?;
+    let count = address::writing::check_address(number)?;
     if !validity_period::check_period(period, digits) {
         return Err(Refusal::NotATime);
     }

@@ -4,5 +4,5 @@ use Rattle.deliver.proofs.writing.put_fields.Goals as goal
 
 pub returns : goal.returns
 returns c =
-    wrote_then c.put_octet-p1.ensures (wrote_then c.put-p2.ensures (wrote_then c.put_octet-p3.ensures (wrote_then c.put_octet-p4.ensures
+    wrote_then c.put_octet-p1.ensures (wrote_then c.put_address-p2.ensures (wrote_then c.put_octet-p3.ensures (wrote_then c.put_octet-p4.ensures
     (wrote_then c.encode_time-p5.ensures (wrote_then c.put_octet-p6.ensures c.put_octets.ensures)))))

@@ -4,4 +4,4 @@ use Rattle.status_report.proofs.writing.put_fields.Goals as goal
 
 pub returns : goal.returns
 returns c =
-    wrote_then c.put_octet-p1.ensures (wrote_then c.put_octet-p2.ensures (wrote_then c.put-p3.ensures c.put_after_address.ensures))
+    wrote_then c.put_octet-p1.ensures (wrote_then c.put_octet-p2.ensures (wrote_then c.put_address-p3.ensures c.put_after_address.ensures))

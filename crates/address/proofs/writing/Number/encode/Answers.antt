@@ -22,13 +22,13 @@ returns-then-out-needed c =
     let f = sym c.in_ok-count.ensures in
     lent_short _ (fine_made _ _ _ _ f) (rw (fine_size _ _ _ _ f) c.if-out-needed.true)
 
-pub put-requires : goal.put-requires
-put-requires c = (sym c.in_ok-count.ensures, omega arith)
+pub put_address-requires : goal.put_address-requires
+put_address-requires c = (sym c.in_ok-count.ensures, omega arith)
 
 pub shape_of-out : goal.shape_of-out
-shape_of-out c = kept_by c.put.ensures
+shape_of-out c = kept_by c.put_address.ensures
 
 pub returns : goal.returns
 returns c =
     let f = sym c.in_ok-count.ensures in
-    lent_written _ (fine_made _ _ _ _ f) (rw (fine_size _ _ _ _ f) c.if-out-needed.false) c.put.ensures
+    lent_written _ (fine_made _ _ _ _ f) (rw (fine_size _ _ _ _ f) c.if-out-needed.false) c.put_address.ensures

@@ -1,4 +1,4 @@
--- `address::writing::Number::put` meets its contract: L and type octet, and behind them septets or digits.
+-- `address::writing::put_address` meets its contract: L and type octet, and behind them septets or digits.
 use Prim.Native.Nat.{ℕ, ◌≤◌}
 use mathlib.Core.Path.{◌≡◌, ◌∙◌}
 use mathlib.Core.List.{List, []}
@@ -10,7 +10,7 @@ use Rattle.octets.proofs.Laws.{kept_by}
 use Rattle.address.specs.Writing.{octets_or}
 use Rattle.address.specs.Internal.{Spells}
 use Rattle.address.proofs.Checks.{fine_range, fine_text, fine_digits, fine_small, septets_are, wrote_field}
-use Rattle.address.proofs.writing.Number.put.Goals as goal
+use Rattle.address.proofs.writing.put_address.Goals as goal
 
 -- the octets that are written, once the address is known
 octets_are : {o : Option (List ℕ)} {xs : List ℕ} {at : ℕ} {out : List ℕ} {next : ℕ} {after : List ℕ} → o ≡ some xs → Wrote at xs out next after → Wrote at (octets_or [] o) out next after
@@ -36,21 +36,21 @@ bounds-out-at-2 c = simp length-set (omega arith)
 
 pub put_septets-requires : goal.put_septets-requires
 put_septets-requires c =
-    let f = fine_text _ _ _ _ c.requires.0 c.if-self-eq-TYPE_OF_NUMBER_ALPHANUMERIC.true in
+    let f = fine_text _ _ _ _ c.requires.0 c.if-number-eq-TYPE_OF_NUMBER_ALPHANUMERIC.true in
     (spells _ f.0 f.1 f.2, rw (septets_are _ f.0 f.1) (simp length-set (omega (arith, f.2, f.3, c.requires.1))))
 
-pub shape_of-out-then-self-eq-TYPE_OF_NUMBER_ALPHANUMERIC : goal.shape_of-out-then-self-eq-TYPE_OF_NUMBER_ALPHANUMERIC
-shape_of-out-then-self-eq-TYPE_OF_NUMBER_ALPHANUMERIC c = kept_by c.put_septets.ensures ∙ simp length-set
+pub shape_of-out-then-number-eq-TYPE_OF_NUMBER_ALPHANUMERIC : goal.shape_of-out-then-number-eq-TYPE_OF_NUMBER_ALPHANUMERIC
+shape_of-out-then-number-eq-TYPE_OF_NUMBER_ALPHANUMERIC c = kept_by c.put_septets.ensures ∙ simp length-set
 
-pub returns-then-self-eq-TYPE_OF_NUMBER_ALPHANUMERIC : goal.returns-then-self-eq-TYPE_OF_NUMBER_ALPHANUMERIC
-returns-then-self-eq-TYPE_OF_NUMBER_ALPHANUMERIC c =
+pub returns-then-number-eq-TYPE_OF_NUMBER_ALPHANUMERIC : goal.returns-then-number-eq-TYPE_OF_NUMBER_ALPHANUMERIC
+returns-then-number-eq-TYPE_OF_NUMBER_ALPHANUMERIC c =
     let a = c.args in
-    let f = fine_text _ _ _ _ c.requires.0 c.if-self-eq-TYPE_OF_NUMBER_ALPHANUMERIC.true in
+    let f = fine_text _ _ _ _ c.requires.0 c.if-number-eq-TYPE_OF_NUMBER_ALPHANUMERIC.true in
     octets_are f.4 (wrote_field a.at _ _ _ _ (rw (septets_are _ f.0 f.1) at c.put_septets.ensures))
 
 pub put_digits-requires : goal.put_digits-requires
 put_digits-requires c =
-    let f = fine_digits _ _ _ _ c.requires.0 c.if-self-eq-TYPE_OF_NUMBER_ALPHANUMERIC.false in
+    let f = fine_digits _ _ _ _ c.requires.0 c.if-number-eq-TYPE_OF_NUMBER_ALPHANUMERIC.false in
     simp length-set (omega (arith, f.1, c.requires.1))
 
 pub shape_of-out : goal.shape_of-out
@@ -59,5 +59,5 @@ shape_of-out c = kept_by c.put_digits.ensures ∙ simp length-set
 pub returns : goal.returns
 returns c =
     let a = c.args in
-    let f = fine_digits _ _ _ _ c.requires.0 c.if-self-eq-TYPE_OF_NUMBER_ALPHANUMERIC.false in
+    let f = fine_digits _ _ _ _ c.requires.0 c.if-number-eq-TYPE_OF_NUMBER_ALPHANUMERIC.false in
     octets_are f.2 (wrote_field a.at _ _ _ _ c.put_digits.ensures)
