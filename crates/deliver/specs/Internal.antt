@@ -1,9 +1,9 @@
 -- What only functions of this crate say to each other: the rest of the layout from a field on, fields by their places in a string, and values that are written.
-use Rattle.std.specs.Prelude.{ℕ, ◌+◌, ◌≤◌, ◌≡◌, List, [], ◌∷◌, ◌++◌, length, take, drop, Ok, Err}
+use Rattle.std.specs.Prelude.{ℕ, ◌+◌, ◌≤◌, ◌≡◌, List, [], ◌∷◌, ◌++◌, eqb, length, take, drop, Ok, Err}
 use Rattle.octets.specs.Answers.{Said}
 use Rattle.octets.specs.Checks.{◌unless◌, checked}
 use Rattle.octets.specs.Lent.{Making}
-use Rattle.octets.specs.declared.Refusal.TheVariants.{NotATime}
+use Rattle.octets.specs.declared.Refusal.TheVariants.{WrongMessageType, NotATime}
 use Rattle.coding.specs.Coding.{coding_of, data_octets, data_checks}
 use Rattle.time.specs.Time.{is_time, time_octets}
 use Rattle.address.specs.Address.{address_size, canonical_address}
@@ -57,7 +57,8 @@ Inside s at p =
 abbrev pub octets_in : DeliverValues → ℕ → ℕ → List ℕ → List ℕ → List ℕ → List ℕ
 octets_in v ton npi text digits ud = v.first ∷ (octets_or [] (address_octets ton npi text) ++ (v.pid ∷ v.dcs ∷ (time_octets digits ++ (v.udl ∷ ud))))
 
--- what a writer makes of them, where no length passes its array and the type is DELIVER's
+-- what a writer makes of them, where no length passes its array: refusals 3, 7 and 8 of the data, 9 to 11 of the address, and 12
 unfoldable pub making : DeliverValues → ℕ → ℕ → List ℕ → List ℕ → List ℕ → Making ℕ
 making v ton npi text digits ud =
-    checked (data_checks v.dcs v.udl (length ud) ++ (address_checks ton npi text ++ ((NotATime unless is_time digits) ∷ []))) (octets_in v ton npi text digits ud)
+    checked ((WrongMessageType unless eqb v.mti 0) ∷ (data_checks v.dcs v.udl (length ud) ++ (address_checks ton npi text ++ ((NotATime unless is_time digits) ∷ []))))
+    (octets_in v ton npi text digits ud)

@@ -79,10 +79,8 @@ impl SmsDeliver {
         if !fit {
             return Err(Refusal::LengthTooLarge);
         }
-        if self.tp_mti != MTI_DELIVER {
-            return Err(Refusal::WrongMessageType);
-        }
         let values = DeliverValues {
+            mti: self.tp_mti,
             first: layout::first_octet(
                 MTI_DELIVER,
                 self.tp_rp,

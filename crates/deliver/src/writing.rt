@@ -7,11 +7,13 @@ ghost use Rattle.address.specs.Internal.{check_of};
 ghost use Rattle.deliver.specs.Internal.{octets_in, making};
 
 use address::writing::Number;
+use layout::MTI_DELIVER;
 use octets::Refusal;
 
-// The fields of one octet.
+// TP-MTI, and the fields of one octet.
 #[derive(Clone, Copy, Debug, PartialEq, Eq)]
 pub struct DeliverValues {
+    pub mti: u8,
     pub first: u8,
     pub pid: u8,
     pub dcs: u8,
@@ -51,6 +53,9 @@ pub fn encode_fields(
 ) -> Result<usize, Refusal>
     ensures { (result, out.new) ≡ lend (making v number.entry.ton number.entry.npi number.entry.text.now digits.now «data».now) out.old }
 {
+    if v.mti != MTI_DELIVER {
+        return Err(Refusal::WrongMessageType);
+    }
     coding::check_user_data(v.dcs, v.udl, data.len())?;
     let count = address::writing::check_address(number)?;
     if !time::is_time(digits) {
