@@ -32,7 +32,7 @@ use Rattle.validity_period.proofs.Period.{period_size_lem}
 use Rattle.submit.specs.declared.SmsSubmit.{SmsSubmit}
 use Rattle.submit.specs.declared.writing.SubmitValues.{SubmitValues}
 use Rattle.submit.specs.Submit.{lengths_of, first_of, destination_checks, octets_of, submitting}
-use Rattle.submit.specs.Internal.{octets_in, making}
+use Rattle.submit.specs.Internal.{destination_in, octets_in, making}
 
 -- ---- by the lengths that count
 
@@ -56,50 +56,70 @@ to_address v ton npi text digits = address_checks ton npi text ++ last v digits
 abbrev pub to_data : SubmitValues → ℕ → ℕ → List ℕ → List ℕ → List ℕ → List Check
 to_data v ton npi text digits ud = data_checks v.dcs v.udl (length ud) ++ to_address v ton npi text digits
 
-module _ (v : SubmitValues) (ton npi : ℕ) (text digits enhanced ud : List ℕ) where
+module _ (v : SubmitValues) (to : Option (ℕ × ℕ × List ℕ)) (digits enhanced ud : List ℕ) where
   abbrev all : Making ℕ
-  all = making v ton npi text digits enhanced ud
+  all = making v to digits enhanced ud
 
-  abbrev octets : List ℕ
-  octets = octets_in v ton npi text (period_octets v.period digits enhanced) ud
+  pub another_type : (v.mti ≡ 1 → ⊥) → all ≡ refused WrongMessageType
+  unfolding making checked
+  another_type h = rw (ne_eqb v.mti 1 h)
 
-  by_data : all ≡ after_checked (checked_data v.dcs v.udl (length ud)) (checked (to_address v ton npi text digits) octets)
-  unfolding making
-  by_data = data_checked v.dcs v.udl (length ud) (to_address v ton npi text digits) octets
+  module _ (m : v.mti ≡ 1) where
+    pub another_format : (v.vpf ≡ format_of v.period → ⊥) → all ≡ refused ValidityFormatDisagrees
+    unfolding making checked
+    another_format h = rw (eq-eqb v.mti 1 m, ne_eqb v.vpf (format_of v.period) h)
 
-  pub data_against : {r : Refusal} → checked_data v.dcs v.udl (length ud) ≡ Err r → all ≡ refused r
-  data_against e = by_data ∙ rw e
+    module _ (f : v.vpf ≡ format_of v.period) where
+      pub no_destination : to ≡ None → all ≡ refused NoDestination
+      unfolding making checked
+      no_destination h = rw (eq-eqb v.mti 1 m, eq-eqb v.vpf (format_of v.period) f, h)
 
-  module _ (d : checked_data v.dcs v.udl (length ud) ≡ fine) where
-    by_address : all ≡ after_check (check_of (address_making ton npi text)) (checked (last v digits) octets)
-    by_address = by_data ∙ rw d (address_checked ton npi text (last v digits) octets)
+      module _ {ton npi : ℕ} {text : List ℕ} (t : to ≡ Some (ton, npi, text)) where
+        abbrev octets : List ℕ
+        octets = octets_in v ton npi text (period_octets v.period digits enhanced) ud
 
-    pub address_against : {r : Refusal} → check_of (address_making ton npi text) ≡ Err r → all ≡ refused r
-    address_against e = by_address ∙ rw e
+        to_data_lem : all ≡ checked (to_data v ton npi text digits ud) octets
+        unfolding making checked
+        to_data_lem = rw (eq-eqb v.mti 1 m, eq-eqb v.vpf (format_of v.period) f, t)
 
-    module _ {l : ℕ} (a : check_of (address_making ton npi text) ≡ Ok l) where
-      pub no_time : time_holds v.period digits ≡ false → all ≡ refused NotATime
-      unfolding checked
-      no_time h = by_address ∙ rw (a, h)
+        by_data : all ≡ after_checked (checked_data v.dcs v.udl (length ud)) (checked (to_address v ton npi text digits) octets)
+        by_data = to_data_lem ∙ data_checked v.dcs v.udl (length ud) (to_address v ton npi text digits) octets
 
-      module _ (h : time_holds v.period digits ≡ true) where
-        pub all_made : all ≡ made octets (length octets)
-        unfolding checked
-        all_made = by_address ∙ rw (a, h)
+        pub data_against : {r : Refusal} → checked_data v.dcs v.udl (length ud) ≡ Err r → all ≡ refused r
+        data_against e = by_data ∙ rw e
 
-        pub all_size : length enhanced ≡ 7 → length octets ≡ 7 + (l + 1) / 2 + period_size (format_of v.period) + length ud
-        all_size seven =
-            let size = fine_size ton npi text l a in
-            let period = period_size_lem v.period digits enhanced h seven in
-            simp length-append (omega arith)
+        module _ (d : checked_data v.dcs v.udl (length ud) ≡ fine) where
+          by_address : all ≡ after_check (check_of (address_making ton npi text)) (checked (last v digits) octets)
+          by_address = by_data ∙ rw d (address_checked ton npi text (last v digits) octets)
 
--- ---- a record: its lengths, then its type, format and destination, then its values
+          pub address_against : {r : Refusal} → check_of (address_making ton npi text) ≡ Err r → all ≡ refused r
+          address_against e = by_address ∙ rw e
+
+          module _ {l : ℕ} (a : check_of (address_making ton npi text) ≡ Ok l) where
+            pub no_time : time_holds v.period digits ≡ false → all ≡ refused NotATime
+            unfolding checked
+            no_time h = by_address ∙ rw (a, h)
+
+            module _ (h : time_holds v.period digits ≡ true) where
+              pub all_made : all ≡ made octets (length octets)
+              unfolding checked
+              all_made = by_address ∙ rw (a, h)
+
+              pub all_size : length enhanced ≡ 7 → length octets ≡ 7 + (l + 1) / 2 + period_size v.vpf + length ud
+              all_size seven =
+                  let size = fine_size ton npi text l a in
+                  let period = period_size_lem v.period digits enhanced h seven in
+                  rw f (simp length-append (omega arith))
+
+-- ---- a record: its lengths, then its values
 
 abbrev pub lengths_fit : SmsSubmit → Bool
 lengths_fit r = all_fit (lengths_of r)
 
 abbrev pub values_of : SmsSubmit → SubmitValues
 values_of r = record {
+  mti = r.tp_mti;
+  vpf = r.tp_vpf;
   first = first_of r;
   mr = r.tp_mr;
   pid = r.tp_pid;
@@ -120,28 +140,18 @@ module _ (r : SmsSubmit) where
   too_long e = rw e
 
   module _ (e : lengths_fit r ≡ true) where
-    pub another_type : (r.tp_mti ≡ 1 → ⊥) → submitting r ≡ refused WrongMessageType
+    pub by_fields : r.tp_mti ≡ 1 → r.tp_vpf ≡ format_of r.tp_validity_period → {to : SMSAddress} → r.tp_destination_address ≡ Some to →
+        submitting r ≡ checked (to_data (values_of r) to.ton to.npi (text_held to) (filled stamp) ud) (octets_of r)
     unfolding submitting checked
-    another_type h = rw (e, ne_eqb r.tp_mti 1 h)
+    by_fields m f t = rw (e, eq-eqb r.tp_mti 1 m, eq-eqb r.tp_vpf (format_of r.tp_validity_period) f, t)
 
-    module _ (m : r.tp_mti ≡ 1) where
-      pub another_format : (r.tp_vpf ≡ format_of r.tp_validity_period → ⊥) → submitting r ≡ refused ValidityFormatDisagrees
-      unfolding submitting checked
-      another_format h = rw (e, eq-eqb r.tp_mti 1 m, ne_eqb r.tp_vpf (format_of r.tp_validity_period) h)
-
-      module _ (f : r.tp_vpf ≡ format_of r.tp_validity_period) where
-        pub no_destination : r.tp_destination_address ≡ None → submitting r ≡ refused NoDestination
-        unfolding submitting checked
-        no_destination h = rw (e, eq-eqb r.tp_mti 1 m, eq-eqb r.tp_vpf (format_of r.tp_validity_period) f, h)
-
-        module _ {to : SMSAddress} (t : r.tp_destination_address ≡ Some to) where
-          pub by_fields : submitting r ≡ checked (to_data (values_of r) to.ton to.npi (text_held to) (filled stamp) ud) (octets_of r)
-          unfolding submitting checked
-          by_fields = rw (e, eq-eqb r.tp_mti 1 m, eq-eqb r.tp_vpf (format_of r.tp_validity_period) f, t)
-
-          pub by_values : submitting r ≡ making (values_of r) to.ton to.npi (text_held to) (filled stamp) r.validity_period_octets ud
-          unfolding making
-          by_values = by_fields ∙ rw t
+    pub by_values : submitting r ≡ making (values_of r) (destination_in r) (filled stamp) r.validity_period_octets ud
+    unfolding submitting making checked
+    by_values = by r.tp_destination_address refl
+      where
+        by : (to : Option SMSAddress) → r.tp_destination_address ≡ to → submitting r ≡ making (values_of r) (destination_in r) (filled stamp) r.validity_period_octets ud
+        by None t = rw (e, t)
+        by (Some to) t = rw (e, t)
 
 -- where octets are written, every check has held
 pub record Passed (r : SmsSubmit) (xs : List ℕ) : Type 0 where

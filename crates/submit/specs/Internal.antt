@@ -1,17 +1,20 @@
 -- What only functions of this crate say to each other: the rest of the layout from a field on, fields by their places in a string, and what is made of values that are written.
-use Rattle.std.specs.Prelude.{ℕ, ◌+◌, ◌≤◌, ◌≡◌, true, List, [], ◌∷◌, ◌++◌, leb, length, take, drop, Ok, Err}
+use Rattle.std.specs.Prelude.{ℕ, ◌+◌, ◌≤◌, ◌≡◌, true, List, [], ◌∷◌, ◌++◌, eqb, leb, length, take, drop, Ok, Err, Option, Some, None, is_some, option_map}
 use Rattle.octets.specs.Answers.{Said}
-use Rattle.octets.specs.Checks.{◌unless◌, checked}
+use Rattle.octets.specs.Checks.{Check, ◌unless◌, checked}
 use Rattle.octets.specs.Lent.{Making}
-use Rattle.octets.specs.declared.Refusal.TheVariants.{NotATime, HeaderNotWhole, HeaderPassesCount}
+use Rattle.octets.specs.declared.Refusal.TheVariants.{WrongMessageType, ValidityFormatDisagrees, NoDestination, NotATime, HeaderNotWhole, HeaderPassesCount}
 use Rattle.coding.specs.Coding.{coding_of, data_octets, data_checks}
 use Rattle.user_data_header.specs.Header.{in_count}
-use Rattle.address.specs.Address.{address_size, canonical_address}
+use Rattle.address.specs.Address.{address_size, canonical_address, text_held}
 use Rattle.address.specs.Writing.{address_octets, octets_or, address_checks}
+use Rattle.address.specs.declared.SMSAddress.{SMSAddress}
+use Rattle.address.specs.declared.writing.Number.{Number}
 use Rattle.layout.specs.Layout.{Format, Reached, reached, halted, field, one, require, done, address as addressKind, octets, any, user_data, is_set, cut}
-use Rattle.validity_period.specs.Validity.{period_size, period_octets, time_holds}
+use Rattle.validity_period.specs.Validity.{format_of, period_size, period_octets, time_holds}
 use Rattle.submit.specs.Layout.{Fields, format_in, header_size}
 use Rattle.submit.specs.declared.reading.SubmitFields.{SubmitFields}
+use Rattle.submit.specs.declared.SmsSubmit.{SmsSubmit}
 use Rattle.submit.specs.declared.writing.SubmitValues.{SubmitValues}
 
 -- after TP-DCS
@@ -53,12 +56,31 @@ Inside s at (Err why) = Unit
 
 -- ---- writing
 
+-- type, plan and text of a destination, if there is one: as a number has them, and as a record does
+abbrev pub parts_in : Option Number → Option (ℕ × ℕ × List ℕ)
+parts_in to = option_map (λ (n : Number). (n.ton, n.npi, n.text.now)) to
+
+abbrev pub destination_in : SmsSubmit → Option (ℕ × ℕ × List ℕ)
+destination_in r = option_map (λ (to : SMSAddress). (to.ton, to.npi, text_held to)) r.tp_destination_address
+
+-- its checks
+abbrev pub checks_in : Option (ℕ × ℕ × List ℕ) → List Check
+checks_in None = []
+checks_in (Some (ton, npi, text)) = address_checks ton npi text
+
 -- the octets of values, in the layout's order: type, plan and text are the address's, vp the octets of the validity period
 abbrev pub octets_in : SubmitValues → ℕ → ℕ → List ℕ → List ℕ → List ℕ → List ℕ
 octets_in v ton npi text vp ud = v.first ∷ v.mr ∷ octets_or [] (address_octets ton npi text) ++ v.pid ∷ v.dcs ∷ vp ++ v.udl ∷ ud
 
--- what a writer makes of them: values, the address's type, plan and text, digits and octets of the validity period, data. Refusals 7 and 8 of the data, 9 to 11 of the address, and 12
-unfoldable pub making : SubmitValues → ℕ → ℕ → List ℕ → List ℕ → List ℕ → List ℕ → Making ℕ
-making v ton npi text digits enhanced ud =
-    checked (data_checks v.dcs v.udl (length ud) ++ address_checks ton npi text ++ (NotATime unless time_holds v.period digits) ∷ [])
-    (octets_in v ton npi text (period_octets v.period digits enhanced) ud)
+-- with a destination that may be missing
+abbrev pub octets_to : SubmitValues → Option (ℕ × ℕ × List ℕ) → List ℕ → List ℕ → List ℕ
+octets_to v None vp ud = []
+octets_to v (Some (ton, npi, text)) vp ud = octets_in v ton npi text vp ud
+
+-- what a writer makes of them: values, the destination, digits and octets of the validity period, data. Refusals 3, 5 and 6, 7 and 8 of the data, 9 to 11 of the address, and 12
+unfoldable pub making : SubmitValues → Option (ℕ × ℕ × List ℕ) → List ℕ → List ℕ → List ℕ → Making ℕ
+making v to digits enhanced ud =
+    checked
+    ((WrongMessageType unless eqb v.mti 1) ∷ (ValidityFormatDisagrees unless eqb v.vpf (format_of v.period)) ∷ (NoDestination unless is_some to) ∷ data_checks v.dcs v.udl (length ud) ++ checks_in to
+    ++ (NotATime unless time_holds v.period digits) ∷ [])
+    (octets_to v to (period_octets v.period digits enhanced) ud)

@@ -12,12 +12,13 @@ ghost use Rattle.septets.specs.Septets.{header_septets, fill_bits, septets_in};
 ghost use Rattle.gsm7.specs.Reading.{text_of, replaced_in, replaced_in_all};
 ghost use Rattle.user_data_header.specs.Header.{in_count};
 ghost use Rattle.layout.specs.Layout.{read, answer};
-ghost use Rattle.submit.specs.Internal.{fields_at, Inside};
+ghost use Rattle.submit.specs.Internal.{fields_at, Inside, parts_in, destination_in};
 ghost use Rattle.submit.specs.Submit.{submit, submitted, read_with, readable, data_septets, lengths_of, submitting};
 
 use crate::reading::SubmitFields;
 use crate::writing::SubmitValues;
 use address::SMSAddress;
+use address::writing::Number;
 use coding::{UserData, UserDataCoding};
 use gsm7::decode::TextPut;
 use layout::MTI_SUBMIT;
@@ -181,25 +182,24 @@ impl SmsSubmit {
             & (digits & (self.tp_user_data_raw.fits() & (header & self.tp_user_data.fits())))
     }
 
+    // Type, plan and text of the destination, if there is one.
+    fn destination(&self) -> Option<Number<'_>>
+        ensures { parts_in result ≡ destination_in self.now }
+    {
+        self.tp_destination_address.as_ref().map(|to| to.number())
+    }
+
     // Writes the message to the start of a lent output.
     pub fn encode(self, out: &mut [u8]) -> Result<usize, Refusal>
         ensures { (result, out.new) ≡ lend (submitting self) out.old }
     {
-        let period = self.tp_validity_period;
         let vpf = self.tp_vpf;
         if !self.lengths_fit() {
             return Err(Refusal::LengthTooLarge);
         }
-        if self.tp_mti != MTI_SUBMIT {
-            return Err(Refusal::WrongMessageType);
-        }
-        if vpf != period.format() {
-            return Err(Refusal::ValidityFormatDisagrees);
-        }
-        let Some(to) = self.tp_destination_address else {
-            return Err(Refusal::NoDestination);
-        };
         let values = SubmitValues {
+            mti: self.tp_mti,
+            vpf,
             first: layout::first_octet(
                 MTI_SUBMIT,
                 self.tp_rp,
@@ -212,12 +212,12 @@ impl SmsSubmit {
             mr: self.tp_mr,
             pid: self.tp_pid,
             dcs: self.tp_dcs,
-            period,
+            period: self.tp_validity_period,
             udl: self.tp_user_data_length,
         };
         writing::encode_fields(
             values,
-            to.number(),
+            self.destination(),
             self.validity_period_digits.as_slice(),
             self.validity_period_octets,
             self.tp_user_data_raw.as_slice(),

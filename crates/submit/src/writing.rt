@@ -4,15 +4,18 @@ ghost use Rattle.octets.specs.Lent.{Wrote, lend};
 ghost use Rattle.address.specs.Writing.{address_making};
 ghost use Rattle.address.specs.Internal.{check_of};
 ghost use Rattle.validity_period.specs.Validity.{format_of, period_size, period_octets, time_holds};
-ghost use Rattle.submit.specs.Internal.{octets_in, making};
+ghost use Rattle.submit.specs.Internal.{parts_in, octets_in, making};
 
 use address::writing::Number;
+use layout::MTI_SUBMIT;
 use octets::Refusal;
 use validity_period::ValidityPeriod;
 
-// The fields of one octet, and the validity period.
+// TP-MTI, TP-VPF, the fields of one octet, and the validity period.
 #[derive(Clone, Copy)]
 pub struct SubmitValues {
+    pub mti: u8,
+    pub vpf: u8,
     pub first: u8,
     pub mr: u8,
     pub pid: u8,
@@ -50,21 +53,30 @@ fn put_fields(
 #[tactic(auto, using(address::proofs::Checks::fine_small))]
 pub fn encode_fields(
     v: SubmitValues,
-    number: Number<'_>,
+    destination: Option<Number<'_>>,
     digits: &[u8],
     enhanced: [u8; 7],
     data: &[u8],
     out: &mut [u8],
 ) -> Result<usize, Refusal>
-    ensures { (result, out.new) ≡ lend (making v number.entry.ton number.entry.npi number.entry.text.now digits.now enhanced «data».now) out.old }
+    ensures { (result, out.new) ≡ lend (making v (parts_in destination.entry) digits.now enhanced «data».now) out.old }
 {
     let period = v.period;
+    if v.mti != MTI_SUBMIT {
+        return Err(Refusal::WrongMessageType);
+    }
+    if v.vpf != period.format() {
+        return Err(Refusal::ValidityFormatDisagrees);
+    }
+    let Some(number) = destination else {
+        return Err(Refusal::NoDestination);
+    };
     coding::check_user_data(v.dcs, v.udl, data.len())?;
     let count = address::writing::check_address(number)?;
     if !validity_period::check_period(period, digits) {
         return Err(Refusal::NotATime);
     }
-    let validity = validity_period::validity_octets(period.format());
+    let validity = validity_period::validity_octets(v.vpf);
     if out.len() < 7 + (count + 1) / 2 + validity + data.len() {
         return Err(Refusal::OutputTooShort);
     }
