@@ -6,3 +6,4 @@ pub mod Stepwise
 pub mod StringByString
 pub mod Reading
 pub mod Writing
+pub mod Defaults

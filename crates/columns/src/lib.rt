@@ -13,7 +13,7 @@ ghost use Rattle.columns.specs.Internal.{longer_than, sizes_of, NumberAs, Length
 use octets::Refusal;
 
 // What a block held: how many strings, and how many octets they have together.
-#[derive(Clone, Copy, Debug, PartialEq, Eq)]
+#[derive(Clone, Copy, Debug, Default, PartialEq, Eq)]
 pub struct Strings {
     pub strings: usize,
     pub octets: usize,

@@ -9,3 +9,4 @@ pub mod Known
 pub mod Storing
 pub mod Counting
 pub mod Putting
+pub mod Defaults

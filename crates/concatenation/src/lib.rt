@@ -12,7 +12,7 @@ ghost use Rattle.concatenation.specs.Internal.{StoredAs, counted_as, codes_of, C
 use octets::Refusal;
 
 // How many octets were written, and how many messages they are.
-#[derive(Clone, Copy, Debug, PartialEq, Eq)]
+#[derive(Clone, Copy, Debug, Default, PartialEq, Eq)]
 pub struct Concatenated {
     pub octets: usize,
     pub messages: usize,

@@ -13,3 +13,4 @@ pub mod Adequate
 pub mod EncodingLaws
 pub mod PackingCases
 pub mod PackingLaws
+pub mod Defaults

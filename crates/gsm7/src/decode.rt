@@ -76,7 +76,7 @@ pub static EXTENSION: [Extension; 10] = [
 ];
 
 // The text of counted septets, and the number of escapes in them that led to no character of the extension table.
-#[derive(Clone, Copy, Debug)]
+#[derive(Clone, Copy, Debug, Default)]
 pub struct Unpacked {
     pub text: Held<510>,
     pub replaced_escapes: usize,

@@ -8,7 +8,7 @@ ghost use Rattle.gsm7.specs.Packing.{octets_after, packed_after, packing};
 use octets::Refusal;
 
 // How many octets were written, and the number of septets that TP-User-Data-Length counts.
-#[derive(Clone, Copy, Debug, PartialEq, Eq)]
+#[derive(Clone, Copy, Debug, Default, PartialEq, Eq)]
 pub struct Packed {
     pub octets: usize,
     pub septets: usize,

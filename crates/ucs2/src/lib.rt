@@ -19,7 +19,10 @@ fn scan_characters(ucs2: &[u8], codes: &mut [u8; 255]) -> Result<usize, Refusal>
     let (pairs, _) = ucs2.as_chunks::<2>();
     for &pair in pairs {
         let c = u16::from_be_bytes(pair);
-        count = gsm7::encode::add_character(codes, count, c).ok_or(Refusal::NotInAlphabet)?;
+        let Some(next) = gsm7::encode::add_character(codes, count, c) else {
+            return Err(Refusal::NotInAlphabet);
+        };
+        count = next;
     }
     Ok(count)
 }

@@ -2,7 +2,7 @@
 -- Assumes nothing.
 use Rattle.std.specs.Prelude.{Ok, Err}
 use Prim.Native.Nat.{ℕ, ◌-◌, ◌*◌, ◌<◌, ◌≤◌}
-use mathlib.Core.Path.{◌≡◌}
+use mathlib.Core.Path.{◌≡◌, sym, ap, ◌∙◌}
 use mathlib.Core.List.{List}
 use native.Mathlib.Nat.{le_refl}
 use borrow.Author.Tests.{lt-ltb, le-ltb, eq-eqb, ne_eqb}
@@ -44,6 +44,10 @@ module _ (os : List ℕ) (n : ℕ) where
         pub read_done : octet_count (s * 7 - h * 8) (n - s) ≤ length os - h → let ss = septets_in (drop h os) (s * 7 - h * 8) (n - s) in unpacked_with_header os n ≡ Ok (header_given (take h os) (text_of ss) (replaced_in ss))
         unfolding unpacked_with_header
         read_done enough = rw (le-ltb 255 n few, ← h-is, ← s-is, le-ltb _ _ whole, le-ltb _ _ fits, length-drop, le-ltb _ _ enough)
+
+        -- with the fill bits as a call tells them
+        pub read_after : {fill : ℕ} {r : UnpackedWithHeader} → (let ss = septets_in (drop h os) fill (n - s) in r ≡ header_given (take h os) (text_of ss) (replaced_in ss)) → fill ≡ s * 7 - h * 8 → octet_count fill (n - s) ≤ length os - h → Ok r ≡ unpacked_with_header os n
+        read_after given is enough = ap Ok (rw is at given) ∙ sym (read_done (rw is at enough))
 
 module _ (header text : List ℕ) where
   pub packing_bad : (length header ≡ header_octets header → ⊥) → packing_with_header header text ≡ refused HeaderNotWhole

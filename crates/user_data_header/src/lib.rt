@@ -12,7 +12,7 @@ use gsm7::packing::Packed;
 use octets::{Held, Refusal};
 
 // A header, its length octet included, and the text after it, with the number of escapes in it that led to no character of the extension table.
-#[derive(Clone, Copy, Debug)]
+#[derive(Clone, Copy, Debug, Default)]
 pub struct UnpackedWithHeader {
     pub header: Held<255>,
     pub text: Held<510>,

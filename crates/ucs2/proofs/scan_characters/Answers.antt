@@ -1,11 +1,10 @@
 -- `ucs2::scan_characters` meets its contract: the septets of the characters that are left, stored too, still give the whole.
 use Prim.Native.Nat.{ℕ, ◌+◌, ◌*◌, ◌/◌, ◌<◌}
-use mathlib.Core.Path.{◌≡◌, ap, ◌∙◌}
+use mathlib.Core.Path.{◌≡◌, refl, ap, ◌∙◌}
 use mathlib.Core.List.{List, []}
 use native.Mathlib.Omega.{arith}
 use lib.ListN.{get_or, length}
 use Rattle.std.specs.Simd.{first_chunks}
-use Rattle.std.proofs.lemmas.Result.{err_from_is_err_and}
 use Rattle.gsm7.specs.Writing.{code_of}
 use Rattle.gsm7.proofs.Scanning.{added, not_added, scanned_none, scanned_done}
 use Rattle.octets.proofs.Pairs.{pairs_at}
@@ -25,20 +24,19 @@ at_pair os pairs front size i h =
 after_pair : (i : ℕ) → 2 * (i + 1) ≡ 2 * i + 2
 after_pair i = omega arith
 
-pub returns-in_err-count : goal.returns-in_err-count
-returns-in_err-count c =
+pub returns-in_default : goal.returns-in_default
+returns-in_default c =
     let l = c.loop-pair in
     let n = at_pair _ _ c.as_chunks.ensures.front c.as_chunks.ensures.front_len l.pair-index c.loop-pair-test.true in
-    let p = err_from_is_err_and c.from_residual.result c.from_residual.ensures.1 in
-    let e = not_added _ _ _ _ c.add_character.result c.add_character.ensures c.in_err-count.ensures.value in
+    let e = not_added _ _ _ _ _ c.in_default.ensures refl in
     let is : next_of c.args.ucs2.now (2 * l.pair-index) ≡ c.from_be_bytes-c.result = omega (arith, n.whole, c.from_be_bytes-c.ensures) in
-    rw (p.1, p.2, e.0) (scanned_none _ l.codes _ _ l.count _ (codes_absent c.args.ucs2.now (2 * l.pair-index) n.within (ap code_of is ∙ e.1)) l.invariant.2)
+    scanned_none _ l.codes _ _ l.count _ (codes_absent c.args.ucs2.now (2 * l.pair-index) n.within (ap code_of is ∙ e.1)) l.invariant.2
 
 pub loop-pair-preserved : goal.loop-pair-preserved
 loop-pair-preserved c =
     let l = c.loop-pair in
     let n = at_pair _ _ c.as_chunks.ensures.front c.as_chunks.ensures.front_len l.pair-index c.loop-pair-test.true in
-    let (ks, code, w, more, few) = added _ _ _ _ c.add_character.result c.add_character.ensures c.in_ok-count.ensures.value in
+    let (ks, code, w, more, few) = added _ _ _ _ _ c.in-Some.ensures refl in
     let is : next_of c.args.ucs2.now (2 * l.pair-index) ≡ c.from_be_bytes-c.result = omega (arith, n.whole, c.from_be_bytes-c.ensures) in
     (omega (arith, few), c.add_character.array_long, rw (after_pair l.pair-index) (codes_more c.args.ucs2.now (2 * l.pair-index) n.within ks (ap code_of is ∙ code) w l.invariant.2))
 

@@ -3,7 +3,7 @@ use Rattle.std.specs.Prelude.{Ok}
 use Prim.Native.Nat.{◌-◌, ◌*◌}
 use mathlib.Core.Path.{◌≡◌, sym, ap}
 use native.Mathlib.Omega.{arith}
-use Rattle.user_data_header.proofs.Cases.{read_long, read_short, read_over, read_few, read_done}
+use Rattle.user_data_header.proofs.Cases.{read_long, read_short, read_over, read_few, read_after}
 use Rattle.user_data_header.proofs.unpack_gsm7_with_header.Goals as goal
 
 pub returns-then-septets-gt255 : goal.returns-then-septets-gt255
@@ -30,5 +30,4 @@ pub returns : goal.returns
 returns c =
     let h = c.before.before.before.before.before.before in
     let in_header = c.header_septets-in_header in
-    let fill : in_header.result * 7 - h.header_octets-h.result * 8 ≡ c.fill_bits-fill.result = rw in_header.ensures (sym c.fill_bits-fill.ensures.0) in
-    rw (read_done _ _ h.if-septets-gt255.false h.header_octets-h.ensures.0 c.if-data-h.false in_header.ensures c.if-septets-in_header.false (rw (fill, ← c.octet_count.ensures) c.if-data-h-2.false), fill) (ap Ok c.header_and_text.ensures)
+    read_after _ _ h.if-septets-gt255.false h.header_octets-h.ensures.0 c.if-data-h.false in_header.ensures c.if-septets-in_header.false c.header_and_text.ensures (omega (arith, c.fill_bits-fill.ensures.0, in_header.ensures)) (omega (arith, c.octet_count.ensures, c.if-data-h-2.false))
