@@ -89,17 +89,19 @@ impl RelayAddress {
         };
         let end = next.at;
         let semi_octets = 2 * value_octets;
-        let mut address = [0u8; 508];
-        let length = address::digits_text(&data[at..end], semi_octets, &mut address);
+        // Filled in its place: an array that is put into the record afterwards is copied.
+        let mut held = RelayAddress {
+            ton: type_of_address / 16 % 8,
+            npi: type_of_address % 16,
+            address: Held {
+                length: 0,
+                octets: [0; 508],
+            },
+        };
+        let length = address::digits_text(&data[at..end], semi_octets, &mut held.address.octets);
+        held.address.length = length;
         Ok(RelayAddressRead {
-            address: Some(RelayAddress {
-                ton: type_of_address / 16 % 8,
-                npi: type_of_address % 16,
-                address: Held {
-                    octets: address,
-                    length,
-                },
-            }),
+            address: Some(held),
             octets_read: end,
         })
     }
