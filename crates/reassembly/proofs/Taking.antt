@@ -5,7 +5,7 @@ use Rattle.reassembly.specs.declared.MessageTaken.{MessageTaken}
 use Rattle.std.specs.Prelude.{Ok, Err, Some, None}
 use Prim.Native.Nat.{ℕ, suc, ◌+◌, ◌*◌, ◌≤◌, ◌<◌}
 use mathlib.Core.Path.{◌≡◌, refl, sym, ap, ◌∙◌}
-use mathlib.Core.Bool.{true, false, ◌&&◌}
+use mathlib.Core.Bool.{Bool, true, false, ◌&&◌}
 use mathlib.Core.List.{List, [], ◌∷◌, ◌++◌}
 use native.Mathlib.Nat.{add-zero, zero-add}
 use native.Mathlib.Omega.{arith}
@@ -44,6 +44,10 @@ pub count_is : {n : ℕ} (xs : List ℕ) {h : Held n} → h ≡ holding n xs →
 unfolding holding
 count_is xs e = rw e
 
+-- a length that was found to fit
+pub fits_few : (b : Bool) (x n : ℕ) → b ≡ leb x n → b ≡ true → x ≤ n
+fits_few b x n is met = leb-true x n (sym is ∙ met)
+
 -- ---- the message of a slot
 
 module _ (total : ℕ) (slot out : List ℕ) where
@@ -78,6 +82,11 @@ module _ (total : ℕ) (slot out : List ℕ) where
         hands_done h later e =
             let l : later ≡ shown_of m ++ drop (length (shown_of m)) out = e ∙ ap (sets out 0) shown_cut.1 ∙ sets_start (shown_of m) out (omega (arith, size)) in
             rw (l, ← is, none, ← size, le-leb n (length out) h)
+
+-- what a slot's message lacks, as it is held
+pub hands_missing : (total : ℕ) (slot out : List ℕ) (h : Held 8) → h ≡ holding 8 (missing_of (message_in total slot)) → (h.length ≡ 0 → ⊥)
+    → ◌≡◌ {A = Said MessageTaken × List ℕ × List ℕ} (Ok MessageTaken.NotWhole, slot, out) (handing total slot out)
+hands_missing total slot out h is ne = hands_not total slot out h.length (count_is (missing_of (message_in total slot)) is) ne
 
 -- ---- the slot of a message
 

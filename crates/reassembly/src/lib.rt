@@ -184,6 +184,7 @@ pub fn accept_part(store: &mut [u8], data: &[u8]) -> Result<PartAccepted, Refusa
 }
 
 // Hands over the message of a slot if it is whole, and closes the slot.
+#[tactic(auto, using(crate::proofs::Taking::hands_missing))]
 fn hand_over(slot: &mut Slot, total: u8, out: &mut [u8]) -> Result<MessageTaken, Refusal>
     requires { total ≤ 8 }
     ensures { (result, slot.new, out.new) ≡ handing total slot.old out.old }
