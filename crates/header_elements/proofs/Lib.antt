@@ -5,3 +5,4 @@ pub mod Laws
 pub mod Order
 pub mod Storing
 pub mod Writing
+pub mod Blank

@@ -1,11 +1,11 @@
 // Elements of a user data header (TS 23.040 §9.2.3.24).
 #![tactic(auto)]
 
-ghost use Rattle.std.specs.Prelude.{◌≡◌, ◌∷◌, ◌+◌, ◌*◌, ◌≤◌, length, sum};
+ghost use Rattle.std.specs.Prelude.{◌≡◌, [], ◌∷◌, ◌+◌, ◌*◌, ◌≤◌, length, sum};
 ghost use Rattle.octets.specs.Lent.{lend, Wrote};
 ghost use Rattle.header_elements.specs.Elements.{elements_of, joined};
 ghost use Rattle.header_elements.specs.Order.{ordered};
-ghost use Rattle.header_elements.specs.Record.{answer, elements_read, elements_with, total, header_making};
+ghost use Rattle.header_elements.specs.Record.{answer, elements_read, held, elements_with, total, header_making};
 ghost use Rattle.header_elements.specs.Internal.{Counted, SummedUp};
 
 use octets::Refusal;
@@ -34,6 +34,20 @@ pub struct HeaderElements {
     pub identifiers: [u8; MAX_ELEMENTS],
     pub lengths: [u8; MAX_ELEMENTS],
     pub octets: [u8; MAX_VALUES],
+}
+
+// No elements.
+impl Default for HeaderElements {
+    ghost is_default = { λ h. h ≡ held [] };
+
+    fn default() -> Self {
+        HeaderElements {
+            count: 0,
+            identifiers: [0; MAX_ELEMENTS],
+            lengths: [0; MAX_ELEMENTS],
+            octets: [0; MAX_VALUES],
+        }
+    }
 }
 
 // The elements of the octets after a header's first.

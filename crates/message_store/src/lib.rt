@@ -222,8 +222,8 @@ fn put_shown(shown: &mut [u8], at: usize, coding: UserDataCoding, udl: u8, data:
 }
 
 // Puts what is shown of the parts of a whole message, one after the other; how many octets that is.
-pub fn put_parts(shown: &mut [u8; 4080], slot: &Slot, total: u8) -> usize
-    requires { (total ≤ 8) × (missing_of (message_in total slot.now) ≡ []) }
+pub fn put_parts(shown: &mut [u8], slot: &Slot, total: u8) -> usize
+    requires { (total ≤ 8) × (4080 ≤ length shown.old) × (missing_of (message_in total slot.now) ≡ []) }
     ensures { Wrote 0 (shown_of (message_in total slot.now)) shown.old result shown.new × (result ≤ 4080) }
 {
     let coding = coding::user_data_coding(slot[CODING]);

@@ -15,6 +15,10 @@ use Rattle.part_number.specs.declared.Reference.TheVariants.{Eight, Sixteen}
 abbrev pub numbered : Reference → ℕ → ℕ → PartNumber
 numbered reference total number = record { reference = reference; total = total; number = number }
 
+-- of a part that none numbers: zeros, and the reference in eight bits
+abbrev pub unnumbered : PartNumber
+unnumbered = numbered (Eight 0) 0 0
+
 -- ---- the part element
 
 -- identifier 00 with three octets: reference, total, number; 08 with four: reference in two octets, high octet first, total, number. Any other element numbers no part

@@ -4,6 +4,7 @@
 ghost use Rattle.std.specs.Prelude.{◌≡◌};
 ghost use Rattle.header_elements.specs.Elements.{element, elements_of};
 ghost use Rattle.part_number.specs.Numbering.{numbering_of, in_range, by_elements, numbering_in};
+ghost use Rattle.part_number.specs.declared.Reference.TheVariants.{Eight};
 
 use header_elements::{Element, Elements};
 use octets::Refusal;
@@ -22,8 +23,17 @@ pub enum Reference {
     Sixteen(u16),
 }
 
+// That of a part that none numbers: 0, in eight bits.
+impl Default for Reference {
+    ghost is_default = { λ r. r ≡ Eight 0 };
+
+    fn default() -> Self {
+        Reference::Eight(0)
+    }
+}
+
 // What numbers a part: the reference of its message, how many parts that has, and which of them this is.
-#[derive(Clone, Copy, Debug, PartialEq, Eq)]
+#[derive(Clone, Copy, Debug, Default, PartialEq, Eq)]
 pub struct PartNumber {
     pub reference: Reference,
     pub total: u8,

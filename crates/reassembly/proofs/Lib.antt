@@ -2,3 +2,4 @@ pub mod Joining
 pub mod Arrival
 pub mod Accepting
 pub mod Taking
+pub mod Blank

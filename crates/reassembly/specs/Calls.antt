@@ -1,5 +1,5 @@
 -- What the four calls answer, and every octet of the store and of a lent output afterwards.
-use Rattle.std.specs.Prelude.{ℕ, not, List, ◌∷◌, ◌++◌, length, drop, replicate, eqb, leb, ltb, if◌then◌else◌, Ok, Err}
+use Rattle.std.specs.Prelude.{ℕ, not, List, [], ◌∷◌, ◌++◌, length, drop, replicate, eqb, leb, ltb, if◌then◌else◌, Ok, Err}
 use Rattle.octets.specs.Answers.{Said, fine}
 use Rattle.octets.specs.Held.{holding}
 use Rattle.octets.specs.Lent.{Making, made, lend}
@@ -8,7 +8,7 @@ use Rattle.address.specs.declared.SMSAddress.{SMSAddress}
 use Rattle.layout.specs.Layout.{Reached, reached, halted, read}
 use Rattle.deliver.specs.Deliver.{deliver}
 use Rattle.deliver.specs.declared.SmsDeliver.{SmsDeliver}
-use Rattle.part_number.specs.Numbering.{numbered}
+use Rattle.part_number.specs.Numbering.{numbered, unnumbered}
 use Rattle.part_number.specs.declared.PartNumber.{PartNumber}
 use Rattle.part_number.specs.declared.Reference.{Reference}
 use Rattle.reassembly.specs.declared.MessageDropped.{MessageDropped}
@@ -27,6 +27,10 @@ emptied store = if leb store_octets (length store) then (fine, replicate store_o
 -- accepted: the numbers of its message, as it then is, that are missing
 unfoldable pub told : PartNumber → Message → Said PartAccepted
 told n m = Ok (record { part = n; missing = holding 8 (missing_of m) })
+
+-- the blank answer, beside a refusal: no part, and no number missing
+unfoldable pub blank : PartAccepted
+blank = record { part = unnumbered; missing = holding 8 [] }
 
 -- an answer, and the store with slot k as it then is (where the slot is as it was, so is the store: the law `put_back`)
 abbrev pub in_slot : {A : Type 0} → ℕ → A × List ℕ → List ℕ → A × List ℕ

@@ -22,7 +22,8 @@ use part_number::{PartNumber, Reference};
 pub const MESSAGE_OCTETS: usize = 4080;
 
 // What accepting a part answers: its reference, total and number, and the numbers of its message that are still missing.
-#[derive(Clone, Copy, Debug)]
+// Its default is the blank answer.
+#[derive(Clone, Copy, Debug, Default)]
 pub struct PartAccepted {
     pub part: PartNumber,
     pub missing: Held<8>,

@@ -1,10 +1,10 @@
 -- `message_store::put_parts` meets its contract: what is shown of the parts that are left, stored after what is shown already, is all of it.
-use Rattle.std.proofs.Common.{rules, length, ◌≡◌, ◌+◌, ◌-◌, ◌≤◌, ◌<◌, ℕ, List, [], get_or, take, drop, ◌∙◌, arith}
+use Rattle.std.proofs.Common.{rules, length, ◌≡◌, ◌+◌, ◌-◌, ◌≤◌, ◌<◌, ℕ, List, [], get_or, take, drop, refl, ◌∙◌, arith}
 use lib.ListN.{length-take}
 use Rattle.std.proofs.Common.{◌/◌}
 use Rattle.std.specs.Simd.{first_chunks}
 use lib.Seq.{get_or-take}
-use Rattle.octets.proofs.Laws.{left_start, left_step, left_end}
+use Rattle.octets.proofs.Laws.{left_start, left_step, left_end, kept_by}
 use Rattle.coding.specs.Coding.{coding_of, data_octets}
 use Rattle.coding.specs.declared.UserDataCoding.{UserDataCoding}
 use Rattle.coding.proofs.Laws.{data_at_most}
@@ -23,15 +23,15 @@ unfolding message_in
 loop-block-init c =
     let t = c.args.total in
     let n : t + 1 - 1 ≡ t = omega arith in
-    (omega arith, rw n c.requires.1, rw n (left_start c.args.shown.now 0 (all c.args.slot.now t)))
+    (c.requires.1, refl, omega arith, rw n c.requires.2, rw n (left_start c.args.shown.now 0 (all c.args.slot.now t)))
 
 pub overflow_add-octets : goal.overflow_add-octets
 overflow_add-octets c =
     let u : get_or (get_or (take c.args.total c.as_chunks.result.0.now) c.loop-block.block-index []) 0 0 < 256 = search rules in
     omega (arith, at_most_255 c.user_data_coding-coding.result u c.user_data_octets-octets.ensures)
 
-pub slice_bounds-put_shown-end-in-loop-block : goal.slice_bounds-put_shown-end-in-loop-block
-slice_bounds-put_shown-end-in-loop-block c =
+pub slice_bounds-put_shown-end : goal.slice_bounds-put_shown-end
+slice_bounds-put_shown-end c =
     let u : get_or (get_or (take c.args.total c.as_chunks.result.0.now) c.loop-block.block-index []) 0 0 < 256 = search rules in
     let few = at_most_255 c.user_data_coding-coding.result u c.user_data_octets-octets.ensures in
     search rules
@@ -61,8 +61,8 @@ loop-block-preserved c =
     let h : n ≤ t = omega arith in
     let udl : get_or (block n slot) 0 0 < 256 = rw (← is) u in
     let short = shown_short c.user_data_coding-coding.result (record { udl = get_or (block n slot) 0 0; octets = take (1 + k - 1) (drop 1 (block n slot)) }) (omega arith) (omega (arith, length-take (1 + k - 1) (drop 1 (block n slot)), few)) in
-    let here = rw (← coding-is) at (shown_here slot t n h l.invariant.1 k_is) in
-    (omega (arith, w.place, short), still_whole slot t n h l.invariant.1, left_step _ l.invariant.2 w here)
+    let here = rw (← coding-is) at (shown_here slot t n h l.invariant.3 k_is) in
+    (l.invariant.0, kept_by w ∙ l.invariant.1, omega (arith, w.place, short), still_whole slot t n h l.invariant.3, left_step _ l.invariant.4 w here)
 
 pub returns : goal.returns
 unfolding message_in holdings shown_parts
@@ -72,5 +72,5 @@ returns c =
     let (count, each) = blocks_cut c.args.slot.now size (rw c.part_at.ensures at c.as_chunks.ensures.front) in
     let all_there : l.block-index ≡ c.args.total = omega (arith, count, length-take c.args.total c.as_chunks.result.0.now) in
     let n : c.args.total + 1 - (l.block-index + 1) ≡ 0 = omega arith in
-    let end = left_end l.invariant.2 (rw n) in
+    let end = left_end l.invariant.4 (rw n) in
     (record { place = end.0; list = end.1 }, omega arith)

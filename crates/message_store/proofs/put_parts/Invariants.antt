@@ -12,5 +12,5 @@ all slot total = shown_parts (coding_in slot) (holdings 1 total slot)
 
 abbrev pub invariant-loop-block : goal.invariant-loop-block
 invariant-loop-block l =
-    (l.at ≤ l.block-index * 510) × (missing_from (l.block-index + 1) (holdings (l.block-index + 1) (l.total + 1 - (l.block-index + 1)) l.slot) ≡ [])
+    (4080 ≤ length l.initial.shown) × (length l.shown ≡ length l.initial.shown) × (l.at ≤ l.block-index * 510) × (missing_from (l.block-index + 1) (holdings (l.block-index + 1) (l.total + 1 - (l.block-index + 1)) l.slot) ≡ [])
     × Left (sets l.initial.shown 0 (all l.slot l.total)) (0 + length (all l.slot l.total)) l.shown l.at (rest l.slot l.total (l.block-index + 1))
