@@ -7,6 +7,7 @@ use mathlib.Core.Bool.{true, false}
 use mathlib.Core.List.{List, [], ◌∷◌, ◌++◌, append_assoc, map}
 use mathlib.Core.Logic.{◌↔◌}
 use native.Mathlib.Numerals.{add-one}
+use native.Mathlib.Omega.{arith}
 use borrow.Author.Tests.{leb-true}
 use lib.Dec.{leb, eqb}
 use lib.ListN.{length, get_or, drop, drop_of_length-le}
@@ -18,15 +19,16 @@ use Rattle.octets.specs.Each.{each}
 use Rattle.octets.specs.declared.Refusal.{Refusal}
 use Rattle.octets.specs.declared.Refusal.TheVariants.{LengthTooLarge, NotATime, RecipientNotPrintable}
 use Rattle.octets.specs.Held.{filled}
-use Rattle.octets.proofs.Checks.{passed, against, holds, both_hold}
+use Rattle.octets.specs.Lent.{Wrote}
+use Rattle.octets.proofs.Checks.{passed, against, holds, both_hold, all_fit_lem}
 use Rattle.octets.proofs.Choice.{and_true, and_means, leb_means, within_means}
 use Rattle.octets.proofs.Each.{each_means}
-use Rattle.time.specs.Time.{is_hex, is_time}
+use Rattle.time.specs.Time.{is_hex, is_time, in_hex}
 use Rattle.time.proofs.Laws.{time_means}
 use Rattle.address.specs.Address.{text_held}
 use Rattle.status_report.specs.StatusReport.{lengths_of}
 use Rattle.status_report.specs.declared.SmsStatusReport.{SmsStatusReport}
-use Rattle.shift_page.specs.ShiftPage.{printable, report_checks, reports_checks, report_line, ended}
+use Rattle.shift_page.specs.ShiftPage.{printable, report_checks, reports_checks, fields, report_line, ended}
 
 -- ---- of a record: 1, 34, 12
 
@@ -78,12 +80,21 @@ module _ (r : SmsStatusReport) where
         digits = (and_true (eqb (length discharge_of) 14) (each is_hex discharge_of) t).1;
       }
 
--- a recipient that is shown, in plain terms
-pub printable_means : (text : List ℕ) → (printable text ≡ true) ↔ ((length text ≤ 20) × ((i : ℕ) → i < length text → (0x20 ≤ get_or text i 0) × (get_or text i 0 ≤ 0x7e)))
-unfolding printable
-printable_means text =
-    let all = each_means (within 0x20 0x7e) text in
-    and_means _ _ (leb_means (length text) 20) (λ e i h. (within_means 0x20 0x7e (get_or text i 0)).0 (all.0 e i h), λ f. all.1 (λ i h. (within_means 0x20 0x7e (get_or text i 0)).1 (f i h)))
+  -- its columns, as the code cuts them out
+  module _ (e : found (report_checks r) ≡ fine) where
+    pub recipient_short : {s : List ℕ} → s ≡ recipient_of → length s ≤ 20
+    recipient_short is = rw is (fine_told e).short
+
+    pub discharge_few : r.tp_discharge_time.length ≤ 14
+    discharge_few = let fit = all_fit_lem (lengths_of r) (fine_told e).lengths in omega (arith, fit)
+
+    pub discharge_long : {s : List ℕ} → s ≡ discharge_of → length s ≡ 14
+    discharge_long is = rw is (fine_told e).long
+
+  pub line_wrote : {recipient discharge : List ℕ} {at next : ℕ} {before after : List ℕ} → Wrote at (ended (fields recipient (in_hex r.tp_status) discharge ∷ [])) before next after
+      → recipient ≡ recipient_of → discharge ≡ discharge_of → Wrote at (ended (report_line r ∷ [])) before next after
+  unfolding report_line
+  line_wrote w is_r is_d = rw (← is_r, ← is_d) w
 
 -- ---- of records
 

@@ -78,6 +78,7 @@ fn put_line(out: &mut [u8], at: usize, recipient: &[u8], status: u8, discharge: 
 }
 
 // The line of a record.
+#[tactic(auto, using(crate::proofs::Checks::discharge_few))]
 fn put_report(out: &mut [u8], at: usize, r: &SmsStatusReport) -> usize
     requires { (found (report_checks r.now) ≡ fine) × (at + 39 ≤ length out.old) }
     ensures { Wrote at (ended (report_line r.now ∷ [])) out.old result out.new }

@@ -1,13 +1,12 @@
 -- `shift_page::put_report` meets its contract: the line of the record's fields.
-use Rattle.shift_page.specs.ShiftPage.{report_line}
-use Rattle.shift_page.proofs.Checks.{fine_told}
+use borrow.Author.Rules.{rules}
+use Rattle.shift_page.proofs.Checks.{recipient_short, discharge_long, line_wrote}
 use Rattle.shift_page.proofs.put_report.Goals as goal
 
 pub put_line-requires : goal.put_line-requires
 put_line-requires c =
-    let p = fine_told c.args.r.now c.requires.0 in
-    rw (c.as_slice-recipient.ensures, c.as_slice-discharge.ensures) (p.short, p.long, c.requires.1)
+    let r = c.args.r.now in
+    (recipient_short r c.requires.0 (search rules), discharge_long r c.requires.0 (search rules), c.requires.1)
 
 pub returns : goal.returns
-unfolding report_line
-returns c = rw (← c.as_slice-recipient.ensures, ← c.as_slice-discharge.ensures) c.put_line.ensures
+returns c = line_wrote c.args.r.now c.put_line.ensures (search rules) (search rules)
