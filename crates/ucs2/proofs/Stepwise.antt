@@ -1,7 +1,7 @@
 -- What is left to convert, one character at a time.
 -- Assumes nothing.
 use Rattle.std.specs.Prelude.{Ok, Err, if◌then◌else◌}
-use Prim.Native.Nat.{ℕ, zero, suc, ◌+◌, ◌*◌, ◌<◌, ◌≤◌}
+use Prim.Native.Nat.{ℕ, suc, ◌+◌, ◌*◌, ◌<◌, ◌≤◌}
 use mathlib.Core.Path.{◌≡◌, refl, sym, ◌∙◌}
 use mathlib.Core.Bool.{Bool, true, false}
 use lib.Dec.{eqb}
@@ -11,8 +11,7 @@ use native.Mathlib.Omega.{arith}
 use native.Mathlib.Nat.{zero-add}
 use native.Mathlib.Numerals.{add-one, add-two}
 use lib.ListN.{length, get_or, take, drop, replicate, length-drop}
-use lib.Seq.{drop-cons, get_or-take, get_or-drop}
-use Rattle.std.specs.Simd.{first_chunks}
+use lib.Seq.{drop-cons}
 use Rattle.octets.specs.Lent.{Wrote}
 use Rattle.octets.specs.declared.Refusal.{Refusal}
 use Rattle.octets.proofs.Laws.{sets_zeros, take_pad}

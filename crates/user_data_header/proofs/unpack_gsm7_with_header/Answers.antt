@@ -1,7 +1,5 @@
 -- `user_data_header::unpack_gsm7_with_header` meets its contract: each answer is a case of the definition.
-use Rattle.std.specs.Prelude.{Ok}
-use Prim.Native.Nat.{◌-◌, ◌*◌}
-use mathlib.Core.Path.{◌≡◌, sym, ap}
+use mathlib.Core.Path.{sym}
 use native.Mathlib.Omega.{arith}
 use Rattle.user_data_header.proofs.Cases.{read_long, read_short, read_over, read_few, read_after}
 use Rattle.user_data_header.proofs.unpack_gsm7_with_header.Goals as goal
