@@ -33,7 +33,7 @@ impl<'a> Cursor<'a> {
     }
 
     // The octets from the place on; none past the end.
-    fn rest(self) -> &'a [u8]
+    pub fn rest(self) -> &'a [u8]
         ensures { result.now ≡ drop self.entry.place self.entry.octets.now }
     {
         &self.octets[self.place.min(self.octets.len())..]

@@ -22,6 +22,7 @@ pub struct DeliverValues {
 
 // Writes values that were checked, with the address, the time's digits and the user data; how many octets they take.
 #[tactic(auto, using(octets::proofs::Laws::kept_by, time::proofs::Laws::time_size, address::proofs::Checks::fine_size))]
+#[inline(always)]
 fn put_fields(
     v: DeliverValues,
     number: Number<'_>,

@@ -60,8 +60,11 @@ Inside s at (Err why) = Unit
 abbrev pub parts_in : Option Number → Option (ℕ × ℕ × List ℕ)
 parts_in to = option_map (λ (n : Number). (n.ton, n.npi, n.text.now)) to
 
+abbrev pub parts_held : Option SMSAddress → Option (ℕ × ℕ × List ℕ)
+parts_held to = option_map (λ (a : SMSAddress). (a.ton, a.npi, text_held a)) to
+
 abbrev pub destination_in : SmsSubmit → Option (ℕ × ℕ × List ℕ)
-destination_in r = option_map (λ (to : SMSAddress). (to.ton, to.npi, text_held to)) r.tp_destination_address
+destination_in r = parts_held r.tp_destination_address
 
 -- its checks
 abbrev pub checks_in : Option (ℕ × ℕ × List ℕ) → List Check

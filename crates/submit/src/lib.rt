@@ -12,7 +12,7 @@ ghost use Rattle.septets.specs.Septets.{header_septets, fill_bits, septets_in};
 ghost use Rattle.gsm7.specs.Reading.{text_of, replaced_in, replaced_in_all};
 ghost use Rattle.user_data_header.specs.Header.{in_count};
 ghost use Rattle.layout.specs.Layout.{read, answer};
-ghost use Rattle.submit.specs.Internal.{fields_at, Inside, parts_in, destination_in};
+ghost use Rattle.submit.specs.Internal.{fields_at, Inside, parts_in, parts_held};
 ghost use Rattle.submit.specs.Submit.{submit, submitted, read_with, readable, data_septets, lengths_of, submitting};
 
 use crate::reading::SubmitFields;
@@ -164,6 +164,14 @@ pub fn decode_sms_submit_tpdu(data: &[u8]) -> Result<SubmitRead, Refusal>
     Ok(message(data, fields))
 }
 
+// Type, plan and text of an address, if there is one.
+#[inline(always)]
+fn number_of(address: &Option<SMSAddress>) -> Option<Number<'_>>
+    ensures { parts_in result ≡ parts_held address.now }
+{
+    address.as_ref().map(|address| address.number())
+}
+
 impl SmsSubmit {
     // Whether each length that counts keeps within its array: not that of an absent destination or header, nor that of
     // digits in another format than the absolute one.
@@ -180,13 +188,6 @@ impl SmsSubmit {
             .map_or(true, |header| header.fits());
         destination
             & (digits & (self.tp_user_data_raw.fits() & (header & self.tp_user_data.fits())))
-    }
-
-    // Type, plan and text of the destination, if there is one.
-    fn destination(&self) -> Option<Number<'_>>
-        ensures { parts_in result ≡ destination_in self.now }
-    {
-        self.tp_destination_address.as_ref().map(|to| to.number())
     }
 
     // Writes the message to the start of a lent output.
@@ -215,13 +216,11 @@ impl SmsSubmit {
             period: self.tp_validity_period,
             udl: self.tp_user_data_length,
         };
-        writing::encode_fields(
-            values,
-            self.destination(),
-            self.validity_period_digits.as_slice(),
-            self.validity_period_octets,
-            self.tp_user_data_raw.as_slice(),
-            out,
-        )
+        let digits = self.validity_period_digits.as_slice();
+        let enhanced = self.validity_period_octets;
+        let data = self.tp_user_data_raw.as_slice();
+        // By value: with a reference into the record itself more of the record is kept in memory, and copied.
+        let to = self.tp_destination_address;
+        writing::encode_fields(values, number_of(&to), digits, enhanced, data, out)
     }
 }

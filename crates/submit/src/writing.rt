@@ -26,6 +26,7 @@ pub struct SubmitValues {
 
 // Writes values that were checked, with the address, the digits or octets of the validity period and the user data; how many octets they take.
 #[tactic(auto, using(octets::proofs::Laws::kept_by, address::proofs::Checks::fine_size, validity_period::proofs::Period::period_size_lem))]
+#[inline(always)]
 fn put_fields(
     v: SubmitValues,
     number: Number<'_>,

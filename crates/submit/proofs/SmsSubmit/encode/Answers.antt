@@ -15,4 +15,4 @@ returns c =
     let r = c.args.self in
     let low : r.tp_vpf / 1 % 2 ≡ r.tp_vpf % 2 = omega arith in
     let first : c.first_octet.result ≡ first_of r = rw low c.first_octet.ensures in
-    rw (by_values r (sym c.lengths_fit.ensures ∙ c.if-not-lengths_fit.false), ← first, ← c.destination.ensures, ← c.as_slice.ensures, ← c.as_slice-2.ensures) c.encode_fields.ensures
+    rw (by_values r (sym c.lengths_fit.ensures ∙ c.if-not-lengths_fit.false), ← first, ← c.number_of.ensures, ← c.as_slice-digits.ensures, ← c.as_slice-data.ensures) c.encode_fields.ensures
