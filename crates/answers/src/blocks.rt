@@ -35,7 +35,7 @@ fn put_string(out: &mut Output, string: &[u8]) {
     if string.is_empty() {
         out.put(b" -");
     } else {
-        fields::octets(out, " ", string);
+        fields::octets(out, b" ", string);
     }
 }
 

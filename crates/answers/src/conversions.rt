@@ -100,15 +100,15 @@ pub fn check(request: Conversion, line: &[u8]) -> Result<(), Reason> {
 
 fn unpack(octets: &[u8], septets: usize, out: &mut Output) -> Result<(), Refusal> {
     let read = tpdu::unpack_gsm7(octets, septets)?;
-    fields::octets(out, "ok text=", read.text.as_slice());
+    fields::octets(out, b"ok text=", read.text.as_slice());
     fields::replaced(out, read.replaced_escapes);
     Ok(())
 }
 
 fn unpack_header(octets: &[u8], septets: usize, out: &mut Output) -> Result<(), Refusal> {
     let read = tpdu::unpack_gsm7_with_header(octets, septets)?;
-    fields::octets(out, "ok header=", read.header.as_slice());
-    fields::octets(out, " text=", read.text.as_slice());
+    fields::octets(out, b"ok header=", read.header.as_slice());
+    fields::octets(out, b" text=", read.text.as_slice());
     fields::replaced(out, read.replaced_escapes);
     Ok(())
 }
@@ -117,7 +117,7 @@ fn unpack_header(octets: &[u8], septets: usize, out: &mut Output) -> Result<(), 
 fn number_and_octets(out: &mut Output, name: &str, n: usize, octets: &[u8]) {
     out.put_text(name);
     out.put_decimal(n as u64);
-    fields::octets(out, " octets=", octets);
+    fields::octets(out, b" octets=", octets);
 }
 
 // What a packer answers, and the octets that it writes.

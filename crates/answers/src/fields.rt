@@ -9,33 +9,33 @@ use tpdu::{Refusal, Time, UserData};
 
 // ---- fields: a name, such as ` udl=`, and a value
 
-pub fn number(out: &mut Output, name: &str, n: u8) {
-    out.put_text(name);
+pub fn number(out: &mut Output, name: &[u8], n: u8) {
+    out.put(name);
     out.put_decimal(u64::from(n));
 }
 
 // Several numbers, each after its name.
-pub fn numbers(out: &mut Output, fields: &[(&str, u8)]) {
+pub fn numbers(out: &mut Output, fields: &[(&[u8], u8)]) {
     for (name, n) in fields {
         number(out, name, *n);
     }
 }
 
 #[tactic(auto, unfolding(octets::specs::Texts::codes))]
-pub fn absent(out: &mut Output, name: &str)
+pub fn absent(out: &mut Output, name: &[u8])
     ensures { out.new ≡ appended 65536 (codes "-") (appended 65536 name.now out.old) }
 {
-    out.put_text(name);
+    out.put(name);
     out.put(b"-");
 }
 
 // Items with commas between.
-pub fn list(out: &mut Output, name: &str, items: &[u8]) {
-    out.put_text(name);
-    let mut separator = "";
+pub fn list(out: &mut Output, name: &[u8], items: &[u8]) {
+    out.put(name);
+    let mut separator: &[u8] = b"";
     for item in items {
         number(out, separator, *item);
-        separator = ",";
+        separator = b",";
     }
 }
 
@@ -46,15 +46,15 @@ pub fn replaced(out: &mut Output, n: usize) {
 }
 
 // An octet in hexadecimal.
-pub fn octet(out: &mut Output, name: &str, octet: u8) {
-    out.put_text(name);
+pub fn octet(out: &mut Output, name: &[u8], octet: u8) {
+    out.put(name);
     out.put_hex_octet(octet);
 }
 
 // What another function writes of a value, or that there is none.
-pub fn optional<T: Copy, F: FnOnce(&mut Output, &str, T)>(
+pub fn optional<T: Copy, F: FnOnce(&mut Output, &[u8], T)>(
     out: &mut Output,
-    name: &str,
+    name: &[u8],
     value: Option<T>,
     put: F,
 )
@@ -68,24 +68,24 @@ pub fn optional<T: Copy, F: FnOnce(&mut Output, &str, T)>(
 }
 
 // Octets in hexadecimal.
-pub fn octets(out: &mut Output, name: &str, octets: &[u8]) {
-    out.put_text(name);
+pub fn octets(out: &mut Output, name: &[u8], octets: &[u8]) {
+    out.put(name);
     out.put_hex(octets);
 }
 
 // Type of number, plan and text of an address.
 pub fn address(out: &mut Output, ton: u8, npi: u8, text: &[u8]) {
-    numbers(out, &[(" ton=", ton), (" npi=", npi)]);
-    octets(out, " address=", text);
+    numbers(out, &[(b" ton=", ton), (b" npi=", npi)]);
+    octets(out, b" address=", text);
 }
 
-pub fn user_data(out: &mut Output, name: &str, data: UserData) {
+pub fn user_data(out: &mut Output, name: &[u8], data: UserData) {
     octets(out, name, data.as_slice());
 }
 
 // The digits of a time.
-pub fn time(out: &mut Output, name: &str, time: Time) {
-    out.put_text(name);
+pub fn time(out: &mut Output, name: &[u8], time: Time) {
+    out.put(name);
     out.put(time.as_slice());
 }
 
@@ -102,6 +102,6 @@ pub fn written<const N: usize, F: FnOnce(&mut [u8]) -> Result<usize, Refusal>>(
 {
     let mut lent = [0u8; N];
     let n = write(&mut lent)?;
-    octets(out, "ok ", first(&lent, n));
+    octets(out, b"ok ", first(&lent, n));
     Ok(())
 }

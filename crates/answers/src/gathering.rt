@@ -91,9 +91,9 @@ fn put_reference(out: &mut Output, reference: Reference) {
 fn part(store: &mut Store, octets: &[u8], out: &mut Output) -> Result<(), Refusal> {
     let accepted = tpdu::accept_part(store, octets)?;
     put_reference(out, accepted.part.reference);
-    fields::number(out, " total=", accepted.part.total);
-    fields::number(out, " number=", accepted.part.number);
-    fields::list(out, " missing=", accepted.missing.as_slice());
+    fields::number(out, b" total=", accepted.part.total);
+    fields::number(out, b" number=", accepted.part.number);
+    fields::list(out, b" missing=", accepted.missing.as_slice());
     Ok(())
 }
 
@@ -110,8 +110,8 @@ fn take(store: &mut Store, line: &[u8], out: &mut Output) -> Result<(), Refusal>
     let mut lent = [0u8; 4080];
     match tpdu::take_message(store, sender, reference, total, &mut lent)? {
         MessageTaken::Whole(dcs, n) => {
-            fields::octet(out, "ok dcs=", dcs);
-            fields::octets(out, " octets=", first(&lent, n));
+            fields::octet(out, b"ok dcs=", dcs);
+            fields::octets(out, b" octets=", first(&lent, n));
         }
         MessageTaken::NotOpen => out.put(b"not open"),
         MessageTaken::NotWhole => out.put(b"not whole"),

@@ -15,31 +15,31 @@ fn address(out: &mut Output, a: SMSAddress) {
 }
 
 fn protocol_and_coding(out: &mut Output, pid: u8, dcs: u8) {
-    fields::octet(out, " pid=", pid);
-    fields::octet(out, " dcs=", dcs);
+    fields::octet(out, b" pid=", pid);
+    fields::octet(out, b" dcs=", dcs);
 }
 
 fn user_data(out: &mut Output, udl: u8, ud: UserData) {
-    fields::number(out, " udl=", udl);
-    fields::user_data(out, " ud=", ud);
+    fields::number(out, b" udl=", udl);
+    fields::user_data(out, b" ud=", ud);
 }
 
-fn optional_octet(out: &mut Output, name: &str, x: Option<u8>) {
+fn optional_octet(out: &mut Output, name: &[u8], x: Option<u8>) {
     fields::optional(out, name, x, fields::octet);
 }
 
 // The parameters of a report.
 fn parameters(out: &mut Output, pid: Option<u8>, dcs: Option<u8>, udl: Option<u8>, ud: UserData) {
-    optional_octet(out, " pid=", pid);
-    optional_octet(out, " dcs=", dcs);
-    fields::optional(out, " udl=", udl, fields::number);
-    fields::user_data(out, " ud=", ud);
+    optional_octet(out, b" pid=", pid);
+    optional_octet(out, b" dcs=", dcs);
+    fields::optional(out, b" udl=", udl, fields::number);
+    fields::user_data(out, b" ud=", ud);
 }
 
 // ---- records: each function takes what a reader gives
 
 fn time_and_data(out: &mut Output, scts: Time, udl: u8, ud: UserData) {
-    fields::time(out, " scts=", scts);
+    fields::time(out, b" scts=", scts);
     user_data(out, udl, ud);
 }
 
@@ -48,12 +48,12 @@ fn deliver(out: &mut Output, read: DeliverRead) {
     fields::numbers(
         out,
         &[
-            ("ok rp=", u8::from(m.tp_rp)),
-            (" udhi=", u8::from(m.tp_udhi)),
-            (" sri=", u8::from(m.tp_sri)),
-            (" lp=", u8::from(m.tp_lp)),
-            (" mms=", u8::from(m.tp_mms)),
-            (" mti=", m.tp_mti),
+            (b"ok rp=", u8::from(m.tp_rp)),
+            (b" udhi=", u8::from(m.tp_udhi)),
+            (b" sri=", u8::from(m.tp_sri)),
+            (b" lp=", u8::from(m.tp_lp)),
+            (b" mms=", u8::from(m.tp_mms)),
+            (b" mti=", m.tp_mti),
         ],
     );
     address(out, m.tp_originating_address);
@@ -69,15 +69,15 @@ fn deliver(out: &mut Output, read: DeliverRead) {
 
 fn period(out: &mut Output, p: ValidityPeriod, time: Time, octets: [u8; 7]) {
     match p {
-        ValidityPeriod::None => fields::absent(out, " vp="),
-        ValidityPeriod::Relative(x) => fields::octet(out, " vp=relative:", x),
-        ValidityPeriod::Absolute => fields::time(out, " vp=absolute:", time),
-        ValidityPeriod::Enhanced => fields::octets(out, " vp=enhanced:", &octets),
+        ValidityPeriod::None => fields::absent(out, b" vp="),
+        ValidityPeriod::Relative(x) => fields::octet(out, b" vp=relative:", x),
+        ValidityPeriod::Absolute => fields::time(out, b" vp=absolute:", time),
+        ValidityPeriod::Enhanced => fields::octets(out, b" vp=enhanced:", &octets),
     }
 }
 
 fn text(out: &mut Output, t: SubmitText) {
-    fields::octets(out, " text=", t.as_slice());
+    fields::octets(out, b" text=", t.as_slice());
 }
 
 // What follows TP-DCS in a SUBMIT.
@@ -89,7 +89,7 @@ fn after_coding(out: &mut Output, m: SmsSubmit) {
         m.validity_period_octets,
     );
     user_data(out, m.tp_user_data_length, m.tp_user_data_raw);
-    fields::optional(out, " header=", m.tp_user_data_header, fields::user_data);
+    fields::optional(out, b" header=", m.tp_user_data_header, fields::user_data);
     text(out, m.tp_user_data);
 }
 
@@ -98,15 +98,15 @@ fn before_protocol(out: &mut Output, m: SmsSubmit) {
     fields::numbers(
         out,
         &[
-            (" rp=", u8::from(m.tp_rp)),
-            (" udhi=", u8::from(m.tp_udhi)),
-            (" srr=", u8::from(m.tp_srr)),
-            (" vpf=", m.tp_vpf),
-            (" rd=", u8::from(m.tp_rd)),
-            (" mti=", m.tp_mti),
+            (b" rp=", u8::from(m.tp_rp)),
+            (b" udhi=", u8::from(m.tp_udhi)),
+            (b" srr=", u8::from(m.tp_srr)),
+            (b" vpf=", m.tp_vpf),
+            (b" rd=", u8::from(m.tp_rd)),
+            (b" mti=", m.tp_mti),
         ],
     );
-    fields::octet(out, " mr=", m.tp_mr);
+    fields::octet(out, b" mr=", m.tp_mr);
     if let Some(destination) = m.tp_destination_address {
         address(out, destination);
     }
@@ -128,9 +128,9 @@ fn submit(out: &mut Output, read: SubmitRead) {
 
 // What stands before the parameters in a report with an outcome, but for a time.
 fn report_numbers(out: &mut Output, udhi: u8, fcs: Option<u8>, pi: u8) {
-    fields::number(out, "ok udhi=", udhi);
-    optional_octet(out, " fcs=", fcs);
-    fields::octet(out, " pi=", pi);
+    fields::number(out, b"ok udhi=", udhi);
+    optional_octet(out, b" fcs=", fcs);
+    fields::octet(out, b" pi=", pi);
 }
 
 fn rp_outcome(out: &mut Output, o: RpOutcome) {
@@ -143,7 +143,7 @@ fn rp_outcome(out: &mut Output, o: RpOutcome) {
 fn submit_report(out: &mut Output, read: SubmitReportRead) {
     let m = read.message;
     report_numbers(out, m.tp_udhi, m.tp_failure_cause, m.tp_parameter_indicator);
-    fields::time(out, " scts=", m.tp_service_centre_timestamp);
+    fields::time(out, b" scts=", m.tp_service_centre_timestamp);
     parameters(
         out,
         m.tp_pid,
@@ -175,9 +175,9 @@ fn deliver_report(out: &mut Output, read: DeliverReportRead) {
 }
 
 fn times_and_status(out: &mut Output, scts: Time, dt: Time, st: u8) {
-    fields::time(out, " scts=", scts);
-    fields::time(out, " dt=", dt);
-    fields::octet(out, " st=", st);
+    fields::time(out, b" scts=", scts);
+    fields::time(out, b" dt=", dt);
+    fields::octet(out, b" st=", st);
 }
 
 // What stands before the indicator in a STATUS-REPORT.
@@ -185,13 +185,13 @@ fn before_indicator(out: &mut Output, m: SmsStatusReport) {
     fields::numbers(
         out,
         &[
-            ("ok udhi=", u8::from(m.tp_udhi)),
-            (" srq=", u8::from(m.tp_srq)),
-            (" lp=", u8::from(m.tp_lp)),
-            (" mms=", u8::from(m.tp_mms)),
+            (b"ok udhi=", u8::from(m.tp_udhi)),
+            (b" srq=", u8::from(m.tp_srq)),
+            (b" lp=", u8::from(m.tp_lp)),
+            (b" mms=", u8::from(m.tp_mms)),
         ],
     );
-    fields::octet(out, " mr=", m.tp_mr);
+    fields::octet(out, b" mr=", m.tp_mr);
     address(out, m.tp_recipient_address);
     times_and_status(
         out,
@@ -204,7 +204,7 @@ fn before_indicator(out: &mut Output, m: SmsStatusReport) {
 fn status_report(out: &mut Output, read: StatusReportRead) {
     let m = read.message;
     before_indicator(out, m);
-    optional_octet(out, " pi=", m.tp_parameter_indicator);
+    optional_octet(out, b" pi=", m.tp_parameter_indicator);
     parameters(
         out,
         m.tp_pid,
