@@ -18,7 +18,7 @@ use Rattle.octets.specs.Each.{Octets}
 use Rattle.octets.specs.Lent.{refused, made}
 use Rattle.octets.specs.declared.Refusal.TheVariants.{LengthTooLarge, AddressTooLong}
 use Rattle.octets.proofs.Checks.{made_unless}
-use Rattle.octets.specs.Held.{holding, filled}
+use Rattle.octets.specs.Held.{holding}
 use Rattle.octets.proofs.Holding.{filled_holding, holding_cleared, held_back}
 use Rattle.septets.specs.Septets.{septets_in}
 use Rattle.septets.proofs.Inverse.{length_septets}

@@ -1,6 +1,6 @@
 -- What writing a record makes: its length is looked at first.
 -- Assumes nothing.
-use Prim.Native.Nat.{◌≤◌, ◌<◌}
+use Prim.Native.Nat.{◌≤◌}
 use mathlib.Core.Path.{◌≡◌}
 use borrow.Author.Tests.{lt-ltb, le-ltb, leb-false}
 use mathlib.Core.Bool.{false}

@@ -1,5 +1,5 @@
 -- Addresses (TS 23.040 §9.1.2.5): a length octet L in semi-octets, a type octet, and ceil(L/2) value octets.
-use Rattle.std.specs.Prelude.{ℕ, ◌+◌, ◌*◌, ◌/◌, ◌%◌, ◌≡◌, refl, List, [], ◌∷◌, map, eqb, ltb, length, get_or, take, drop, if◌then◌else◌}
+use Rattle.std.specs.Prelude.{ℕ, ◌+◌, ◌*◌, ◌/◌, ◌%◌, ◌≡◌, refl, List, [], ◌∷◌, map, eqb, ltb, get_or, take, drop, if◌then◌else◌}
 use Rattle.octets.specs.Held.{holding, filled, cleared_held, TypedHeld}
 use Rattle.octets.specs.Each.{each}
 use Rattle.octets.specs.Lent.{Making, refused}

@@ -1,5 +1,5 @@
 -- `address::writing::semi_octet_or_f` meets its contract.
-use Prim.Native.Nat.{◌≤◌, ◌<◌}
+use Prim.Native.Nat.{◌≤◌}
 use Rattle.std.specs.Prelude.{unwrap_or}
 use Rattle.std.proofs.lemmas.List.{get_or_default}
 use mathlib.Core.Path.{◌≡◌, sym, ap, ◌∙◌}
