@@ -27,7 +27,7 @@ ghost use Rattle.status_report.specs.StatusReport.{status_report, status_reporti
 ghost use Rattle.submit_report.specs.SubmitReport.{layout_of as submitReportLayout, submit_reporting, read_with as submitReportReadWith};
 ghost use Rattle.deliver_report.specs.DeliverReport.{layout_of as deliverReportLayout, deliver_reporting, read_with as deliverReportReadWith};
 ghost use Rattle.octets.specs.Refusals.{refusal_number};
-ghost use Rattle.bench_exports.specs.Numbers.{address_array, user_data_array, digits_array, count_number, lent_number, packed_number, sent_number, emptied_number, accepted_number, strings_number, message_number, taken_number, deliver_number, submit_number, status_report_number, submit_report_number, deliver_report_number, unpacked_number, digits_number, elements_number, relay_number};
+ghost use Rattle.bench_exports.specs.Numbers.{address_array, user_data_array, count_number, lent_number, packed_number, sent_number, emptied_number, accepted_number, strings_number, message_number, taken_number, deliver_number, submit_number, status_report_number, submit_report_number, deliver_report_number, unpacked_number, digits_number, elements_number, relay_number};
 
 use octets::Held;
 use tpdu::{
@@ -63,13 +63,6 @@ fn user_data_array(user_data: Option<UserData>) -> [u8; 255]
     ensures { result ≡ user_data_array user_data }
 {
     user_data.unwrap_or_default().octets
-}
-
-#[tactic(auto, unfolding(octets::specs::Held::holding, octets::specs::Arrays::pad))]
-fn digits_array(address: Option<RelayAddress>) -> [u8; 508]
-    ensures { result ≡ digits_array address }
-{
-    address.unwrap_or_default().address.octets
 }
 
 // The first octets of an array.
@@ -405,7 +398,10 @@ pub extern "C" fn tpdu_read_relay_address(data: &[u8], digits: &mut [u8; 508]) -
 {
     match tpdu::RelayAddress::decode(data) {
         Ok(read) => {
-            *digits = digits_array(read.address);
+            match &read.address {
+                Some(relay) => *digits = relay.address.octets,
+                None => *digits = [0; 508],
+            }
             read.octets_read
         }
         Err(why) => {

@@ -89,19 +89,17 @@ impl RelayAddress {
         };
         let end = next.at;
         let semi_octets = 2 * value_octets;
-        // Filled in its place: an array that is put into the record afterwards is copied.
-        let mut held = RelayAddress {
-            ton: type_of_address / 16 % 8,
-            npi: type_of_address % 16,
-            address: Held {
-                length: 0,
-                octets: [0; 508],
-            },
-        };
-        let length = address::digits_text(&data[at..end], semi_octets, &mut held.address.octets);
-        held.address.length = length;
+        let mut address = [0u8; 508];
+        let length = address::digits_text(&data[at..end], semi_octets, &mut address);
         Ok(RelayAddressRead {
-            address: Some(held),
+            address: Some(RelayAddress {
+                ton: type_of_address / 16 % 8,
+                npi: type_of_address % 16,
+                address: Held {
+                    octets: address,
+                    length,
+                },
+            }),
             octets_read: end,
         })
     }
