@@ -1,5 +1,5 @@
 // Reading and writing back: the canonical octets of a message.
-#![tactic(auto)]
+#![tactic(auto, using(layout::proofs::Rewriting::refused_whole))]
 
 ghost use Rattle.std.specs.Prelude.{◌≡◌};
 ghost use Rattle.octets.specs.Lent.{lend};

@@ -1,16 +1,9 @@
 -- `canonical::canonical_submit` meets its contract: the reader's answer, then the writer's.
 use mathlib.Core.Path.{refl}
-use Rattle.std.proofs.lemmas.Result.{err_from_is_err_and}
 use Rattle.layout.specs.Layout.{read}
-use Rattle.layout.proofs.Rewriting.{refused_whole, written_whole}
+use Rattle.layout.proofs.Rewriting.{written_whole}
 use Rattle.submit.specs.Submit.{read_with, submit, submitting}
 use Rattle.canonical.proofs.canonical_submit.Goals as goal
-
-pub returns-in_err-read : goal.returns-in_err-read
-returns-in_err-read c =
-    let s = c.args.«data».now in
-    let p = err_from_is_err_and c.from_residual.result c.from_residual.ensures.1 in
-    rw (p.1, p.2) (refused_whole (read_with s) submitting (read submit s) _ c.in_err-read.ensures)
 
 pub returns : goal.returns
 returns c =
