@@ -1,4 +1,4 @@
--- `canonical::canonical_deliver_report_error` meets its contract: the reader's answer, then the writer's.
+-- `canonical::canonical_deliver_report_error` meets its contract where a message is read: the answer is the writer's.
 use mathlib.Core.Path.{refl}
 use Rattle.layout.specs.Layout.{read}
 use Rattle.layout.proofs.Rewriting.{written_whole}
