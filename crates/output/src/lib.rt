@@ -14,7 +14,7 @@ use std::marker::Model;
 pub const SIZE: usize = 65536;
 
 // What a program has answered and not yet written out.
-#[derive(Drop)]
+#[derive(Clone, Drop)]
 pub struct Output {
     octets: [u8; SIZE],
     length: usize,

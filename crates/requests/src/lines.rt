@@ -9,7 +9,7 @@ use text_fields::slices::first;
 use wording::refusals::Audience;
 
 // The line that is held. The octets of one that is too long are counted, and no longer held.
-#[derive(Drop)]
+#[derive(Clone, Copy)]
 pub struct Line {
     octets: [u8; 8192],
     length: usize,
