@@ -2,7 +2,7 @@
 -- Assumes nothing.
 use Prim.Native.Char.{code}
 use Prim.Native.Nat.{ℕ, zero, suc, ◌+◌, ◌*◌, ◌/◌, ◌%◌, ◌<◌, ◌≤◌}
-use mathlib.Core.Path.{◌≡◌, refl, ap₂, ◌∙◌}
+use mathlib.Core.Path.{◌≡◌, refl, ap₂}
 use mathlib.Core.Bool.{Bool, true, false}
 use mathlib.Core.List.{List, [], ◌∷◌, ◌++◌, append_assoc}
 use mathlib.Core.Logic.{◌↔◌}
@@ -11,7 +11,7 @@ use native.Mathlib.Omega.{arith}
 use borrow.Author.Tests.{le-leb, lt-leb, eq-eqb, eqb-true, lt-ltb}
 use lib.Dec.{eqb}
 use lib.ListN.{length, take, drop, get_or, length-append, drop_of_length-le}
-use lib.Seq.{sets-eq, length-take-le, take_at, drop-cons, get_or-take, get_or-drop}
+use lib.Seq.{sets-eq, length-take-le, take_at, drop-cons}
 use Rattle.octets.specs.Each.{Octets, each}
 use Rattle.octets.specs.Lent.{Wrote}
 use Rattle.octets.proofs.Choice.{and_means}
@@ -21,7 +21,6 @@ use Rattle.time.specs.Time.{is_hex, hex_value}
 use Rattle.octets.specs.Decimal.{significant, decimal_text}
 use Rattle.output.specs.declared.hexadecimal.HexError.{HexError}
 use Rattle.std.specs.Prelude.{Result, Ok, Err, ◌^◌}
-use Rattle.std.specs.Simd.{first_chunks}
 use Rattle.std.specs.Fmt.{decimal, digits, digits_onto}
 use Rattle.output.specs.Output.{appended}
 use Rattle.output.specs.Hexadecimal.{lower_digit, hex_text, is_hex_text, octets_of, read_into}
