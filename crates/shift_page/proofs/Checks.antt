@@ -5,7 +5,6 @@ use Prim.Native.Nat.{ℕ, ◌+◌, ◌<◌, ◌≤◌}
 use mathlib.Core.Path.{◌≡◌, ◌∙◌}
 use mathlib.Core.Bool.{true, false}
 use mathlib.Core.List.{List, [], ◌∷◌, ◌++◌, append_assoc, map}
-use mathlib.Core.Logic.{◌↔◌}
 use native.Mathlib.Numerals.{add-one}
 use native.Mathlib.Omega.{arith}
 use borrow.Author.Tests.{leb-true}
@@ -21,8 +20,7 @@ use Rattle.octets.specs.declared.Refusal.TheVariants.{LengthTooLarge, NotATime, 
 use Rattle.octets.specs.Held.{filled}
 use Rattle.octets.specs.Lent.{Wrote}
 use Rattle.octets.proofs.Checks.{passed, against, holds, both_hold, all_fit_lem}
-use Rattle.octets.proofs.Choice.{and_true, and_means, leb_means, within_means}
-use Rattle.octets.proofs.Each.{each_means}
+use Rattle.octets.proofs.Choice.{and_true}
 use Rattle.time.specs.Time.{is_hex, is_time, in_hex}
 use Rattle.time.proofs.Laws.{time_means}
 use Rattle.address.specs.Address.{text_held}
