@@ -14,18 +14,27 @@ use std::marker::Model;
 pub const SIZE: usize = 65536;
 
 // What a program has answered and not yet written out.
-#[derive(Clone, Drop)]
+#[derive(Clone, Copy)]
 pub struct Output {
     octets: [u8; SIZE],
     length: usize,
 }
 
 impl Model for Output {
+    ghost use Rattle.std.specs.Prelude.{◌≡◌, ◌≤◌, ℕ, List, length as count, take};
+    ghost use Rattle.std.proofs.Common.{length-take-le};
+    ghost use Rattle.octets.specs.Arrays.{pad};
+
     ghost Value = { List ℕ };
 
     ghost view = { λ o. take o.length o.octets };
 
-    ghost invariant = { λ o. o.length ≤ 65536 };
+    // Zeros follow what is held, so that the list gives the fields back and an output can be copied.
+    ghost invariant = { λ o. (o.length ≤ count o.octets) × (pad 65536 (take o.length o.octets) ≡ o.octets) };
+
+    ghost inverse = { λ held. record { octets = pad 65536 held; length = count held } };
+
+    ghost inverse_ok = { λ o h i. record { octets = h.1 i; length = length-take-le o.length o.octets h.0 i } };
 }
 
 impl Output {
@@ -53,6 +62,7 @@ impl Output {
     pub fn clear(&mut self)
         ensures { self.new ≡ [] }
     {
+        self.octets[..self.length].fill(0);
         self.length = 0;
     }
 
