@@ -8,7 +8,7 @@ ghost use Rattle.std.specs.Prelude.{◌≡◌};
 ghost use Rattle.octets.specs.Lent.{lend};
 ghost use Rattle.layout.specs.Layout.{read, answer};
 ghost use Rattle.deliver.specs.Internal.{fields_at, reached_at, Inside};
-ghost use Rattle.deliver.specs.Deliver.{delivered, deliver, read_with, delivering};
+ghost use Rattle.deliver.specs.Deliver.{blank, delivered, deliver, read_with, delivering};
 
 use crate::reading::DeliverFields;
 use crate::writing::DeliverValues;
@@ -18,8 +18,7 @@ use layout::{MTI_DELIVER, MessageRead};
 use octets::Refusal;
 use time::Time;
 
-// Its default is the blank message.
-#[derive(Clone, Copy, Debug, Default)]
+#[derive(Clone, Copy, Debug)]
 pub struct SmsDeliver {
     pub tp_rp: bool,
     pub tp_udhi: bool,
@@ -33,6 +32,29 @@ pub struct SmsDeliver {
     pub tp_service_centre_timestamp: Time,
     pub tp_user_data_length: u8,
     pub tp_user_data: UserData,
+}
+
+// The blank message. By hand: an edit plants a wrong body.
+impl Default for SmsDeliver {
+    ghost is_default = { λ r. r ≡ blank };
+
+    #[tactic(auto, unfolding(crate::specs::Deliver::blank, address::specs::Address::address_with, time::specs::Time::time_digits))]
+    fn default() -> Self {
+        SmsDeliver {
+            tp_rp: false,
+            tp_udhi: false,
+            tp_sri: false,
+            tp_lp: false,
+            tp_mms: false,
+            tp_mti: 0,
+            tp_originating_address: SMSAddress::default(),
+            tp_pid: 0,
+            tp_dcs: 0,
+            tp_service_centre_timestamp: Time::default(),
+            tp_user_data_length: 0,
+            tp_user_data: UserData::default(),
+        }
+    }
 }
 
 // What reading gives.

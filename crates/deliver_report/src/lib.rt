@@ -5,12 +5,14 @@ ghost use Rattle.std.specs.Prelude.{◌≡◌};
 ghost use Rattle.octets.specs.Lent.{lend};
 ghost use Rattle.layout.specs.Layout.{read, answer};
 ghost use Rattle.parameters.specs.declared.RpOutcome.TheVariants.{RpAck, RpError};
-ghost use Rattle.deliver_report.specs.DeliverReport.{layout_of, read_with, deliver_reporting_within, deliver_reporting, deliver_reporting_to_standard};
+ghost use Rattle.report.specs.Internal.{fields_at, Inside};
+ghost use Rattle.deliver_report.specs.DeliverReport.{deliver_reported, blank, layout_of, read_with, deliver_reporting_within, deliver_reporting, deliver_reporting_to_standard};
 
 use coding::UserData;
 use layout::{MTI_DELIVER, MessageRead};
 use octets::Refusal;
 use parameters::{ParameterOctets, RpOutcome};
+use report::reading::ReportFields;
 use report::writing::ReportValues;
 
 // The octets of user data in the standard's tables of a report in an RP-ACK and in an RP-ERROR (TS 23.040 §9.2.2.1a).
@@ -18,8 +20,7 @@ const RP_ACK_USER_DATA_OCTETS: usize = 159;
 
 const RP_ERROR_USER_DATA_OCTETS: usize = 158;
 
-// The default is the blank record, which holds RP-ACK whatever the entry point.
-#[derive(Clone, Copy, Debug, Default)]
+#[derive(Clone, Copy, Debug)]
 pub struct SmsDeliverReport {
     pub tp_udhi: bool,
     pub tp_failure_cause: Option<u8>,
@@ -31,8 +32,34 @@ pub struct SmsDeliverReport {
     pub rp_outcome: RpOutcome,
 }
 
+// The blank record, which holds RP-ACK whatever the entry point. By hand: an edit plants a wrong body.
+impl Default for SmsDeliverReport {
+    ghost is_default = { λ r. r ≡ blank };
+
+    fn default() -> Self {
+        message(&[], ReportFields::default())
+    }
+}
+
 // What reading gives; the kind has no text, so no escapes were replaced: 0.
 pub type DeliverReportRead = MessageRead<SmsDeliverReport>;
+
+// The report of fields that are there.
+fn message(data: &[u8], f: ReportFields) -> SmsDeliverReport
+    requires { Inside «data».now f }
+    ensures { result ≡ deliver_reported (fields_at «data».now f) }
+{
+    SmsDeliverReport {
+        tp_udhi: f.udhi,
+        tp_failure_cause: f.cause,
+        tp_parameter_indicator: f.indicator,
+        tp_pid: f.parameters.pid,
+        tp_dcs: f.parameters.dcs,
+        tp_user_data_length: f.parameters.udl,
+        tp_user_data: octets::hold(&data[f.data..f.data + f.octets]),
+        rp_outcome: f.rp_outcome,
+    }
+}
 
 // The report that a string is, read as one of this outcome.
 fn decode(data: &[u8], rp_outcome: RpOutcome) -> Result<DeliverReportRead, Refusal>
@@ -40,16 +67,7 @@ fn decode(data: &[u8], rp_outcome: RpOutcome) -> Result<DeliverReportRead, Refus
 {
     let f = report::reading::fields_of(data, MTI_DELIVER, false, rp_outcome)?;
     Ok(MessageRead {
-        message: SmsDeliverReport {
-            tp_udhi: f.udhi,
-            tp_failure_cause: f.cause,
-            tp_parameter_indicator: f.indicator,
-            tp_pid: f.parameters.pid,
-            tp_dcs: f.parameters.dcs,
-            tp_user_data_length: f.parameters.udl,
-            tp_user_data: octets::hold(&data[f.data..f.data + f.octets]),
-            rp_outcome: f.rp_outcome,
-        },
+        message: message(data, f),
         replaced_escapes: 0,
     })
 }

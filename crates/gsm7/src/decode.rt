@@ -76,10 +76,23 @@ pub static EXTENSION: [Extension; 10] = [
 ];
 
 // The text of counted septets, and the number of escapes in them that led to no character of the extension table.
-#[derive(Clone, Copy, Debug, Default)]
+#[derive(Clone, Copy, Debug)]
 pub struct Unpacked {
     pub text: Held<510>,
     pub replaced_escapes: usize,
+}
+
+// No text. By hand: an edit plants a wrong body.
+impl Default for Unpacked {
+    ghost is_default = { λ u. u ≡ text_given [] 0 };
+
+    #[tactic(auto, unfolding(crate::specs::Reading::text_given, octets::specs::Held::holding))]
+    fn default() -> Self {
+        Unpacked {
+            text: Held::default(),
+            replaced_escapes: 0,
+        }
+    }
 }
 
 // Text that was written: the place after it, and the number of escapes in it that led to no character of the extension table.

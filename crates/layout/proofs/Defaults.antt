@@ -1,4 +1,4 @@
--- The derived default of what a reader gives: a message's own default, and nothing replaced.
+-- The default of what a reader gives: a message's own default, and nothing replaced.
 -- Assumes nothing.
 use mathlib.Core.Path.{◌≡◌}
 use denote.RattleType.{RattleType}

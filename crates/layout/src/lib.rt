@@ -13,10 +13,22 @@ pub const MTI_SUBMIT: u8 = 1;
 pub const MTI_STATUS_REPORT: u8 = 2;
 
 // What a reader gives: the message, and the number of escapes in its text that led to no character of the extension table.
-#[derive(Clone, Copy, Debug, Default)]
+#[derive(Clone, Copy, Debug)]
 pub struct MessageRead<M> {
     pub message: M,
     pub replaced_escapes: usize,
+}
+
+// The message's own, and nothing replaced. By hand: an edit plants a wrong body.
+impl<M: Default> Default for MessageRead<M> {
+    ghost is_default = { λ r. M.is_default r.message × (r.replaced_escapes ≡ 0) };
+
+    fn default() -> Self {
+        MessageRead {
+            message: M::default(),
+            replaced_escapes: 0,
+        }
+    }
 }
 
 // A first octet of TP-MTI and its flags, from bit 7 down to bit 2.

@@ -8,7 +8,7 @@ ghost use Rattle.deliver.specs.Deliver.{delivered};
 ghost use Rattle.deliver.specs.Internal.{fields_at, found_says as fieldsSay, Inside};
 ghost use Rattle.message_store.specs.Part.{arrival_of};
 ghost use Rattle.message_store.specs.Store.{store_octets, opened_with, message_in};
-ghost use Rattle.reassembly.specs.Calls.{emptied, told, storing, joining, placing_as, accepting, handing, taking_by, finding_by, dropping_by, arriving};
+ghost use Rattle.reassembly.specs.Calls.{blank, emptied, told, storing, joining, placing_as, accepting, handing, taking_by, finding_by, dropping_by, arriving};
 ghost use Rattle.reassembly.specs.Internal.{slot_found, kept};
 
 use address::SMSAddress;
@@ -22,11 +22,23 @@ use part_number::{PartNumber, Reference};
 pub const MESSAGE_OCTETS: usize = 4080;
 
 // What accepting a part answers: its reference, total and number, and the numbers of its message that are still missing.
-// Its default is the blank answer.
-#[derive(Clone, Copy, Debug, Default)]
+#[derive(Clone, Copy, Debug)]
 pub struct PartAccepted {
     pub part: PartNumber,
     pub missing: Held<8>,
+}
+
+// The blank answer. By hand: an edit plants a wrong body.
+impl Default for PartAccepted {
+    ghost is_default = { λ a. a ≡ blank };
+
+    #[tactic(auto, using(part_number::proofs::Blank::default_unnumbered), unfolding(crate::specs::Calls::blank))]
+    fn default() -> Self {
+        PartAccepted {
+            part: PartNumber::default(),
+            missing: Held::default(),
+        }
+    }
 }
 
 // What taking a message answers: its coding scheme and the number of octets written; or that it is not open, or not whole.

@@ -1,4 +1,4 @@
--- The derived default of what reading gives is no address, and no octets read.
+-- The default of what reading gives is no address, and no octets read.
 -- Assumes nothing.
 use Rattle.std.specs.Prelude.{None}
 use mathlib.Core.Path.{◌≡◌}

@@ -1,7 +1,7 @@
 // Addresses of the relay layer (TS 24.011 §8.2.5). Each field read is taken apart with let-else, as document 01 has it.
 #![tactic(auto)]
 
-ghost use Rattle.std.specs.Prelude.{◌≡◌, ◌+◌, ◌/◌, ◌≤◌, length};
+ghost use Rattle.std.specs.Prelude.{◌≡◌, ◌+◌, ◌/◌, ◌≤◌, length, None};
 ghost use Rattle.octets.specs.Checks.{found, checked};
 ghost use Rattle.octets.specs.Lent.{Wrote, lend};
 ghost use Rattle.relay_address.specs.Relay.{relay_read, relay_octets, relay_checks, relay_making};
@@ -19,10 +19,22 @@ pub struct RelayAddress {
 }
 
 // What reading gives: the address, if there is one, and the number of octets read.
-#[derive(Clone, Copy, Debug, Default)]
+#[derive(Clone, Copy, Debug)]
 pub struct RelayAddressRead {
     pub address: Option<RelayAddress>,
     pub octets_read: usize,
+}
+
+// No address, and no octets read. By hand: an edit plants a wrong body.
+impl Default for RelayAddressRead {
+    ghost is_default = { λ r. (r.address ≡ None) × (r.octets_read ≡ 0) };
+
+    fn default() -> Self {
+        RelayAddressRead {
+            address: None,
+            octets_read: 0,
+        }
+    }
 }
 
 // Whether type, plan and digits can be written.

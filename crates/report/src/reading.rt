@@ -2,7 +2,7 @@
 ghost use Rattle.std.specs.Prelude.{◌≡◌, IfOk};
 ghost use Rattle.layout.specs.Layout.{read, read_from, answer, alone};
 ghost use Rattle.report.specs.Report.{layout_of};
-ghost use Rattle.report.specs.Internal.{after_cause, found_says, Inside};
+ghost use Rattle.report.specs.Internal.{nothing, after_cause, found_says, Inside};
 
 use octets::{Place, Refusal};
 use parameters::{ParameterOctets, RpOutcome};
@@ -12,9 +12,8 @@ const REPORT_UNUSED_BITS: u8 = 0xBC;
 // TP-FCS "Unspecified error cause" (TS 23.040 §9.2.3.22).
 const FAILURE_CAUSE_UNSPECIFIED: u8 = 0xFF;
 
-// The fields of one octet, and where the others start: the time if there is one, and so many octets of user data. The
-// default has those of the blank record, which holds RP-ACK whatever the entry point.
-#[derive(Clone, Copy, Debug, Default, PartialEq, Eq)]
+// The fields of one octet, and where the others start: the time if there is one, and so many octets of user data.
+#[derive(Clone, Copy, Debug, PartialEq, Eq)]
 pub struct ReportFields {
     pub rp_outcome: RpOutcome,
     pub udhi: bool,
@@ -24,6 +23,24 @@ pub struct ReportFields {
     pub parameters: ParameterOctets,
     pub data: usize,
     pub octets: usize,
+}
+
+// Those of the blank record, which holds RP-ACK whatever the entry point. By hand: an edit plants a wrong body.
+impl Default for ReportFields {
+    ghost is_default = { λ f. f ≡ nothing };
+
+    fn default() -> Self {
+        ReportFields {
+            rp_outcome: RpOutcome::RpAck,
+            udhi: false,
+            cause: None,
+            indicator: 0,
+            timestamp: None,
+            parameters: ParameterOctets::default(),
+            data: 0,
+            octets: 0,
+        }
+    }
 }
 
 // What follows first octet and cause.

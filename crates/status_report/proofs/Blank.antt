@@ -1,4 +1,4 @@
--- The derived default of the message is the blank record, and that of what reading gives is that with nothing replaced.
+-- The default of the message is the blank record, and that of what reading gives is that with nothing replaced.
 -- Assumes nothing.
 use mathlib.Core.Path.{◌≡◌}
 use Rattle.time.specs.Time.{time_digits}

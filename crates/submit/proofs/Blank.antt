@@ -1,4 +1,4 @@
--- The derived default of the message is the blank record, and that of what reading gives is that of no octets, with nothing replaced.
+-- The default of the message is the blank record, and that of what reading gives is that of no octets, with nothing replaced.
 -- Assumes nothing.
 use Prim.Native.Nat.{ℕ}
 use mathlib.Core.Path.{◌≡◌, sym, ◌∙◌}

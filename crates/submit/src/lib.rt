@@ -53,11 +53,24 @@ pub struct SmsSubmit {
 
 // What reading gives: the message, the number of octets read, and the number of escapes in its text that led to no character of the extension table.
 // No `MessageRead`, since the number of octets stands beside it.
-#[derive(Clone, Copy, Debug, Default)]
+#[derive(Clone, Copy, Debug)]
 pub struct SubmitRead {
     pub message: SmsSubmit,
     pub octets_read: usize,
     pub replaced_escapes: usize,
+}
+
+// The blank message of no octets, with nothing replaced. By hand: an edit plants a wrong body.
+impl Default for SubmitRead {
+    ghost is_default = { λ r. ⟦<SmsSubmit as Default>⟧.is_default r.message × ((r.octets_read ≡ 0) × (r.replaced_escapes ≡ 0)) };
+
+    fn default() -> Self {
+        SubmitRead {
+            message: SmsSubmit::default(),
+            octets_read: 0,
+            replaced_escapes: 0,
+        }
+    }
 }
 
 // Stores a header of h octets and the text after it.

@@ -6,13 +6,14 @@ ghost use Rattle.octets.specs.Lent.{lend};
 ghost use Rattle.time.specs.Time.{time_in};
 ghost use Rattle.layout.specs.Layout.{read, answer};
 ghost use Rattle.parameters.specs.declared.RpOutcome.TheVariants.{RpAck, RpError};
-ghost use Rattle.report.specs.Internal.{time_at};
-ghost use Rattle.submit_report.specs.SubmitReport.{layout_of, read_with, submit_reporting_within, submit_reporting, submit_reporting_to_standard};
+ghost use Rattle.report.specs.Internal.{time_at, fields_at, Inside};
+ghost use Rattle.submit_report.specs.SubmitReport.{submit_reported, blank, layout_of, read_with, submit_reporting_within, submit_reporting, submit_reporting_to_standard};
 
 use coding::UserData;
 use layout::{MTI_SUBMIT, MessageRead};
 use octets::Refusal;
 use parameters::{ParameterOctets, RpOutcome};
+use report::reading::ReportFields;
 use report::writing::ReportValues;
 use time::Time;
 
@@ -24,8 +25,7 @@ const RP_ERROR_USER_DATA_OCTETS: usize = 151;
 // TP-UDHI of a record is a number: 0 or 1.
 const MAX_UDHI: u8 = 1;
 
-// The default is the blank record, which holds RP-ACK whatever the entry point.
-#[derive(Clone, Copy, Debug, Default)]
+#[derive(Clone, Copy, Debug)]
 pub struct SmsSubmitReport {
     pub tp_udhi: u8,
     pub tp_failure_cause: Option<u8>,
@@ -36,6 +36,15 @@ pub struct SmsSubmitReport {
     pub tp_user_data_length: Option<u8>,
     pub tp_user_data: UserData,
     pub rp_outcome: RpOutcome,
+}
+
+// The blank record, which holds RP-ACK whatever the entry point. By hand: an edit plants a wrong body.
+impl Default for SmsSubmitReport {
+    ghost is_default = { λ r. r ≡ blank };
+
+    fn default() -> Self {
+        message(&[], ReportFields::default())
+    }
 }
 
 // What reading gives; the kind has no text, so no escapes were replaced: 0.
@@ -50,23 +59,31 @@ fn time_if(data: &[u8], place: Option<usize>) -> Time
     place.map_or(Time::default(), |at| time::time_at(data, at))
 }
 
+// The report of fields that are there.
+fn message(data: &[u8], f: ReportFields) -> SmsSubmitReport
+    requires { Inside «data».now f }
+    ensures { result ≡ submit_reported (fields_at «data».now f) }
+{
+    SmsSubmitReport {
+        tp_udhi: octets::flag(f.udhi, 1),
+        tp_failure_cause: f.cause,
+        tp_parameter_indicator: f.indicator,
+        tp_service_centre_timestamp: time_if(data, f.timestamp),
+        tp_pid: f.parameters.pid,
+        tp_dcs: f.parameters.dcs,
+        tp_user_data_length: f.parameters.udl,
+        tp_user_data: octets::hold(&data[f.data..f.data + f.octets]),
+        rp_outcome: f.rp_outcome,
+    }
+}
+
 // The report that a string is, read as one of this outcome.
 fn decode(data: &[u8], rp_outcome: RpOutcome) -> Result<SubmitReportRead, Refusal>
     ensures { result ≡ answer (read_with «data».now) (read (layout_of rp_outcome) «data».now) }
 {
     let f = report::reading::fields_of(data, MTI_SUBMIT, true, rp_outcome)?;
     Ok(MessageRead {
-        message: SmsSubmitReport {
-            tp_udhi: octets::flag(f.udhi, 1),
-            tp_failure_cause: f.cause,
-            tp_parameter_indicator: f.indicator,
-            tp_service_centre_timestamp: time_if(data, f.timestamp),
-            tp_pid: f.parameters.pid,
-            tp_dcs: f.parameters.dcs,
-            tp_user_data_length: f.parameters.udl,
-            tp_user_data: octets::hold(&data[f.data..f.data + f.octets]),
-            rp_outcome: f.rp_outcome,
-        },
+        message: message(data, f),
         replaced_escapes: 0,
     })
 }

@@ -1,7 +1,7 @@
 // Text after a user data header, in 7-bit coding (TS 23.040 §9.2.3.24).
 #![tactic(auto)]
 
-ghost use Rattle.std.specs.Prelude.{◌≡◌, ◌≤◌, ◌<◌, ◌↔◌, IsSome, IfSome, length, get_or, take, drop};
+ghost use Rattle.std.specs.Prelude.{◌≡◌, ◌≤◌, ◌<◌, ◌↔◌, IsSome, IfSome, [], length, get_or, take, drop};
 ghost use Rattle.octets.specs.Lent.{lend};
 ghost use Rattle.septets.specs.Septets.{septets_in};
 ghost use Rattle.gsm7.specs.Reading.{text_of, replaced_in};
@@ -12,11 +12,25 @@ use gsm7::packing::Packed;
 use octets::{Held, Refusal};
 
 // A header, its length octet included, and the text after it, with the number of escapes in it that led to no character of the extension table.
-#[derive(Clone, Copy, Debug, Default)]
+#[derive(Clone, Copy, Debug)]
 pub struct UnpackedWithHeader {
     pub header: Held<255>,
     pub text: Held<510>,
     pub replaced_escapes: usize,
+}
+
+// No header and no text. By hand: an edit plants a wrong body.
+impl Default for UnpackedWithHeader {
+    ghost is_default = { λ u. u ≡ header_given [] [] 0 };
+
+    #[tactic(auto, unfolding(crate::specs::Header::header_given, octets::specs::Held::holding))]
+    fn default() -> Self {
+        UnpackedWithHeader {
+            header: Held::default(),
+            text: Held::default(),
+            replaced_escapes: 0,
+        }
+    }
 }
 
 // The octets of a header: its first octet counts those that follow. (Empty data give 1, which is more than they have.)

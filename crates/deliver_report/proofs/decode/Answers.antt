@@ -1,9 +1,6 @@
 -- `deliver_report::decode` meets its contract: the record of the fields that were found.
 use Rattle.std.proofs.lemmas.Result.{err_from_is_err_and}
-use Prim.Native.Nat.{◌+◌, ◌-◌}
-use mathlib.Core.Path.{◌≡◌}
 use mathlib.Core.Bool.{false}
-use native.Mathlib.Omega.{arith}
 use Rattle.gsm7.specs.Reading.{replaced_in_all}
 use Rattle.report.proofs.FieldByField.{record_found, record_refused}
 use Rattle.deliver_report.specs.DeliverReport.{deliver_reported, read_with}
@@ -15,8 +12,6 @@ returns-in_err-f c =
     rw (p.1, p.2) (record_refused deliver_reported (λ r. read_with c.args.«data».now r 0) 0 false c.args.rp_outcome c.args.«data».now c.in_err-f.ensures.0)
 
 pub returns : goal.returns
-unfolding deliver_reported replaced_in_all
+unfolding replaced_in_all
 returns c =
-    let f = c.in_ok-f.f in
-    let n : f.«data» + f.octets - f.«data» ≡ f.octets = omega arith in
-    rw (c.hold.ensures, n) (record_found deliver_reported (λ r. read_with c.args.«data».now r 0) 0 false c.args.rp_outcome c.args.«data».now c.in_ok-f.ensures.0)
+    rw c.message.ensures (record_found deliver_reported (λ r. read_with c.args.«data».now r 0) 0 false c.args.rp_outcome c.args.«data».now c.in_ok-f.ensures.0)

@@ -1,9 +1,6 @@
 -- `submit_report::decode` meets its contract: the record of the fields that were found.
 use Rattle.std.proofs.lemmas.Result.{err_from_is_err_and}
-use Prim.Native.Nat.{◌+◌, ◌-◌}
-use mathlib.Core.Path.{◌≡◌}
 use mathlib.Core.Bool.{true}
-use native.Mathlib.Omega.{arith}
 use Rattle.gsm7.specs.Reading.{replaced_in_all}
 use Rattle.report.proofs.FieldByField.{record_found, record_refused}
 use Rattle.submit_report.specs.SubmitReport.{submit_reported, read_with}
@@ -15,8 +12,6 @@ returns-in_err-f c =
     rw (p.1, p.2) (record_refused submit_reported (λ r. read_with c.args.«data».now r 0) 1 true c.args.rp_outcome c.args.«data».now c.in_err-f.ensures.0)
 
 pub returns : goal.returns
-unfolding submit_reported replaced_in_all
+unfolding replaced_in_all
 returns c =
-    let f = c.in_ok-f.f in
-    let n : f.«data» + f.octets - f.«data» ≡ f.octets = omega arith in
-    rw (c.flag.ensures.0, c.time_if.ensures, c.hold.ensures, n) (record_found submit_reported (λ r. read_with c.args.«data».now r 0) 1 true c.args.rp_outcome c.args.«data».now c.in_ok-f.ensures.0)
+    rw c.message.ensures (record_found submit_reported (λ r. read_with c.args.«data».now r 0) 1 true c.args.rp_outcome c.args.«data».now c.in_ok-f.ensures.0)
