@@ -5,6 +5,7 @@ use Prim.Native.Nat.{ℕ, ◌+◌, ◌<◌, ◌≤◌}
 use mathlib.Core.Path.{◌≡◌, ◌∙◌}
 use mathlib.Core.Bool.{true, false}
 use mathlib.Core.List.{List, [], ◌∷◌, ◌++◌, append_assoc, map}
+use mathlib.Core.Logic.{◌↔◌}
 use native.Mathlib.Numerals.{add-one}
 use native.Mathlib.Omega.{arith}
 use borrow.Author.Tests.{leb-true}
@@ -20,7 +21,8 @@ use Rattle.octets.specs.declared.Refusal.TheVariants.{LengthTooLarge, NotATime, 
 use Rattle.octets.specs.Held.{filled}
 use Rattle.octets.specs.Lent.{Wrote}
 use Rattle.octets.proofs.Checks.{passed, against, holds, both_hold, all_fit_lem}
-use Rattle.octets.proofs.Choice.{and_true}
+use Rattle.octets.proofs.Choice.{and_true, and_means, leb_means, within_means}
+use Rattle.octets.proofs.Each.{each_means}
 use Rattle.time.specs.Time.{is_hex, is_time, in_hex}
 use Rattle.time.proofs.Laws.{time_means}
 use Rattle.address.specs.Address.{text_held}
@@ -93,6 +95,13 @@ module _ (r : SmsStatusReport) where
       → recipient ≡ recipient_of → discharge ≡ discharge_of → Wrote at (ended (report_line r ∷ [])) before next after
   unfolding report_line
   line_wrote w is_r is_d = rw (← is_r, ← is_d) w
+
+-- a recipient that is shown, in plain terms
+pub printable_means : (text : List ℕ) → (printable text ≡ true) ↔ ((length text ≤ 20) × ((i : ℕ) → i < length text → (0x20 ≤ get_or text i 0) × (get_or text i 0 ≤ 0x7e)))
+unfolding printable
+printable_means text =
+    let all = each_means (within 0x20 0x7e) text in
+    and_means _ _ (leb_means (length text) 20) (λ e i h. (within_means 0x20 0x7e (get_or text i 0)).0 (all.0 e i h), λ f. all.1 (λ i h. (within_means 0x20 0x7e (get_or text i 0)).1 (f i h)))
 
 -- ---- of records
 

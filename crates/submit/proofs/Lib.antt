@@ -5,3 +5,4 @@ pub mod RecordRead
 pub mod Known
 pub mod Demand
 pub mod Blank
+pub mod RecordWritten
